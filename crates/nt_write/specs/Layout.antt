@@ -1,0 +1,249 @@
+-- How entries are laid out in blocks: what a writer chooses where the format leaves a choice (this project's profile).
+use Rattle.std.specs.Prelude.{ℕ, ◌+◌, ◌-◌, ◌%◌, ◌^◌, Bool, true, false, ◌&&◌, ◌||◌, not, List, [], ◌∷◌, ◌++◌, length, map, drop, replicate, min, max, fold, nat_eq, nat_lt, ◌==◌, Option, if◌then◌else◌, unwrap_or}
+use Rattle.std.specs.Int.{w16, w32, w64}
+use Rattle.std.specs.Option.{option_map_or}
+use Rattle.std.specs.Bool.{then_some}
+use Rattle.std.specs.List.{concat, position_from}
+use Rattle.ep_defs.specs.declared.event.EventDef.{EventDef}
+use Rattle.ep_defs.specs.Event.{is_same_text, is_same_event}
+use Rattle.nt_write.specs.declared.object.BlockKind.{BlockKind}
+use Rattle.nt_write.specs.declared.object.BlockKind.TheVariants as block
+use Rattle.nt_write.specs.declared.head.HeadState.{HeadState}
+use Rattle.nt_write.specs.Numbers.{fixed, short_var}
+use Rattle.nt_write.specs.Object.{Block, padding_begins, to_multiple_of_4}
+use Rattle.nt_write.specs.Stream.{start_len, blocks_bytes}
+use Rattle.nt_write.specs.Head.{HeadFields, Sequence, flag_byte, zero_state}
+use Rattle.nt_write.specs.Meta.{meta_payload}
+use Rattle.nt_write.specs.Bodies.{stack_body, point_body}
+use Rattle.nt_write.specs.Ordered.{EventEntry, PointEntry, Entry, Event, Point}
+use Rattle.nt_write.specs.Gaps.{distance}
+
+-- ---- headers
+
+-- A field is there where its value is new.
+abbrev pub if_new : {A : Type 0} → (A → A → Bool) → A → A → Option A
+if_new same before now = then_some (not (same before now)) now
+
+-- A number that is not the next one, another capture thread or another processor needs its flag.
+abbrev pub has_sequence : HeadState → HeadState → Bool
+has_sequence before now =
+    (not (now.metadata == 0) && not (now.number == (before.number + 1) % 2 ^ 32))
+    || not (now.capture == before.capture)
+    || not (now.processor == before.processor)
+
+abbrev pub sequence_of : HeadState → HeadState → Sequence
+sequence_of before now =
+    record { increment = distance (before.number + 1) now.number; capture = now.capture; processor = now.processor }
+
+-- The fewest fields that say this after that.
+abbrev pub fewest_fields : HeadState → HeadState → HeadFields
+fewest_fields before now =
+    record {
+      metadata = if_new nat_eq before.metadata now.metadata;
+      sequence = then_some (has_sequence before now) (sequence_of before now);
+      thread = if_new nat_eq before.thread now.thread;
+      stack = if_new nat_eq before.stack now.stack;
+      stamp_increment = (now.stamp + 2 ^ 64 - before.stamp) % 2 ^ 64;
+      activity = if_new is_same_text before.activity now.activity;
+      related = if_new is_same_text before.related now.related;
+      sorted = now.sorted;
+      size = if_new nat_eq before.size now.size;
+    }
+
+abbrev pub if_there : {A : Type 0} → (A → List ℕ) → Option A → List ℕ
+if_there bytes_of field = option_map_or bytes_of field []
+
+abbrev pub sequence_bytes : Sequence → List ℕ
+sequence_bytes s = concat (short_var w32 s.increment ∷ short_var w64 s.capture ∷ short_var w32 s.processor ∷ [])
+
+-- The fields with each number in its shortest form.
+abbrev pub fields_bytes : HeadFields → List ℕ
+fields_bytes fields =
+    concat
+    ((flag_byte fields ∷ [])
+    ∷ if_there (short_var w32) fields.metadata
+    ∷ if_there sequence_bytes fields.sequence
+    ∷ if_there (short_var w64) fields.thread
+    ∷ if_there (short_var w32) fields.stack
+    ∷ short_var w64 fields.stamp_increment
+    ∷ if_there (λ id. id) fields.activity
+    ∷ if_there (λ id. id) fields.related
+    ∷ if_there (short_var w32) fields.size
+    ∷ [])
+
+abbrev pub head_bytes : HeadState → HeadState → List ℕ
+head_bytes before now = fields_bytes (fewest_fields before now)
+
+-- ---- bodies
+
+-- A blob before it has bytes: what its header is to say, and its payload.
+pub record Draft : Type 0 where
+  pub state : HeadState
+  pub payload : List ℕ
+
+abbrev pub drafts_bytes : HeadState → List Draft → List ℕ
+drafts_bytes before [] = []
+drafts_bytes before (draft ∷ drafts) = head_bytes before draft.state ++ draft.payload ++ drafts_bytes draft.state drafts
+
+abbrev pub stamps : List Draft → List ℕ
+stamps drafts = map (λ d. d.state.stamp) drafts
+
+-- The least and the greatest of the numbers, or 0 where there are none.
+abbrev pub least : List ℕ → ℕ
+least [] = 0
+least (n ∷ ns) = fold min n ns
+
+abbrev pub greatest : List ℕ → ℕ
+greatest [] = 0
+greatest (n ∷ ns) = fold max n ns
+
+-- A header of 20 bytes that says how its blobs are compressed, and the blobs.
+abbrev pub blob_body : List Draft → List ℕ
+blob_body drafts =
+    concat
+    (fixed w16 20 ∷ fixed w16 1 ∷ fixed w64 (least (stamps drafts)) ∷ fixed w64 (greatest (stamps drafts)) ∷ drafts_bytes zero_state drafts ∷ [])
+
+-- In a metadata blob's header all is 0 but the size, and it counts as sorted.
+abbrev pub meta_draft : ℕ → EventDef → Draft
+meta_draft id def =
+    let payload = meta_payload id def in
+    record { state = record zero_state { sorted = true; size = length payload }; payload = payload }
+
+-- The definitions under the ids from this one on.
+abbrev pub meta_drafts : ℕ → List EventDef → List Draft
+meta_drafts id [] = []
+meta_drafts id (def ∷ defs) = meta_draft id def ∷ meta_drafts (id + 1) defs
+
+-- ---- layout
+
+-- Where the entries so far have come to. Definitions and stacks have the ids 1, 2, 3, .. in their order.
+pub record Layout : Type 0 where
+  -- the blocks that are flushed
+  pub blocks : List Block
+  -- the definitions of the stream, and how many of them are flushed
+  pub definitions : List EventDef
+  pub definitions_flushed : ℕ
+  -- the stacks since the last point, and how many of them are flushed
+  pub stacks : List (List ℕ)
+  pub stacks_flushed : ℕ
+  -- the events that are not flushed
+  pub events : List Draft
+
+abbrev pub empty_layout : Layout
+empty_layout =
+    record { blocks = []; definitions = []; definitions_flushed = 0; stacks = []; stacks_flushed = 0; events = [] }
+
+-- The id of a member of the list, and 0 of what is no member.
+abbrev pub id_in : {A : Type 0} → (A → A → Bool) → A → List A → ℕ
+id_in same x xs = unwrap_or (position_from (λ y. same x y) 1 xs) 0
+
+-- The list with this member at its end, unless it is there.
+abbrev pub with_member : {A : Type 0} → (A → A → Bool) → List A → A → List A
+with_member same xs x = if id_in same x xs == 0 then xs ++ x ∷ [] else xs
+
+-- The stacks with this one. The empty stack is not kept, and has the id 0.
+abbrev pub with_stack : List (List ℕ) → List ℕ → List (List ℕ)
+with_stack stacks [] = stacks
+with_stack stacks (b ∷ bytes) = with_member is_same_text stacks (b ∷ bytes)
+
+abbrev pub stack_id : List (List ℕ) → List ℕ → ℕ
+stack_id stacks [] = 0
+stack_id stacks (b ∷ bytes) = id_in is_same_text (b ∷ bytes) stacks
+
+-- The definitions that are not flushed, as blobs.
+abbrev pub new_metas : Layout → List Draft
+new_metas layout = meta_drafts (layout.definitions_flushed + 1) (drop layout.definitions_flushed layout.definitions)
+
+abbrev pub new_stacks : Layout → List (List ℕ)
+new_stacks layout = drop layout.stacks_flushed layout.stacks
+
+-- The body that the new stacks make.
+abbrev pub new_stack_body : Layout → List ℕ
+new_stack_body layout = stack_body (layout.stacks_flushed + 1) (new_stacks layout)
+
+-- The blocks with one more at their end, padded by zeros.
+abbrev pub with_block : BlockKind → List ℕ → List Block → List Block
+with_block kind body blocks =
+    let at = start_len + length (blocks_bytes blocks) in
+    let padding = replicate (to_multiple_of_4 (padding_begins at kind)) 0 in
+    blocks ++ record { kind = kind; padding = padding; body = body } ∷ []
+
+-- The same, where the list that the body is made of holds something.
+abbrev pub with_block_of : {A : Type 0} → BlockKind → List A → List ℕ → List Block → List Block
+with_block_of kind [] body blocks = blocks
+with_block_of kind (x ∷ xs) body blocks = with_block kind body blocks
+
+-- A flush writes the new definitions, the new stacks, and then the events. All names stay known.
+abbrev pub flushed : Layout → Layout
+flushed layout =
+    record layout {
+      blocks =
+          with_block_of block.Event layout.events (blob_body layout.events)
+          (with_block_of block.Stack (new_stacks layout) (new_stack_body layout)
+          (with_block_of block.Metadata (new_metas layout) (blob_body (new_metas layout)) layout.blocks));
+      definitions_flushed = length layout.definitions;
+      stacks_flushed = length layout.stacks;
+      events = [];
+    }
+
+-- A body would pass 102,400 bytes by so many more.
+abbrev pub passes : List ℕ → ℕ → Bool
+passes body more = nat_lt 102400 (length body + more)
+
+-- A new blob counts as 88 bytes and its payload, a new stack as 4 bytes and its own.
+abbrev pub needs_flush : Layout → EventEntry → Bool
+needs_flush layout event =
+    let id = id_in is_same_event event.def layout.definitions in
+    let next = length layout.definitions + 1 in
+    let is_new_stack = nat_lt (length layout.stacks) (length (with_stack layout.stacks event.stack)) in
+    passes (blob_body layout.events) (88 + length event.payload)
+    || ((id == 0) && passes (blob_body (new_metas layout)) (88 + length (meta_payload next event.def)))
+    || (is_new_stack && passes (new_stack_body layout) (4 + length event.stack))
+
+-- What the header of an event's blob says: one thread wrote it, on processor 0.
+abbrev pub event_draft : ℕ → ℕ → EventEntry → Draft
+event_draft metadata stack event =
+    record {
+      state =
+          record {
+            metadata = metadata;
+            number = event.number;
+            capture = event.thread;
+            processor = 0;
+            thread = event.thread;
+            stack = stack;
+            stamp = event.stamp;
+            activity = event.activity;
+            related = event.related;
+            sorted = false;
+            size = length event.payload;
+          };
+      payload = event.payload;
+    }
+
+-- The layout with an event that the bodies have room for.
+abbrev pub with_event : Layout → EventEntry → Layout
+with_event layout event =
+    let definitions = with_member is_same_event layout.definitions event.def in
+    let stacks = with_stack layout.stacks event.stack in
+    let draft = event_draft (id_in is_same_event event.def definitions) (stack_id stacks event.stack) event in
+    record layout { definitions = definitions; stacks = stacks; events = layout.events ++ draft ∷ [] }
+
+-- A point flushes, and forgets the stacks.
+abbrev pub with_point : Layout → PointEntry → Layout
+with_point layout point =
+    let before = flushed layout in
+    record before {
+      blocks = with_block block.Point (point_body point.stamp point.threads) before.blocks;
+      stacks = [];
+      stacks_flushed = 0;
+    }
+
+-- One entry more.
+abbrev pub with_entry : Layout → Entry → Layout
+with_entry layout (Event event) = with_event (if needs_flush layout event then flushed layout else layout) event
+with_entry layout (Point point) = with_point layout point
+
+abbrev pub with_entries : Layout → List Entry → Layout
+with_entries layout [] = layout
+with_entries layout (entry ∷ entries) = with_entries (with_entry layout entry) entries

@@ -1,0 +1,14 @@
+pub mod Bodies
+pub mod Canonical
+pub mod Gaps
+pub mod Head
+pub mod Layout
+pub mod Meta
+pub mod Numbers
+pub mod Object
+pub mod Ordered
+pub mod Pieces
+pub mod Steps
+pub mod Stream
+pub mod Trace
+pub mod Writable

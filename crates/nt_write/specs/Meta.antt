@@ -1,0 +1,68 @@
+-- The payload of a metadata blob, which defines an event (NetTrace, version 4).
+use Rattle.std.specs.Prelude.{◌≡◌, ℕ, zero, suc, ◌+◌, ◌^◌, ◌<◌, Bool, ◌&&◌, List, [], ◌∷◌, ◌++◌, length, drop, take_while, count_by, nat_lt, nat_le, ◌==◌, if◌then◌else◌, IsTrue}
+use Rattle.std.specs.List.{list_all}
+use Rattle.std.specs.Int.{w32, w64}
+use Rattle.ep_defs.specs.declared.event.FieldDef.{FieldDef}
+use Rattle.ep_defs.specs.declared.event.EventDef.{EventDef}
+use Rattle.ep_defs.specs.Event.{is_type_code, are_nested}
+use Rattle.nt_write.specs.Numbers.{fixed, text_z, are_units}
+
+-- The fields inside this one: those after it, up to the next whose depth is not greater.
+abbrev pub inside : FieldDef → List FieldDef → List FieldDef
+inside field fields = take_while (λ f. nat_lt field.depth f.depth) fields
+
+abbrev pub after : FieldDef → List FieldDef → List FieldDef
+after field fields = drop (length (inside field fields)) fields
+
+-- How many fields stand directly inside this one.
+abbrev pub inside_count : FieldDef → List FieldDef → ℕ
+inside_count field fields = count_by (λ f. f.depth == field.depth + 1) (inside field fields)
+
+-- Each field: its type code, for an object the count and the fields inside it, and then its name.
+-- The first number bounds how many fields there are.
+abbrev pub fields_bytes : ℕ → List FieldDef → List ℕ
+fields_bytes zero fields = []
+fields_bytes (suc more) [] = []
+fields_bytes (suc more) (field ∷ fields) =
+    fixed w32 field.code
+    ++ (if field.code == 1 then fixed w32 (inside_count field fields) ++ fields_bytes more (inside field fields) else [])
+    ++ text_z field.name
+    ++ fields_bytes more (after field fields)
+
+abbrev pub outermost_count : List FieldDef → ℕ
+outermost_count fields = count_by (λ f. f.depth == 0) fields
+
+abbrev pub meta_payload : ℕ → EventDef → List ℕ
+meta_payload id def =
+    fixed w32 id
+    ++ text_z def.provider
+    ++ fixed w32 def.id
+    ++ text_z def.name
+    ++ fixed w64 def.keywords
+    ++ fixed w32 def.version
+    ++ fixed w32 def.level
+    ++ fixed w32 (outermost_count def.fields)
+    ++ fields_bytes (length def.fields) def.fields
+
+-- What a reader accepts of a field; fields may be 32 deep (this project's profile).
+abbrev pub is_readable_field : FieldDef → Bool
+is_readable_field field = is_type_code field.code && are_units field.name && nat_le field.depth 32
+
+-- The definition's parts fit the places that the payload has for them.
+pub record FitsPayload (def : EventDef) : Type 0 where
+  pub id : def.id < 2 ^ 32
+  pub version : def.version < 2 ^ 32
+  pub level : def.level < 2 ^ 32
+  pub keywords : def.keywords < 2 ^ 64
+  pub provider : IsTrue (are_units def.provider)
+  pub name : IsTrue (are_units def.name)
+  pub count : length def.fields < 2 ^ 32
+  pub fields : IsTrue (list_all is_readable_field def.fields && are_nested 0 def.fields)
+
+-- The bytes define an event under this id. Bytes after the fields are passed over (this project's profile).
+pub record IsMeta (id : ℕ) (def : EventDef) (bytes : List ℕ) : Type 0 where
+  pub more : List ℕ
+  pub spelled : bytes ≡ meta_payload id def ++ more
+  pub not_zero : 0 < id
+  pub id_fits : id < 2 ^ 31
+  pub def_fits : FitsPayload def
