@@ -17,7 +17,6 @@ is_valid_config config =
 abbrev pub fits : Write → Bool
 fits write = nat_le (length write.frames) 100 && nat_le (length write.payload) 60000
 
-
 -- The numbers fit their types: eight of 16 bits, two of 64, and four of 32.
 abbrev pub is_info : TraceInfo → Bool
 is_info info =

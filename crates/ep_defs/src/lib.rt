@@ -17,5 +17,5 @@ pub use item::{Item, ItemKind, ThreadNumbers};
 pub use list::{Bytes, Duplicate, Frames, Items, Units};
 pub use session::{Config, MarkList, Marks, Rule, RuleList, TraceInfo, Write, standard_info};
 
-
-
+#[cfg(test)]
+mod tests;
