@@ -6,8 +6,15 @@
 //! Its one contract: what a call read or took, and a count of faults that rises with each failure.
 #![tactic(auto)]
 
+mod calls;
+mod mem_sink;
+mod mem_source;
 mod sink;
 mod source;
+#[cfg(test)]
+mod tests;
 
+pub use mem_sink::MemSink;
+pub use mem_source::MemSource;
 pub use sink::Sink;
 pub use source::{Failed, Source};
