@@ -1,4 +1,4 @@
--- The bodies of blocks and the items that they hold (NetTrace, version 4).
+-- The bodies of blocks and the items that they hold (the NetTrace format document of PerfView (version 4)).
 use Rattle.std.specs.Prelude.{◌≡◌, ℕ, ◌+◌, ◌%◌, ◌^◌, ◌<◌, List, [], ◌∷◌, ◌++◌, length}
 use Rattle.std.specs.List.{concat, flat_map, AllByRecursion}
 use Rattle.std.specs.Int.{w16, w32, w64}

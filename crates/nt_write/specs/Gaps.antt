@@ -1,4 +1,4 @@
--- How many of a thread's events are missing, as the numbers in a stream tell it.
+-- How many of a thread's events are missing, as the numbers in a stream tell it (the NetTrace format document of PerfView (version 4), on sequence numbers).
 use Rattle.std.specs.Prelude.{ℕ, ◌+◌, ◌-◌, ◌%◌, ◌^◌, List, [], ◌∷◌, filter, map, ◌==◌, if◌then◌else◌}
 use Rattle.std.specs.List.{flat_map}
 use Rattle.nt_write.specs.Ordered.{Entry, Event, Point}

@@ -1,4 +1,4 @@
--- The compressed header of a blob (NetTrace, version 4).
+-- The compressed header of a blob (the NetTrace format document of PerfView (version 4), "compressed header").
 use Rattle.std.specs.Prelude.{◌≡◌, ℕ, ◌+◌, ◌%◌, ◌^◌, Bool, false, List, [], ◌∷◌, length, replicate, Option, is_some, unwrap_or, ◌==◌, if◌then◌else◌}
 use Rattle.std.specs.Int.{w32, w64}
 use Rattle.std.specs.Option.{option_map_or}

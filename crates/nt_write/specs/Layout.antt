@@ -161,12 +161,14 @@ new_stacks layout = drop layout.stacks_flushed layout.stacks
 abbrev pub new_stack_body : Layout → List ℕ
 new_stack_body layout = stack_body (layout.stacks_flushed + 1) (new_stacks layout)
 
--- The blocks with one more at their end, padded by zeros.
+-- A block that is to stand at this offset, padded by zeros.
+abbrev pub padded : ℕ → BlockKind → List ℕ → Block
+padded at kind body =
+    record { kind = kind; padding = replicate (to_multiple_of_4 (padding_begins at kind)) 0; body = body }
+
+-- The blocks with one more at their end.
 abbrev pub with_block : BlockKind → List ℕ → List Block → List Block
-with_block kind body blocks =
-    let at = start_len + length (blocks_bytes blocks) in
-    let padding = replicate (to_multiple_of_4 (padding_begins at kind)) 0 in
-    blocks ++ record { kind = kind; padding = padding; body = body } ∷ []
+with_block kind body blocks = blocks ++ padded (start_len + length (blocks_bytes blocks)) kind body ∷ []
 
 -- The same, where the list that the body is made of holds something.
 abbrev pub with_block_of : {A : Type 0} → BlockKind → List A → List ℕ → List Block → List Block

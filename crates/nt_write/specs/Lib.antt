@@ -2,7 +2,9 @@ pub mod Bodies
 pub mod Canonical
 pub mod Gaps
 pub mod Head
+pub mod Kept
 pub mod Layout
+pub mod Making
 pub mod Meta
 pub mod Numbers
 pub mod Object
@@ -11,4 +13,7 @@ pub mod Pieces
 pub mod Steps
 pub mod Stream
 pub mod Trace
+pub mod Vectors
 pub mod Writable
+pub mod Writer
+pub mod Writing

@@ -1,6 +1,6 @@
--- The payload of a metadata blob, which defines an event (NetTrace, version 4).
+-- The payload of a metadata blob, which defines an event (the NetTrace format document of PerfView (version 4), "MetadataBlock").
 use Rattle.std.specs.Prelude.{◌≡◌, ℕ, zero, suc, ◌+◌, ◌^◌, ◌<◌, Bool, ◌&&◌, List, [], ◌∷◌, ◌++◌, length, drop, take_while, count_by, nat_lt, nat_le, ◌==◌, if◌then◌else◌, IsTrue}
-use Rattle.std.specs.List.{list_all}
+use Rattle.std.specs.List.{list_all, AllByRecursion}
 use Rattle.std.specs.Int.{w32, w64}
 use Rattle.ep_defs.specs.declared.event.FieldDef.{FieldDef}
 use Rattle.ep_defs.specs.declared.event.EventDef.{EventDef}
@@ -14,7 +14,7 @@ inside field fields = take_while (λ f. nat_lt field.depth f.depth) fields
 abbrev pub after : FieldDef → List FieldDef → List FieldDef
 after field fields = drop (length (inside field fields)) fields
 
--- How many fields stand directly inside this one.
+-- How many fields stand directly inside this one, which the payload says in 32 bits.
 abbrev pub inside_count : FieldDef → List FieldDef → ℕ
 inside_count field fields = count_by (λ f. f.depth == field.depth + 1) (inside field fields)
 
@@ -28,6 +28,13 @@ fields_bytes (suc more) (field ∷ fields) =
     ++ (if field.code == 1 then fixed w32 (inside_count field fields) ++ fields_bytes more (inside field fields) else [])
     ++ text_z field.name
     ++ fields_bytes more (after field fields)
+
+-- What a field has of these fields inside it, of which there are no more than their number.
+abbrev pub inside_bytes : FieldDef → List FieldDef → List ℕ
+inside_bytes field fields =
+    if field.code == 1
+    then fixed w32 (count_by (λ f. f.depth == field.depth + 1) fields) ++ fields_bytes (length fields) fields
+    else []
 
 abbrev pub outermost_count : List FieldDef → ℕ
 outermost_count fields = count_by (λ f. f.depth == 0) fields
@@ -44,6 +51,11 @@ meta_payload id def =
     ++ fixed w32 (outermost_count def.fields)
     ++ fields_bytes (length def.fields) def.fields
 
+-- How many fields stand directly inside each field, which is none but for an object.
+abbrev pub inside_counts : List FieldDef → List ℕ
+inside_counts [] = []
+inside_counts (field ∷ fields) = inside_count field fields ∷ inside_counts fields
+
 -- What a reader accepts of a field; fields may be 32 deep (this project's profile).
 abbrev pub is_readable_field : FieldDef → Bool
 is_readable_field field = is_type_code field.code && are_units field.name && nat_le field.depth 32
@@ -56,7 +68,7 @@ pub record FitsPayload (def : EventDef) : Type 0 where
   pub keywords : def.keywords < 2 ^ 64
   pub provider : IsTrue (are_units def.provider)
   pub name : IsTrue (are_units def.name)
-  pub count : length def.fields < 2 ^ 32
+  pub counts : AllByRecursion (λ count. count < 2 ^ 32) (outermost_count def.fields ∷ inside_counts def.fields)
   pub fields : IsTrue (list_all is_readable_field def.fields && are_nested 0 def.fields)
 
 -- The bytes define an event under this id. Bytes after the fields are passed over (this project's profile).

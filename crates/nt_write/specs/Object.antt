@@ -1,4 +1,4 @@
--- Objects of a stream (NetTrace, "FastSerialization" objects).
+-- Objects of a stream (the NetTrace format document of PerfView (version 4), the objects of "FastSerialization").
 use Rattle.std.specs.Prelude.{◌≡◌, ℕ, ◌+◌, ◌-◌, ◌%◌, ◌^◌, ◌<◌, List, [], ◌∷◌, ◌++◌, length, codes}
 use Rattle.std.specs.List.{flat_map}
 use Rattle.std.specs.Int.{w16, w32, w64}
@@ -17,6 +17,11 @@ object version name payload =
     ++ name
     ++ 6 ∷ payload
     ++ 6 ∷ []
+
+-- What an object has before its payload.
+abbrev pub begun_object : ℕ → List ℕ → List ℕ
+begun_object version name =
+    5 ∷ 5 ∷ 1 ∷ [] ++ fixed w32 version ++ fixed w32 version ++ fixed w32 (length name) ++ name ++ 6 ∷ []
 
 abbrev pub trace_payload : TraceInfo → List ℕ
 trace_payload info =

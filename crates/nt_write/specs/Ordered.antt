@@ -1,4 +1,5 @@
--- Items in an order in which each name is defined before its use, and the entries that they tell.
+-- Items in an order in which each name is defined before its use, and the entries that they tell (the NetTrace format document of PerfView (version 4):
+-- metadata ids hold for the stream, stack ids up to the next point).
 use Rattle.std.specs.Prelude.{◌≡◌, ℕ, zero, suc, List, [], ◌∷◌, ◌++◌, map, Option, Some, None, Result, Ok, Err, ◌==◌, if◌then◌else◌, IsOk}
 use Rattle.ep_defs.specs.declared.event.EventDef.{EventDef}
 use Rattle.ep_defs.specs.declared.item.Item.{Item}

@@ -1,4 +1,4 @@
--- A stream as a whole (NetTrace).
+-- A stream as a whole (the NetTrace format document of PerfView (version 4)).
 use Rattle.std.specs.Prelude.{◌≡◌, ℕ, ◌+◌, List, [], ◌∷◌, ◌++◌, length, codes, IsTrue}
 use Rattle.std.specs.List.{flat_map}
 use Rattle.std.specs.Int.{w32}

@@ -1,4 +1,4 @@
--- The items of a whole stream.
+-- The items of a whole stream (the NetTrace format document of PerfView (version 4)).
 use Rattle.std.specs.Prelude.{◌≡◌, ℕ, ◌+◌, ◌≤◌, List, [], ◌∷◌, ◌++◌, length}
 use Rattle.std.specs.List.{AllByRecursion}
 use Rattle.ep_defs.specs.declared.session.TraceInfo.{TraceInfo}

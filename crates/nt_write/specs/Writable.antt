@@ -1,9 +1,10 @@
--- Which entries can be written.
-use Rattle.std.specs.Prelude.{◌≡◌, ℕ, ◌^◌, ◌<◌, ◌≤◌, length}
+-- Which entries can be written: the format's ranges (the NetTrace format document of PerfView (version 4)), and the bounds of this project's profile.
+use Rattle.std.specs.Prelude.{◌≡◌, ℕ, ◌^◌, ◌<◌, ◌≤◌, List, [], ◌∷◌, length}
 use Rattle.std.specs.List.{AllByRecursion}
 use Rattle.ep_defs.specs.declared.event.EventDef.{EventDef}
 use Rattle.nt_write.specs.Meta.{meta_payload, FitsPayload}
 use Rattle.nt_write.specs.Ordered.{Entry, Event, Point, EventEntry, PointEntry}
+use Rattle.nt_write.specs.Layout.{Layout, with_entry}
 
 -- A definition whose payload fits a body.
 pub record CanDefine (def : EventDef) : Type 0 where
@@ -29,3 +30,14 @@ pub record CanPoint (p : PointEntry) : Type 0 where
 abbrev pub CanTell : Entry → Type 0
 CanTell (Event e) = CanWrite e
 CanTell (Point p) = CanPoint p
+
+-- While these entries are laid out, the ids of the stacks since each point fit (the NetTrace format document of PerfView (version 4): signed numbers of 32 bits).
+abbrev pub StacksFit : Layout → List Entry → Type 0
+StacksFit layout [] = Unit {0}
+StacksFit layout (entry ∷ entries) =
+    (length (with_entry layout entry).stacks < 2 ^ 31) × StacksFit (with_entry layout entry) entries
+
+-- An entry that needs no stack.
+abbrev pub HasNoStack : Entry → Type 0
+HasNoStack (Event e) = e.stack ≡ []
+HasNoStack (Point p) = Unit {0}

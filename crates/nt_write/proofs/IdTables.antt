@@ -1,0 +1,96 @@
+-- The ids of the definitions that were used, and the table that has them.
+use Rattle.std.proofs.Common.{◌≡◌, ◌≢◌, ℕ, zero, suc, ◌+◌, ◌<◌, ◌≤◌, Bool, true, false, cond, eqb, ◌⊎◌, inl, inr, List, [], ◌∷◌, ◌++◌, length, Option, Some, None, set, refl, ap, sym, ◌∙◌, subst, arith, length-append}
+use Rattle.std.proofs.lemmas.List.{get_or-set_same, get_or-set_other}
+use Rattle.std.proofs.lemmas.Bool.{ne_eqb, cases_Bool}
+use Rattle.std.proofs.lemmas.Bool.Decides.{eqb_tells}
+use Rattle.std.specs.Prelude.{slice_index, replicate, unwrap_or}
+use Rattle.std.specs.List.{position_from}
+use Rattle.ep_defs.specs.declared.event.EventDef.{EventDef}
+use Rattle.ep_defs.specs.Event.{is_same_event}
+use Rattle.nt_write.specs.declared.ids.IdTable.{IdTable}
+use Rattle.nt_write.specs.Layout.{id_in, with_member}
+use Rattle.nt_write.specs.Writing.{definition_at, AreDistinct, AreIds, id_at}
+use Rattle.nt_write.proofs.Sameness.{event_sameness}
+
+-- Where no member passes the test, one more at the end has its place if it passes.
+place-end : {A : Type 0} (test : A → Bool) (n : ℕ) (xs : List A) (x : A) → 0 < n → unwrap_or (position_from test n xs) 0 ≡ 0 → test x ≡ true → unwrap_or (position_from test n (xs ++ x ∷ [])) 0 ≡ n + length xs
+place-end test n [] x low none passes = rw passes (omega arith)
+place-end test n (y ∷ xs) x low none passes =
+    elim (cases_Bool (test y)) [
+      | inl e ↦ absurd (first (rw e at none))
+      | inr e ↦ rw e (place-end test (n + 1) xs x (omega arith) (rw e at none) passes ∙ shift (length xs))
+    ]
+  where
+    first : n ≡ 0 → ⊥
+    first e = omega arith
+
+    shift : (k : ℕ) → n + 1 + k ≡ n + suc k
+    shift k = omega arith
+
+-- One more at the end that doesn't pass changes nothing.
+place-other : {A : Type 0} (test : A → Bool) (n : ℕ) (xs : List A) (x : A) → test x ≡ false → position_from test n (xs ++ x ∷ []) ≡ position_from test n xs
+place-other test n [] x fails = rw fails refl
+place-other test n (y ∷ xs) x fails = ap (λ o. cond (test y) (Some n) o) (place-other test (n + 1) xs x fails)
+
+-- A definition that is new has the next id.
+pub id-new : (definitions : List EventDef) (def : EventDef) → id_in is_same_event def definitions ≡ 0 → id_in is_same_event def (definitions ++ def ∷ []) ≡ length definitions + 1
+id-new definitions def none =
+    place-end (λ other. is_same_event def other) 1 definitions def (omega arith) none (event_sameness.itself def) ∙ turn (length definitions)
+  where
+    turn : (n : ℕ) → 1 + n ≡ n + 1
+    turn n = omega arith
+
+-- Another definition keeps its id.
+id-other : (definitions : List EventDef) (def other : EventDef) → is_same_event other def ≡ false → id_in is_same_event other (definitions ++ def ∷ []) ≡ id_in is_same_event other definitions
+id-other definitions def other differs =
+    ap (λ (o : Option ℕ). unwrap_or o 0) (place-other (λ y. is_same_event other y) 1 definitions def differs)
+
+-- The definitions with one that is new.
+pub with_new : (definitions : List EventDef) (def : EventDef) → id_in is_same_event def definitions ≡ 0 → with_member is_same_event definitions def ≡ definitions ++ def ∷ []
+with_new definitions def none =
+    ap (λ (id : ℕ). cond (eqb id 0) (definitions ++ def ∷ []) definitions) none
+
+-- The definitions with one that is known.
+pub with_known : (definitions : List EventDef) (def : EventDef) → id_in is_same_event def definitions ≢ 0 → with_member is_same_event definitions def ≡ definitions
+with_known definitions def known =
+    ap (λ (b : Bool). cond b (definitions ++ def ∷ []) definitions) (ne_eqb (id_in is_same_event def definitions) 0 known)
+
+-- The numbers of two definitions that are the same are one.
+same-number : (events : List EventDef) (i j : ℕ) (a b : EventDef) → AreDistinct events → definition_at events i ≡ Some a → definition_at events j ≡ Some b → i ≢ j → is_same_event a b ≡ false
+same-number events i j a b d p q differ =
+    elim (cases_Bool (is_same_event a b)) [ inl e ↦ absurd (differ (d.distinct i j a b p q e)) | inr e ↦ e ]
+
+-- One number has one definition.
+one-definition : (events : List EventDef) (i j : ℕ) (a b : EventDef) → definition_at events i ≡ Some a → definition_at events j ≡ Some b → i ≡ j → a ≡ b
+one-definition events i j a b p q e = cc
+
+-- The table with the next id at a number that had none.
+pub ids-given : (events definitions : List EventDef) (def : EventDef) (number : ℕ) (old new : IdTable) → AreIds events definitions old → AreDistinct events → definition_at events number ≡ Some def → number < length old.table.items → id_at old number ≡ 0 → new.table.items ≡ set old.table.items number (old.used + 1) → new.used ≡ old.used + 1 → AreIds events (definitions ++ def ∷ []) new
+ids-given events definitions def number old new h distinct at low free items used =
+    record {
+      used = omega (arith, h.used, used, length-append definitions (def ∷ []));
+      id_is = λ i other p. by-number i other p (eqb_tells i number);
+    }
+  where
+    none : id_in is_same_event def definitions ≡ 0
+    none = sym (h.id_is number def at) ∙ free
+
+    by-number : (i : ℕ) (other : EventDef) → definition_at events i ≡ Some other → ((eqb i number ≡ true) × (i ≡ number)) ⊎ ((eqb i number ≡ false) × (i ≢ number)) → id_at new i ≡ id_in is_same_event other (definitions ++ def ∷ [])
+    by-number i other p (inl same) =
+        ap (λ (xs : List ℕ). slice_index xs i) items
+        ∙ ap (λ (n : ℕ). slice_index (set old.table.items number (old.used + 1)) n) same.1
+        ∙ get_or-set_same old.table.items number (old.used + 1) 0 low
+        ∙ ap (λ (n : ℕ). n + 1) h.used
+        ∙ sym (id-new definitions def none)
+        ∙ ap (λ (d : EventDef). id_in is_same_event d (definitions ++ def ∷ [])) (sym (one-definition events i number other def p at same.1))
+    by-number i other p (inr differ) =
+        ap (λ (xs : List ℕ). slice_index xs i) items
+        ∙ get_or-set_other old.table.items number i (old.used + 1) 0 differ.1
+        ∙ h.id_is i other p
+        ∙ sym (id-other definitions def other (same-number events i number other def distinct p at differ.1))
+
+-- Zeros are zero at each place, and past the last one.
+pub slice_index-zeros : (n i : ℕ) → let zeros : List ℕ = replicate n 0 in slice_index zeros i ≡ 0
+slice_index-zeros zero i = refl
+slice_index-zeros (suc n) zero = refl
+slice_index-zeros (suc n) (suc i) = slice_index-zeros n i

@@ -1,0 +1,58 @@
+-- What a writer has written, and what it keeps until the next flush.
+use Rattle.std.specs.Prelude.{◌≡◌, ℕ, ◌++◌, Bool, List, Option, None, IsTrue}
+use Rattle.std.specs.List.{AllByRecursion}
+use Rattle.ep_defs.specs.declared.event.EventDef.{EventDef}
+use Rattle.ep_defs.specs.declared.session.TraceInfo.{TraceInfo}
+use Rattle.ep_defs.specs.Session.{is_info}
+use Rattle.pt_io.specs.Taken.{IsPrefix}
+use Rattle.nt_write.specs.declared.writer.Fault.{Fault}
+use Rattle.nt_write.specs.declared.writer.EventOut.{EventOut}
+use Rattle.nt_write.specs.declared.writer.TraceWriter.{TraceWriter}
+use Rattle.nt_write.specs.Stream.{stream_start}
+use Rattle.nt_write.specs.Ordered.{EventEntry, PointEntry, Entry}
+use Rattle.nt_write.specs.Layout.{empty_layout, with_entries}
+use Rattle.nt_write.specs.Writable.{CanTell, HasNoStack}
+use Rattle.nt_write.specs.Writing.{IsAt}
+use Rattle.nt_write.specs.Canonical.{encoded, IsCanonical}
+
+abbrev pub fault_of : {S : Type 0} → TraceWriter S → Option Fault
+fault_of writer = writer.fault
+
+abbrev pub sink_of : {S : Type 0} → TraceWriter S → S
+sink_of writer = writer.output.sink
+
+-- The entry of an event that is written with this definition.
+abbrev pub entry_of : EventDef → EventOut → EventEntry
+entry_of def out =
+    record {
+      thread = out.thread;
+      number = out.number;
+      stamp = out.stamp;
+      def = def;
+      activity = out.activity;
+      related = out.related;
+      stack = out.frames.now;
+      payload = out.payload.now;
+    }
+
+abbrev pub point_of : ℕ → List (ℕ × ℕ) → PointEntry
+point_of stamp threads = record { stamp = stamp; threads = threads }
+
+-- The writer, which began when its sink had taken some bytes, stands for these entries and has not failed.
+-- Its events are of these definitions.
+pub record IsWriting {S : Type 0} (tells : S → Bool) (taken : S → List ℕ) (before : List ℕ) (events : List EventDef) (info : TraceInfo) (entries : List Entry) (writer : TraceWriter S) : Type 0 where
+  pub sound : writer.fault ≡ None
+  pub at : IsAt tells taken (before ++ stream_start info) events (with_entries empty_layout entries) writer
+  pub info_fits : IsTrue (is_info info)
+  pub can_tell : AllByRecursion CanTell entries
+  pub no_stacks : AllByRecursion HasNoStack entries
+
+-- What the sink took begins the stream of these entries.
+abbrev pub TookPart : {S : Type 0} → (S → Bool) → (S → List ℕ) → List ℕ → TraceInfo → List Entry → S → Type 0
+TookPart tells taken before info entries sink =
+    IsTrue (tells sink) → (part : List ℕ) × IsPrefix part (encoded info entries) × (taken sink ≡ before ++ part)
+
+-- What the sink took is the one stream of these entries.
+abbrev pub TookStream : {S : Type 0} → (S → Bool) → (S → List ℕ) → List ℕ → TraceInfo → List Entry → S → Type 0
+TookStream tells taken before info entries sink =
+    IsTrue (tells sink) → (bytes : List ℕ) × IsCanonical info entries bytes × (taken sink ≡ before ++ bytes)

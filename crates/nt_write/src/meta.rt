@@ -1,0 +1,107 @@
+//! The payload of a metadata blob, which defines an event.
+ghost use Rattle.std.specs.Prelude.{◌≡◌, ◌^◌, ◌<◌, ◌≤◌, ◌++◌, ◌==◌, length, count_by, nat_lt, IsTrue, OnOk, OnErr};
+ghost use Rattle.std.specs.List.{list_all, prefix_len};
+ghost use Rattle.ep_defs.specs.Event.{is_valid_event, is_valid_field};
+ghost use Rattle.nt_write.specs.Kept.{Keeps};
+ghost use Rattle.nt_write.specs.Meta.{after, fields_bytes, inside, inside_bytes, meta_payload};
+
+use crate::numbers::{put_u32, put_u64, put_utf16z};
+use ep_defs::{EventDef, FieldDef};
+use std::alloc::AllocError;
+
+// The type code of a field that has fields inside it.
+const OBJECT: u8 = 1;
+
+/// Appends the definition of an event under this id.
+pub fn put_meta(out: &mut Vec<u8>, id: u32, def: &EventDef) -> Result<(), AllocError>
+    requires valid { IsTrue (is_valid_event def.now) }
+    requires not_zero { 0 < id }
+    requires id_fits { id < 2 ^ 31 }
+    ensures ok { OnOk result (out.new.items ≡ out.old.items ++ meta_payload id def.now) }
+    ensures err { OnErr result (out.new.items ≡ out.old.items) }
+{
+    let start = out.len();
+    let put = append_meta(out, id, def);
+    if put.is_err() {
+        out.truncate(start);
+    }
+    put
+}
+
+fn append_meta(out: &mut Vec<u8>, id: u32, def: &EventDef) -> Result<(), AllocError>
+    requires { IsTrue (is_valid_event def.now) }
+    ensures ok { OnOk result (out.new.items ≡ out.old.items ++ meta_payload id def.now) }
+    ensures err { OnErr result (Keeps out.old.items out.new.items) }
+{
+    let fields = def.fields.as_slice();
+    put_u32(out, id)?;
+    put_utf16z(out, def.provider.as_slice())?;
+    put_u32(out, def.id)?;
+    put_utf16z(out, def.name.as_slice())?;
+    put_u64(out, def.keywords)?;
+    put_u32(out, def.version)?;
+    put_u32(out, def.level)?;
+    put_u32(out, count_at(fields, 0))?;
+    append_fields(out, fields)
+}
+
+// Appends fields, each with those inside it.
+#[cycle(fields)]
+fn append_fields(out: &mut Vec<u8>, fields: &[FieldDef]) -> Result<(), AllocError>
+    requires few { length fields.now ≤ 100 }
+    requires valid { IsTrue (list_all is_valid_field fields.now) }
+    ensures ok { OnOk result (out.new.items ≡ out.old.items ++ fields_bytes (length fields.now) fields.now) }
+    ensures err { OnErr result (Keeps out.old.items out.new.items) }
+{
+    let mut rest = fields;
+    while let [field, later @ ..] = rest {
+        let (inside, after) = split_inside(field, later);
+        put_u32(out, u32::from(field.code))?;
+        append_inside(out, field, inside)?;
+        put_utf16z(out, field.name.as_slice())?;
+        rest = after;
+    }
+    Ok(())
+}
+
+// Appends what a field has of the fields inside it: nothing, unless it is an object.
+#[cycle(fields)]
+fn append_inside(out: &mut Vec<u8>, field: &FieldDef, inside: &[FieldDef]) -> Result<(), AllocError>
+    requires few { length inside.now ≤ 100 }
+    requires valid { IsTrue (list_all is_valid_field inside.now) }
+    requires depth { field.now.depth ≤ 8 }
+    ensures ok { OnOk result (out.new.items ≡ out.old.items ++ inside_bytes field.now inside.now) }
+    ensures err { OnErr result (Keeps out.old.items out.new.items) }
+{
+    if field.code != OBJECT {
+        return Ok(());
+    }
+    put_u32(out, count_at(inside, field.depth + 1))?;
+    append_fields(out, inside)
+}
+
+// The fields inside this one, of those after it, and the others.
+fn split_inside<'a>(field: &FieldDef, later: &'a [FieldDef]) -> (&'a [FieldDef], &'a [FieldDef])
+    ensures inside { result.0.now ≡ inside field.now later.now }
+    ensures after { result.1.now ≡ after field.now later.now }
+{
+    later.split_at(inside_len(field.depth, later))
+}
+
+// How many of the first fields are deeper than this.
+fn inside_len(depth: u32, fields: &[FieldDef]) -> usize
+    ensures { result ≡ prefix_len (λ field. nat_lt depth field.depth) fields.now }
+{
+    fields
+        .iter()
+        .take_while(|field| field.depth > depth)
+        .count()
+}
+
+// How many of the fields have this depth.
+fn count_at(fields: &[FieldDef], depth: u32) -> u32
+    requires { length fields.now ≤ 100 }
+    ensures { result ≡ count_by (λ field. field.depth == depth) fields.now }
+{
+    fields.iter().filter(|field| field.depth == depth).count() as u32
+}
