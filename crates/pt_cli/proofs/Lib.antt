@@ -1,0 +1,11 @@
+pub mod Feeds
+pub mod FormLaws
+pub mod FormPast
+pub mod Forms
+pub mod ReadSoFar
+pub mod Replayed
+pub mod Spelled
+pub mod SpelledLines
+pub mod Stamps
+pub mod Telling
+pub mod TextLines

@@ -1,0 +1,17 @@
+-- What was read so far and what is left are the whole input, and no read failed.
+use Rattle.std.proofs.Common.{◌≡◌, ◌++◌, IsTrue, length}
+use Rattle.pt_cli.proofs.top.read_all.Given as goal
+
+abbrev pub invariant-loop-count : goal.invariant-loop-count
+invariant-loop-count g l =
+    let source = g.I.Source in
+    record {
+      told : source.tells_given l.input ≡ source.tells_given l.fn.input;
+      faults : source.read_faults l.input ≡ source.read_faults l.fn.input;
+      given : IsTrue (source.tells_given l.fn.input) → source.given l.input ≡ source.given l.fn.input ++ l.bytes.items;
+      left : IsTrue (source.tells_given l.fn.input) → source.left l.fn.input ≡ l.bytes.items ++ source.left l.input;
+      room : length l.buffer ≡ 4096;
+    }
+
+abbrev pub decreases-loop-count : goal.decreases-loop-count
+decreases-loop-count g l = g.I.Source.may_give l.input

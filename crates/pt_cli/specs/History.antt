@@ -1,0 +1,138 @@
+-- What the steps so far have come to. A past is the list of them, the newest first.
+use Rattle.std.specs.Prelude.{ℕ, zero, suc, ◌+◌, Bool, false, ◌&&◌, ◌||◌, not, List, [], ◌∷◌, ◌++◌, length, take, drop, filter, slice_get, Option, Some, None, unwrap_or, nat_lt, ◌==◌, if◌then◌else◌}
+use Rattle.std.specs.Option.{option_map_or}
+use Rattle.ep_defs.specs.declared.event.EventDef.{EventDef}
+use Rattle.ep_defs.specs.declared.session.Config.{Config}
+use Rattle.ep_defs.specs.declared.session.Write.{Write}
+use Rattle.ep_defs.specs.Admits.{session_admits}
+use Rattle.pt_cli.specs.declared.model.Step.{Step}
+use Rattle.pt_cli.specs.declared.model.Step.TheVariants as step
+
+abbrev pub Past : Type 0
+Past = List Step
+
+-- ---- sessions
+
+abbrev pub config_of : ℕ → Past → Option Config
+config_of session [] = None
+config_of session (step.Accept s config ∷ past) = if s == session then Some config else config_of session past
+config_of session (_ ∷ past) = config_of session past
+
+-- The sessions that were accepted, the newest first.
+abbrev pub accepted : Past → List ℕ
+accepted [] = []
+accepted (step.Accept s config ∷ past) = s ∷ accepted past
+accepted (_ ∷ past) = accepted past
+
+-- From Accept to Finish.
+abbrev pub is_present : ℕ → Past → Bool
+is_present session [] = false
+is_present session (step.Accept s config ∷ past) = (s == session) || is_present session past
+is_present session (step.Finish s stamp ∷ past) = not (s == session) && is_present session past
+is_present session (_ ∷ past) = is_present session past
+
+abbrev pub present : Past → List ℕ
+present past = filter (λ s. is_present s past) (accepted past)
+
+-- ---- a session on a thread
+
+-- The number in its place among the others.
+abbrev pub insert_ascending : ℕ → List ℕ → List ℕ
+insert_ascending n [] = n ∷ []
+insert_ascending n (m ∷ ms) = if nat_lt n m then n ∷ m ∷ ms else m ∷ insert_ascending n ms
+
+-- The threads on which the session was ever opened, ascending.
+abbrev pub opened : ℕ → Past → List ℕ
+opened session [] = []
+opened session (step.Open s t ∷ past) = if s == session then insert_ascending t (opened session past) else opened session past
+opened session (_ ∷ past) = opened session past
+
+-- From Open to Close.
+abbrev pub is_open : ℕ → ℕ → Past → Bool
+is_open session thread [] = false
+is_open session thread (step.Open s t ∷ past) = ((s == session) && (t == thread)) || is_open session thread past
+is_open session thread (step.Close s t ∷ past) = not ((s == session) && (t == thread)) && is_open session thread past
+is_open session thread (_ ∷ past) = is_open session thread past
+
+-- ---- writes
+
+-- All writes of a thread, the oldest first.
+abbrev pub writes_of : ℕ → Past → List Write
+writes_of thread [] = []
+writes_of thread (step.Begin t stamp write ∷ past) = if t == thread then writes_of thread past ++ write ∷ [] else writes_of thread past
+writes_of thread (_ ∷ past) = writes_of thread past
+
+-- How many writes the thread had begun where the session was opened on it.
+abbrev pub opened_at : ℕ → ℕ → Past → Option ℕ
+opened_at session thread [] = None
+opened_at session thread (step.Open s t ∷ past) =
+    if (s == session) && (t == thread) then Some (length (writes_of thread past)) else opened_at session thread past
+opened_at session thread (_ ∷ past) = opened_at session thread past
+
+-- The same where it was closed.
+abbrev pub closed_at : ℕ → ℕ → Past → Option ℕ
+closed_at session thread [] = None
+closed_at session thread (step.Close s t ∷ past) =
+    if (s == session) && (t == thread) then Some (length (writes_of thread past)) else closed_at session thread past
+closed_at session thread (_ ∷ past) = closed_at session thread past
+
+-- Where it was closed, or the writes so far.
+abbrev pub to_of : ℕ → ℕ → Past → ℕ
+to_of session thread past = unwrap_or (closed_at session thread past) (length (writes_of thread past))
+
+-- From Begin to End.
+abbrev pub in_write : ℕ → Past → Bool
+in_write thread [] = false
+in_write thread (step.Begin t stamp write ∷ past) = (t == thread) || in_write thread past
+in_write thread (step.End t ∷ past) = not (t == thread) && in_write thread past
+in_write thread (_ ∷ past) = in_write thread past
+
+-- A write with the stamp of its Begin.
+pub record Begun : Type 0 where
+  pub stamp : ℕ
+  pub write : Write
+
+-- The last write that the thread began.
+abbrev pub last_begun : ℕ → Past → Option Begun
+last_begun thread [] = None
+last_begun thread (step.Begin t stamp write ∷ past) = if t == thread then Some (record { stamp = stamp; write = write }) else last_begun thread past
+last_begun thread (_ ∷ past) = last_begun thread past
+
+-- ---- admission
+
+-- Events are numbered from 1.
+abbrev pub event_at : List EventDef → ℕ → Option EventDef
+event_at events zero = None
+event_at events (suc place) = slice_get events place
+
+abbrev pub admits_write : List EventDef → Option Config → Write → Bool
+admits_write events config write =
+    option_map_or (λ c. option_map_or (λ def. session_admits c def) (event_at events write.event) false) config false
+
+-- The writes of a list from this place on that a session gets.
+abbrev pub admitted_from : List EventDef → Option Config → ℕ → List Write → List Write
+admitted_from events config from writes = filter (λ write. admits_write events config write) (drop from writes)
+
+-- The writes of a thread that a session gets, between its opening and its closing there; none where it was never opened.
+abbrev pub admitted : List EventDef → ℕ → ℕ → Past → List Write
+admitted events session thread past =
+    option_map_or
+    (λ from. admitted_from events (config_of session past) from (take (to_of session thread past) (writes_of thread past)))
+    (opened_at session thread past)
+    []
+
+-- From the Begin of a write that the session gets, to its Show.
+abbrev pub is_due : List EventDef → ℕ → ℕ → Past → Bool
+is_due events session thread [] = false
+is_due events session thread (step.Begin t stamp write ∷ past) =
+    if t == thread
+    then is_open session thread past && admits_write events (config_of session past) write
+    else is_due events session thread past
+is_due events session thread (step.Show t s ∷ past) = not ((s == session) && (t == thread)) && is_due events session thread past
+is_due events session thread (_ ∷ past) = is_due events session thread past
+
+-- How many writes of a thread were shown to a session. The k-th of them has the number k.
+abbrev pub shows : ℕ → ℕ → Past → ℕ
+shows session thread [] = 0
+shows session thread (step.Show t s ∷ past) = (if (s == session) && (t == thread) then 1 else 0) + shows session thread past
+shows session thread (_ ∷ past) = shows session thread past

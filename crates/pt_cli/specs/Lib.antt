@@ -1,0 +1,9 @@
+pub mod Entries
+pub mod Faithful
+pub mod FirstForm
+pub mod Form
+pub mod History
+pub mod Lawful
+pub mod Lines
+pub mod Machine
+pub mod Replay

@@ -1,0 +1,85 @@
+//! The steps of a schedule.
+use ep_defs::{Config, Write};
+
+/// One step of the traced program or of a tool. Sessions have numbers above 0, and threads numbers from 1 to 256.
+#[derive(Debug, Drop)]
+pub enum Step {
+    /// A session is accepted.
+    Accept {
+        session: u32,
+        config: Config,
+    },
+    /// It is opened on a thread, and gets the writes that the thread begins from then on.
+    Open {
+        session: u32,
+        thread: u32,
+    },
+    /// A thread begins a write.
+    Begin {
+        thread: u32,
+        stamp: u64,
+        write: Write,
+    },
+    /// The write is shown to a session that gets it.
+    Show {
+        thread: u32,
+        session: u32,
+    },
+    /// The write ends.
+    End {
+        thread: u32,
+    },
+    /// What the thread has buffered for the session goes into the session's stream.
+    Steal {
+        session: u32,
+        thread: u32,
+    },
+    /// The session gives back the buffers that it took.
+    Give {
+        session: u32,
+    },
+    /// The session's stream says how far each thread had come.
+    Point {
+        session: u32,
+        stamp: u64,
+    },
+    /// It is closed on a thread, which takes what is left.
+    Close {
+        session: u32,
+        thread: u32,
+    },
+    /// Its stream ends.
+    Finish {
+        session: u32,
+        stamp: u64,
+    },
+}
+
+/// Why a step can't be made.
+#[derive(Clone, Copy, Debug, PartialEq, Eq)]
+pub enum Kind {
+    SessionNumber,
+    BadConfig,
+    Full,
+    NoSession,
+    NoThread,
+    AlreadyOpen,
+    InWrite,
+    NotInWrite,
+    NoEvent,
+    TooLarge,
+    TooMany,
+    NotDue,
+    ShowsDue,
+    NotOpen,
+    HandFull,
+    StillOpen,
+}
+
+/// The first step of a schedule that can't be made.
+#[derive(Clone, Copy, Debug)]
+pub struct Unlawful {
+    /// From 1.
+    pub step: u64,
+    pub kind: Kind,
+}
