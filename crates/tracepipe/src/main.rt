@@ -1,0 +1,30 @@
+//! The program: it makes the real objects of the outside and hands them to the logic.
+//!
+//! It stands on pt_cli, whose call `tracepipe` it makes, and on pt_io, whose traits it fulfils. What it adds is the
+//! trusted edge: standard input and output as a source and a sink that tell nothing of content. Everything that can be
+//! said of bytes is said below it, over any source and any sink.
+//!
+//! Its one contract: the adapters keep the clauses of the traits.
+#![tactic(auto)]
+
+mod arguments;
+mod standard;
+
+use arguments::words;
+use pt_cli::tracepipe;
+use standard::{StandardInput, StandardOutput};
+use std::io;
+use std::process::ExitCode;
+
+// The status where the words themselves found no memory.
+const OUT_OF_MEMORY: u8 = 9;
+
+fn main(rt: HostRuntime) -> ExitCode {
+    let mut input = StandardInput::new(rt.reader());
+    let mut output = StandardOutput::new(io::writer(&rt));
+    let status = match words(&rt) {
+        Ok(words) => tracepipe(rt.alloc(), &words, &mut input, &mut output).status,
+        Err(_) => OUT_OF_MEMORY,
+    };
+    ExitCode::from(status)
+}
