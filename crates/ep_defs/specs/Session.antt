@@ -1,10 +1,11 @@
 -- Which sessions can be asked for, what can be written, and what a program may say of itself.
-use Rattle.std.specs.Prelude.{ℕ, ◌^◌, Bool, ◌&&◌, [], ◌∷◌, length, nat_lt, nat_le, ◌==◌}
+use Rattle.std.specs.Prelude.{ℕ, ◌+◌, ◌^◌, Bool, ◌&&◌, [], ◌∷◌, length, nat_lt, nat_le, ◌==◌}
 use Rattle.std.specs.List.{list_all}
 use Rattle.std.specs.Int.{is_in_range}
 use Rattle.ep_defs.specs.declared.session.Config.{Config}
 use Rattle.ep_defs.specs.declared.session.Write.{Write}
 use Rattle.ep_defs.specs.declared.session.TraceInfo.{TraceInfo}
+use Rattle.ep_defs.specs.declared.session.Facts.{Facts}
 
 -- 1 to 1,000 rules, none without a name, and 1 to 16,384 chunks (this project's profile).
 abbrev pub is_valid_config : Config → Bool
@@ -16,6 +17,10 @@ is_valid_config config =
 -- At most 100 frames and 60,000 bytes of payload (this project's profile).
 abbrev pub fits : Write → Bool
 fits write = nat_le (length write.frames) 100 && nat_le (length write.payload) 60000
+
+-- The three texts have at most 30,000 units together (this project's profile).
+abbrev pub is_valid_facts : Facts → Bool
+is_valid_facts facts = nat_le (length facts.command_line + length facts.system + length facts.arch) 30000
 
 -- The numbers fit their types: eight of 16 bits, two of 64, and four of 32.
 abbrev pub is_info : TraceInfo → Bool

@@ -1,5 +1,7 @@
-ghost use Rattle.std.specs.Prelude.{◌≡◌, ◌<◌, List, length, IfOk, slice_set};
+ghost use Rattle.std.specs.Prelude.{◌≡◌, ◌<◌, ◌%◌, List, length, IfOk, slice_set};
+ghost use Rattle.ep_defs.specs.Text.{units_in};
 
+use byteorder::{ByteOrder, LittleEndian};
 use std::alloc::{AllocError, Global};
 use std::marker::Model;
 
@@ -96,4 +98,14 @@ fn copies<I: Duplicate + Drop>(alloc: Global, items: &[I]) -> Result<Vec<I>, All
         copies.push(item.copy(alloc)?)?;
     }
     Ok(copies)
+}
+
+/// The units of a text in UTF-16 of two bytes each, the low byte first.
+pub fn units_of(alloc: Global, bytes: &[u8]) -> Result<Units, AllocError>
+    requires { length bytes.now % 2 ≡ 0 }
+    ensures { IfOk result (λ units. units ≡ units_in bytes.now) }
+{
+    let mut units = vec![in alloc; 0u16; bytes.len() / 2]?;
+    LittleEndian::read_u16_into(bytes, &mut units);
+    Ok(Items::new(units))
 }

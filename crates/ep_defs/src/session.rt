@@ -1,6 +1,10 @@
-ghost use Rattle.std.specs.Prelude.{◌≡◌};
-ghost use Rattle.ep_defs.specs.Session.{standard_info_of};
+ghost use Rattle.std.specs.Prelude.{◌≡◌, length, nat_lt};
+ghost use Rattle.std.specs.List.{list_all};
+ghost use Rattle.ep_defs.specs.Admits.{rule_admits, session_admits};
+ghost use Rattle.ep_defs.specs.Session as valid;
+ghost use Rattle.ep_defs.specs.Session.{is_valid_config, is_valid_facts, standard_info_of};
 
+use crate::event::EventDef;
 use crate::list::{Bytes, Duplicate, Frames, Items, Units};
 use std::alloc::{AllocError, Global};
 
@@ -51,6 +55,21 @@ pub struct TraceInfo {
     pub processors: u32,
     /// Expected samples in a second.
     pub rate: u32,
+}
+
+/// What the traced program says of itself.
+#[derive(Debug, Drop)]
+pub struct Facts {
+    pub process_id: u64,
+    /// It tells one run of the program from another.
+    pub cookie: [u8; 16],
+    pub command_line: Units,
+    /// The operating system's name.
+    pub system: Units,
+    /// The processor's architecture.
+    pub arch: Units,
+    /// What each of its traces begins with.
+    pub info: TraceInfo,
 }
 
 /// What a session had of one thread, from its opening there to its closing.
@@ -108,6 +127,63 @@ impl Duplicate for Marks {
     fn copy(&self, _alloc: Global) -> Result<Self, AllocError> {
         Ok(*self)
     }
+}
+
+impl Rule {
+    // Whether the rule alone lets the session get the event.
+    fn admits(&self, def: &EventDef) -> bool
+        ensures { result ≡ rule_admits self.now def.now }
+    {
+        self.name.as_slice() == def.provider.as_slice()
+            && (def.keywords == 0 || def.keywords & self.keywords > 0)
+            && (def.level == 0 || def.level <= self.level)
+    }
+}
+
+impl Config {
+    /// Whether a session can be asked for this: 1 to 1,000 rules, none of them without a provider's name, and 1 to
+    /// 16,384 chunks.
+    pub fn is_valid(&self) -> bool
+        ensures { result ≡ is_valid_config self.now }
+    {
+        let rules = self.rules.as_slice();
+        (1..=1000).contains(&rules.len()) && have_names(rules) && (1..=16384).contains(&self.chunks)
+    }
+}
+
+impl Write {
+    /// Whether a thread can make the write: at most 100 frames and 60,000 bytes of payload.
+    pub fn fits(&self) -> bool
+        ensures { result ≡ valid.fits self.now }
+    {
+        self.frames.as_slice().len() <= 100 && self.payload.as_slice().len() <= 60_000
+    }
+}
+
+impl Facts {
+    /// Whether the three texts have at most 30,000 units together.
+    pub fn is_valid(&self) -> bool
+        ensures { result ≡ is_valid_facts self.now }
+    {
+        let command_line = self.command_line.as_slice().len();
+        let system = self.system.as_slice().len();
+        let arch = self.arch.as_slice().len();
+        command_line <= 30_000 && system <= 30_000 && command_line + system + arch <= 30_000
+    }
+}
+
+fn have_names(rules: &[Rule]) -> bool
+    ensures { result ≡ list_all (λ rule. nat_lt 0 (length rule.name)) rules.now }
+{
+    rules.iter().all(|rule| !rule.name.as_slice().is_empty())
+}
+
+/// Whether a session that was asked for this gets the event: one of its rules has the event's provider, shares a keyword
+/// with the event or the event has none, and wants the event's level.
+pub fn admits(config: &Config, def: &EventDef) -> bool
+    ensures { result ≡ session_admits config.now def.now }
+{
+    config.rules.as_slice().iter().any(|rule| rule.admits(def))
 }
 
 /// The Trace content of this project's profile: a clock that counts nanoseconds since midnight of Thursday,

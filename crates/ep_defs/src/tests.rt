@@ -6,6 +6,42 @@ fn units(alloc: Global, text: &[u16]) -> Result<Units, AllocError> {
     Ok(Items::new(text.to_vec(alloc)?))
 }
 
+fn definition(
+    alloc: Global,
+    provider: &[u16],
+    level: u32,
+    keywords: u64,
+) -> Result<EventDef, AllocError> {
+    Ok(EventDef {
+        provider: units(alloc, provider)?,
+        id: 1,
+        version: 0,
+        level,
+        keywords,
+        name: units(alloc, &[69])?,
+        fields: Items::new(Vec::new(alloc)),
+    })
+}
+
+fn config(
+    alloc: Global,
+    name: &[u16],
+    keywords: u64,
+    level: u32,
+    chunks: u32,
+) -> Result<Config, AllocError> {
+    let mut rules = Vec::new(alloc);
+    rules.push(Rule {
+        name: units(alloc, name)?,
+        keywords,
+        level,
+    })?;
+    Ok(Config {
+        rules: Items::new(rules),
+        chunks,
+    })
+}
+
 #[test]
 fn a_list_gives_its_items_back(rt: HostRuntime) -> Result<(), Fail> {
     let list = units(rt.alloc(), &[80, 81])?;
@@ -117,5 +153,127 @@ fn marks_are_copied(rt: HostRuntime) -> Result<(), Fail> {
         (copy.thread, copy.from, copy.to, copy.taken, copy.refused),
         (1, 2, 3, 1, 0)
     );
+    Ok(())
+}
+
+#[test]
+fn keywords_decide_what_a_session_gets(rt: HostRuntime) -> Result<(), Fail> {
+    let alloc = rt.alloc();
+    let first = config(alloc, &[80], 1, 4, 16)?;
+    let second = config(alloc, &[80], 2, 4, 16)?;
+    for keywords in 0..4 {
+        let def = definition(alloc, &[80], 4, keywords)?;
+        assert_eq!(rt; admits(&first, &def), keywords != 2);
+        assert_eq!(rt; admits(&second, &def), keywords != 1);
+    }
+    Ok(())
+}
+
+#[test]
+fn level_and_provider_decide_what_a_session_gets(rt: HostRuntime) -> Result<(), Fail> {
+    let alloc = rt.alloc();
+    let config = config(alloc, &[80], 1, 3, 16)?;
+    assert!(rt; admits(&config, &definition(alloc, &[80], 0, 1)?));
+    assert!(rt; admits(&config, &definition(alloc, &[80], 3, 1)?));
+    assert!(rt; !admits(&config, &definition(alloc, &[80], 4, 1)?));
+    assert!(rt; !admits(&config, &definition(alloc, &[81], 3, 1)?));
+    assert!(rt; !admits(&config, &definition(alloc, &[80, 80], 3, 1)?));
+    Ok(())
+}
+
+#[test]
+fn a_field_inside_a_number_is_not_valid(rt: HostRuntime) -> Result<(), Fail> {
+    let alloc = rt.alloc();
+    for (code, valid) in [(1u8, true), (9, false)] {
+        let mut def = definition(alloc, &[80], 4, 0)?;
+        let mut fields = Vec::new(alloc);
+        for depth in 0..2u32 {
+            fields.push(FieldDef {
+                depth,
+                code: if depth == 0 { code } else { 9 },
+                name: units(alloc, &[105])?,
+            })?;
+        }
+        def.fields = Items::new(fields);
+        assert_eq!(rt; def.is_valid(), valid);
+    }
+    Ok(())
+}
+
+#[test]
+fn a_definition_without_a_provider_is_not_valid(rt: HostRuntime) -> Result<(), Fail> {
+    let alloc = rt.alloc();
+    assert!(rt; definition(alloc, &[80], 4, 0)?.is_valid());
+    assert!(rt; !definition(alloc, &[], 4, 0)?.is_valid());
+    assert!(rt; !definition(alloc, &[80, 0], 4, 0)?.is_valid());
+    Ok(())
+}
+
+#[test]
+fn definitions_differ_by_one_field(rt: HostRuntime) -> Result<(), Fail> {
+    let alloc = rt.alloc();
+    let def = definition(alloc, &[80], 4, 0)?;
+    let mut other = def.copy(alloc)?;
+    assert!(rt; def.is_same(&other));
+    let mut fields = Vec::new(alloc);
+    fields.push(FieldDef {
+        depth: 0,
+        code: 9,
+        name: units(alloc, &[105])?,
+    })?;
+    other.fields = Items::new(fields);
+    assert!(rt; !def.is_same(&other));
+    assert!(rt; !def.is_same(&definition(alloc, &[80], 5, 0)?));
+    Ok(())
+}
+
+#[test]
+fn a_configuration_needs_names_and_chunks(rt: HostRuntime) -> Result<(), Fail> {
+    let alloc = rt.alloc();
+    assert!(rt; config(alloc, &[80], 1, 4, 1)?.is_valid());
+    assert!(rt; config(alloc, &[80], 1, 4, 16_384)?.is_valid());
+    assert!(rt; !config(alloc, &[], 1, 4, 1)?.is_valid());
+    assert!(rt; !config(alloc, &[80], 1, 4, 0)?.is_valid());
+    assert!(rt; !config(alloc, &[80], 1, 4, 16_385)?.is_valid());
+    Ok(())
+}
+
+#[test]
+fn a_write_has_100_frames_at_most(rt: HostRuntime) -> Result<(), Fail> {
+    let alloc = rt.alloc();
+    for (count, fits) in [(100, true), (101, false)] {
+        let write = Write {
+            event: 1,
+            activity: [0; 16],
+            related: [0; 16],
+            frames: Items::new(vec![in alloc; 4096u64; count]?),
+            payload: Items::new(Vec::new(alloc)),
+        };
+        assert_eq!(rt; write.fits(), fits);
+    }
+    Ok(())
+}
+
+#[test]
+fn facts_have_30000_units_at_most(rt: HostRuntime) -> Result<(), Fail> {
+    let alloc = rt.alloc();
+    for (count, valid) in [(29_998, true), (29_999, false)] {
+        let facts = Facts {
+            process_id: 7,
+            cookie: [0; 16],
+            command_line: Items::new(vec![in alloc; 97u16; count]?),
+            system: units(alloc, &[76])?,
+            arch: units(alloc, &[120])?,
+            info: standard_info(7, 1),
+        };
+        assert_eq!(rt; facts.is_valid(), valid);
+    }
+    Ok(())
+}
+
+#[test]
+fn a_unit_has_its_low_byte_first(rt: HostRuntime) -> Result<(), Fail> {
+    let units = units_of(rt.alloc(), &[0x50, 0x00, 0xac, 0x20])?;
+    assert_eq!(rt; units.as_slice(), [0x50u16, 0x20ac].as_slice());
     Ok(())
 }

@@ -13,7 +13,8 @@ use Rattle.nt_write.specs.Object.{Block, block_bytes, padding_begins, to_multipl
 use Rattle.nt_write.specs.Stream.{start_len, blocks_bytes, CanFollow}
 use Rattle.nt_write.specs.Trace.{body_begins, BlocksHold}
 use Rattle.nt_write.specs.Bodies.{IsBody, stack_bytes, stack_body, stack_items, IsStackBody, thread_bytes, point_body, IsPointBody}
-use Rattle.nt_write.specs.Ordered.{kinds_of, PointEntry}
+use Rattle.ep_defs.specs.Entry.{PointEntry}
+use Rattle.nt_write.specs.Ordered.{kinds_of}
 use Rattle.nt_write.specs.Layout.{with_block}
 use Rattle.nt_write.specs.Writable.{CanPoint}
 use Rattle.nt_write.proofs.BlobBodies.{fixed_len-32, fixed_len-64}

@@ -12,7 +12,7 @@ use Rattle.nt_write.specs.declared.blocks.BlobBlock.{BlobBlock}
 use Rattle.nt_write.specs.declared.writer.TraceWriter.{TraceWriter}
 use Rattle.nt_write.specs.Head.{zero_state}
 use Rattle.nt_write.specs.Meta.{meta_payload}
-use Rattle.nt_write.specs.Ordered.{EventEntry}
+use Rattle.ep_defs.specs.Entry.{EventEntry}
 use Rattle.nt_write.specs.Layout.{Layout, Draft, id_in, with_member, with_stack, stack_id, meta_draft, meta_drafts, new_metas, new_stack_body, blob_body, passes, needs_flush, event_draft, with_event}
 use Rattle.nt_write.specs.Making.{IsMaking, kind_of}
 use Rattle.nt_write.specs.Writing.{definition_at, HasWritten, AreIds, id_at, IsAt, flushed_if, with_definition}

@@ -14,7 +14,7 @@ use Rattle.nt_write.specs.declared.output.Output.{Output}
 use Rattle.nt_write.specs.declared.writer.Fault.{Fault}
 use Rattle.nt_write.specs.declared.writer.TraceWriter.{TraceWriter}
 use Rattle.nt_write.specs.Stream.{stream_start, blocks_bytes}
-use Rattle.nt_write.specs.Ordered.{Entry}
+use Rattle.ep_defs.specs.Entry.{Entry}
 use Rattle.nt_write.specs.Layout.{Layout, empty_layout, new_metas, flushed, with_entry, with_entries}
 use Rattle.nt_write.specs.Writable.{CanTell, HasNoStack}
 use Rattle.nt_write.specs.Writing.{HasWritten, TookAll, TookSome, AreIds, IsAt}

@@ -9,7 +9,7 @@ use Rattle.nt_write.specs.declared.writer.TraceWriter.{TraceWriter}
 use Rattle.nt_write.specs.Object.{Block}
 use Rattle.nt_write.specs.Stream.{blocks_bytes}
 use Rattle.nt_write.specs.Bodies.{point_body}
-use Rattle.nt_write.specs.Ordered.{PointEntry}
+use Rattle.ep_defs.specs.Entry.{PointEntry}
 use Rattle.nt_write.specs.Layout.{Layout, Draft, meta_drafts, new_metas, new_stacks, new_stack_body, blob_body, with_block, with_block_of, flushed, with_point}
 use Rattle.nt_write.specs.Making.{IsMaking, kind_of}
 use Rattle.nt_write.specs.declared.ids.IdTable.{IdTable}

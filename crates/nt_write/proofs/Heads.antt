@@ -12,7 +12,7 @@ use Rattle.nt_write.specs.declared.head.HeadState.{HeadState}
 use Rattle.nt_write.specs.Numbers.{IsVar, short_var}
 use Rattle.nt_write.specs.Pieces.{InTurn, Exactly, IfThere}
 use Rattle.nt_write.specs.Head.{Sequence, HeadFields, flag_byte, IsSequence, IsGuid, AreHeadBytes, number_after, state_after, IsHead}
-use Rattle.nt_write.specs.Gaps.{distance}
+use Rattle.ep_defs.specs.Gaps.{distance}
 use Rattle.nt_write.specs.Layout.{has_sequence, sequence_of, fewest_fields, if_there, sequence_bytes, head_bytes}
 use Rattle.nt_write.proofs.Varuints.{short_var-32, short_var-64, short_len}
 

@@ -10,7 +10,8 @@ use Rattle.nt_write.specs.declared.object.BlockKind.TheVariants as block
 use Rattle.nt_write.specs.Object.{Block}
 use Rattle.nt_write.specs.Meta.{meta_payload}
 use Rattle.nt_write.specs.Bodies.{stack_body, point_body}
-use Rattle.nt_write.specs.Ordered.{EventEntry, PointEntry, Entry, Event, Point, Names}
+use Rattle.ep_defs.specs.Entry.{EventEntry, PointEntry, Entry, Event, Point}
+use Rattle.nt_write.specs.Ordered.{Names}
 use Rattle.nt_write.specs.Layout.{Layout, Draft, event_draft, blob_body, meta_draft, meta_drafts, empty_layout, id_in, with_member, with_stack, stack_id, new_metas, new_stack_body, with_block, with_block_of, flushed, passes, needs_flush, with_event, with_point, with_entry, with_entries}
 use Rattle.nt_write.specs.Writable.{CanDefine, CanWrite, CanPoint, CanTell}
 use Rattle.nt_write.proofs.BlobBodies.{body-len, body-len-more, meta-state}

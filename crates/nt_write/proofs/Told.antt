@@ -13,7 +13,8 @@ use Rattle.nt_write.specs.declared.object.BlockKind.TheVariants as block
 use Rattle.nt_write.specs.Head.{zero_state}
 use Rattle.nt_write.specs.Object.{Block}
 use Rattle.nt_write.specs.Bodies.{HoldsEvent, HoldsMeta, IsBody, stack_body, stack_items, point_body}
-use Rattle.nt_write.specs.Ordered.{EventEntry, PointEntry, Entry, Event, Point, Names, no_names, stack_of, kinds_of}
+use Rattle.ep_defs.specs.Entry.{EventEntry, PointEntry, Entry, Event, Point}
+use Rattle.nt_write.specs.Ordered.{Names, no_names, stack_of, kinds_of}
 use Rattle.nt_write.specs.Layout.{Draft, event_draft, blob_body, meta_drafts, with_block, with_block_of}
 use Rattle.nt_write.specs.Writable.{CanDefine, CanWrite, CanPoint}
 use Rattle.nt_write.specs.Canonical.{is_plain}

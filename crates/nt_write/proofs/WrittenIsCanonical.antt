@@ -7,7 +7,8 @@ use Rattle.ep_defs.specs.declared.item.ItemKind.TheVariants as item
 use Rattle.ep_defs.specs.declared.session.TraceInfo.{TraceInfo}
 use Rattle.ep_defs.specs.Session.{is_info}
 use Rattle.nt_write.specs.Trace.{trace_item, IsTrace}
-use Rattle.nt_write.specs.Ordered.{Entry, Event, Point, no_names, kinds_of, told_after}
+use Rattle.ep_defs.specs.Entry.{Entry, Event, Point}
+use Rattle.nt_write.specs.Ordered.{no_names, kinds_of, told_after}
 use Rattle.nt_write.specs.Layout.{Layout, empty_layout, with_stack, needs_flush, flushed, with_event, with_entry, with_entries}
 use Rattle.nt_write.specs.Canonical.{encoded, IsCanonical}
 use Rattle.nt_write.specs.Writable.{CanTell, StacksFit, HasNoStack}

@@ -15,8 +15,8 @@ use Rattle.nt_write.specs.Stream.{start_len, blocks_bytes}
 use Rattle.nt_write.specs.Head.{HeadFields, Sequence, flag_byte, zero_state}
 use Rattle.nt_write.specs.Meta.{meta_payload}
 use Rattle.nt_write.specs.Bodies.{stack_body, point_body}
-use Rattle.nt_write.specs.Ordered.{EventEntry, PointEntry, Entry, Event, Point}
-use Rattle.nt_write.specs.Gaps.{distance}
+use Rattle.ep_defs.specs.Entry.{EventEntry, PointEntry, Entry, Event, Point}
+use Rattle.ep_defs.specs.Gaps.{distance}
 
 -- ---- headers
 

@@ -1,6 +1,5 @@
 pub mod Bodies
 pub mod Canonical
-pub mod Gaps
 pub mod Head
 pub mod Kept
 pub mod Layout

@@ -5,6 +5,7 @@ use Rattle.ep_defs.specs.declared.event.EventDef.{EventDef}
 use Rattle.ep_defs.specs.declared.item.Item.{Item}
 use Rattle.ep_defs.specs.declared.item.ItemKind.{ItemKind}
 use Rattle.ep_defs.specs.declared.item.ItemKind.TheVariants as item
+use Rattle.ep_defs.specs.Entry.{Entry, Event, Point}
 use Rattle.nt_write.specs.Steps.{◌>>=◌, or_fault}
 
 -- Why an item can't stand where it does: an event names what was not defined, or a name is defined twice.
@@ -13,26 +14,6 @@ pub data Disorder : Type 0 where
   UnknownStack : (id : ℕ) → Disorder
   MetadataTwice : (id : ℕ) → Disorder
   StackTwice : (id : ℕ) → Disorder
-
--- An event as it was written, with its definition and its stack in place of their ids.
-pub record EventEntry : Type 0 where
-  pub thread : ℕ
-  pub number : ℕ
-  pub stamp : ℕ
-  pub def : EventDef
-  pub activity : List ℕ
-  pub related : List ℕ
-  pub stack : List ℕ
-  pub payload : List ℕ
-
--- How far each thread had come.
-pub record PointEntry : Type 0 where
-  pub stamp : ℕ
-  pub threads : List (ℕ × ℕ)
-
-pub data Entry : Type 0 where
-  Event : (event : EventEntry) → Entry
-  Point : (point : PointEntry) → Entry
 
 -- What ids stand for: metadata ids for the whole stream, stack ids since the last point.
 pub record Names : Type 0 where

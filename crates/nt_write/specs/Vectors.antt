@@ -7,7 +7,7 @@ use Rattle.nt_write.specs.declared.head.HeadState.{HeadState}
 use Rattle.nt_write.specs.declared.object.BlockKind.{BlockKind}
 use Rattle.nt_write.specs.declared.object.BlockKind.TheVariants as block
 use Rattle.nt_write.specs.Head.{zero_state}
-use Rattle.nt_write.specs.Ordered.{Entry, Event, Point}
+use Rattle.ep_defs.specs.Entry.{Entry, Event, Point}
 use Rattle.nt_write.specs.Layout.{Draft, empty_layout, with_entries, flushed}
 
 -- The event E of the provider P, with id 1, level 4 and keywords 1.

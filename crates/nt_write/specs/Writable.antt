@@ -3,7 +3,7 @@ use Rattle.std.specs.Prelude.{◌≡◌, ℕ, ◌^◌, ◌<◌, ◌≤◌, List,
 use Rattle.std.specs.List.{AllByRecursion}
 use Rattle.ep_defs.specs.declared.event.EventDef.{EventDef}
 use Rattle.nt_write.specs.Meta.{meta_payload, FitsPayload}
-use Rattle.nt_write.specs.Ordered.{Entry, Event, Point, EventEntry, PointEntry}
+use Rattle.ep_defs.specs.Entry.{Entry, Event, Point, EventEntry, PointEntry}
 use Rattle.nt_write.specs.Layout.{Layout, with_entry}
 
 -- A definition whose payload fits a body.

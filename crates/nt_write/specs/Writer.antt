@@ -9,7 +9,7 @@ use Rattle.nt_write.specs.declared.writer.Fault.{Fault}
 use Rattle.nt_write.specs.declared.writer.EventOut.{EventOut}
 use Rattle.nt_write.specs.declared.writer.TraceWriter.{TraceWriter}
 use Rattle.nt_write.specs.Stream.{stream_start}
-use Rattle.nt_write.specs.Ordered.{EventEntry, PointEntry, Entry}
+use Rattle.ep_defs.specs.Entry.{EventEntry, PointEntry, Entry}
 use Rattle.nt_write.specs.Layout.{empty_layout, with_entries}
 use Rattle.nt_write.specs.Writable.{CanTell, HasNoStack}
 use Rattle.nt_write.specs.Writing.{IsAt}

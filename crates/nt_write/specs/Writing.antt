@@ -13,7 +13,7 @@ use Rattle.nt_write.specs.declared.writer.Fault.TheVariants.{WriteFault, TooLong
 use Rattle.nt_write.specs.declared.writer.TraceWriter.{TraceWriter}
 use Rattle.nt_write.specs.Object.{Block}
 use Rattle.nt_write.specs.Stream.{start_len, blocks_bytes}
-use Rattle.nt_write.specs.Ordered.{EventEntry}
+use Rattle.ep_defs.specs.Entry.{EventEntry}
 use Rattle.nt_write.specs.Layout.{Layout, id_in, with_member, new_metas, needs_flush, flushed}
 use Rattle.nt_write.specs.Making.{IsMaking, kind_of}
 

@@ -2,7 +2,7 @@ ghost use Rattle.std.specs.Prelude.{◌≡◌, ℕ, ◌^◌, ◌<◌, List, leng
 ghost use Rattle.std.specs.List.{AllByRecursion};
 ghost use Rattle.ep_defs.specs.declared.session.TraceInfo.{TraceInfo};
 ghost use Rattle.ep_defs.specs.Session.{is_info};
-ghost use Rattle.nt_write.specs.Ordered.{Entry};
+ghost use Rattle.ep_defs.specs.Entry.{Entry};
 ghost use Rattle.nt_write.specs.Layout.{empty_layout, with_entries};
 ghost use Rattle.nt_write.specs.Canonical.{encoded, IsCanonical};
 ghost use Rattle.nt_write.specs.Writable.{CanTell, StacksFit, HasNoStack};

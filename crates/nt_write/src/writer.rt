@@ -6,7 +6,7 @@ ghost use Rattle.ep_defs.specs.declared.session.TraceInfo.{TraceInfo};
 ghost use Rattle.ep_defs.specs.Event.{is_valid_event};
 ghost use Rattle.ep_defs.specs.Session.{is_info};
 ghost use Rattle.pt_io.specs.Faults.{HasRisen};
-ghost use Rattle.nt_write.specs.Ordered.{Entry, Event, Point};
+ghost use Rattle.ep_defs.specs.Entry.{Entry, Event, Point};
 ghost use Rattle.nt_write.specs.declared.writer.Fault.TheVariants.{WriteFault, TooLong};
 ghost use Rattle.nt_write.specs.Head.{zero_state};
 ghost use Rattle.nt_write.specs.Stream.{stream_start};

@@ -4,14 +4,14 @@ use Rattle.std.proofs.lemmas.List.{append-nil, take_all}
 use Rattle.std.specs.List.{flat_map, concat, AllByRecursion}
 use Rattle.std.proofs.Math.Nat.{mod-eq_of_lt}
 use mathlib.Core.List.{reverse_aux}
-use Rattle.nt_write.specs.Ordered.{Entry, Event, Point}
-use Rattle.nt_write.specs.Gaps.{sightings, missing, distance}
-use Rattle.pt_cli.specs.declared.model.Step.{Step}
-use Rattle.pt_cli.specs.declared.model.Step.TheVariants as step
-use Rattle.pt_cli.specs.History.{Past, admitted, admits_write, opened, is_present, is_open, in_write, shows, writes_of}
-use Rattle.pt_cli.specs.Lawful.{IsLawful, kind_of, is_hand_full, pending_count}
-use Rattle.pt_cli.specs.Entries.{entries}
-use Rattle.pt_cli.specs.Faithful.{AreFaithful, Share, Contents, contents_of, numbered, shares_of, no_refusals, kept, totals, events_of, is_of}
+use Rattle.ep_defs.specs.Entry.{Entry, Event, Point}
+use Rattle.ep_defs.specs.Gaps.{sightings, missing, distance}
+use Rattle.ep_model.specs.declared.step.Step.{Step}
+use Rattle.ep_model.specs.declared.step.Step.TheVariants as step
+use Rattle.ep_model.specs.History.{Past, admitted, admits_write, opened, is_present, is_open, in_write, shows, writes_of}
+use Rattle.ep_model.specs.Lawful.{IsLawful, kind_of, is_hand_full, pending_count}
+use Rattle.ep_model.specs.Entries.{entries}
+use Rattle.ep_model.specs.Faithful.{AreFaithful, Share, Contents, contents_of, numbered, shares_of, no_refusals, kept, totals, events_of, is_of}
 use Rattle.pt_cli.specs.FirstForm.{form_events, form_config, form_write, form_steps, ending, round_steps, IsForm}
 use Rattle.pt_cli.proofs.FormPast.{IsBetween, numbered_entries, opened_between, rounds_between, reverse_aux-append}
 

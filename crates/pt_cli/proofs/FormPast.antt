@@ -4,11 +4,11 @@ use Rattle.std.proofs.lemmas.Bool.{lt-leb}
 use Rattle.std.proofs.lemmas.List.{append-nil, append_assoc, map-append, length-append, length_push, replicate-append-replicate}
 use mathlib.Core.List.{reverse_aux}
 use Rattle.std.specs.List.{flat_map, concat}
-use Rattle.nt_write.specs.Ordered.{EventEntry, Event}
-use Rattle.pt_cli.specs.declared.model.Step.TheVariants as step
-use Rattle.pt_cli.specs.History.{Past, config_of, accepted, is_present, opened, is_open, writes_of, opened_at, in_write, shows}
-use Rattle.pt_cli.specs.Lawful.{IsLawful, kind_of, begins, pending_count, is_hand_full}
-use Rattle.pt_cli.specs.Entries.{entries, pending, event_entry}
+use Rattle.ep_defs.specs.Entry.{EventEntry, Event}
+use Rattle.ep_model.specs.declared.step.Step.TheVariants as step
+use Rattle.ep_model.specs.History.{Past, config_of, accepted, is_present, opened, is_open, writes_of, opened_at, in_write, shows}
+use Rattle.ep_model.specs.Lawful.{IsLawful, kind_of, begins, pending_count, is_hand_full}
+use Rattle.ep_model.specs.Entries.{entries, pending, event_entry}
 use Rattle.pt_cli.specs.FirstForm.{form_events, form_event, form_config, form_write, write_steps, round_steps}
 
 -- The entry of the write with this number and stamp.

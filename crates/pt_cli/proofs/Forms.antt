@@ -6,11 +6,11 @@ use Rattle.ep_defs.specs.declared.session.Write.{Write}
 use Rattle.pt_cli.specs.declared.form.Form.{Form}
 use Rattle.pt_cli.specs.declared.form.Place.{Place}
 use Rattle.pt_cli.specs.declared.form.Place.TheVariants as place
-use Rattle.pt_cli.specs.declared.model.Step.{Step}
-use Rattle.pt_cli.specs.declared.model.Step.TheVariants as step
+use Rattle.ep_model.specs.declared.step.Step.{Step}
+use Rattle.ep_model.specs.declared.step.Step.TheVariants as step
 use Rattle.pt_cli.specs.FirstForm.{IsForm, form_write, round_steps, write_steps, ending}
 use Rattle.pt_cli.specs.Form.{AreRoundsAfter, IsInRound, CanEnd, unshown, opened_by, IsAfter, Leads, IsRefused}
-use Rattle.pt_cli.specs.History.{opened, shows}
+use Rattle.ep_model.specs.History.{opened, shows}
 use Rattle.pt_cli.specs.Machine.{IsOfForm}
 
 -- ---- between rounds

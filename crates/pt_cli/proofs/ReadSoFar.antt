@@ -4,7 +4,7 @@ use Rattle.std.specs.Prelude.{IsTrue, ◌≢◌}
 use Rattle.std.specs.List.{AllByRecursion}
 use Rattle.pt_cli.specs.declared.form.Form.{Form}
 use Rattle.pt_cli.specs.declared.machine.Machine.{Machine}
-use Rattle.pt_cli.specs.declared.model.Step.{Step}
+use Rattle.ep_model.specs.declared.step.Step.{Step}
 use Rattle.pt_cli.specs.FirstForm.{event_line, Spells, SpellAll, IsForm, IsSchedule, IsText}
 use Rattle.pt_cli.specs.Form.{IsAfter}
 use Rattle.pt_cli.specs.Machine.{Follows}

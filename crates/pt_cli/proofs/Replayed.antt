@@ -3,9 +3,9 @@ use Rattle.std.proofs.Common.{◌≡◌, ℕ, List, reverse, ap}
 use Rattle.ep_defs.specs.Session.{standard_info_of}
 use Rattle.nt_write.specs.Ordered.{kinds_of}
 use Rattle.nt_write.specs.Canonical.{IsCanonical}
-use Rattle.pt_cli.specs.declared.model.Step.{Step}
-use Rattle.pt_cli.specs.Entries.{entries}
-use Rattle.pt_cli.specs.Faithful.{shares_of, no_refusals, totals}
+use Rattle.ep_model.specs.declared.step.Step.{Step}
+use Rattle.ep_model.specs.Entries.{entries}
+use Rattle.ep_model.specs.Faithful.{shares_of, no_refusals, totals}
 use Rattle.pt_cli.specs.FirstForm.{form_events, IsForm}
 use Rattle.pt_cli.specs.Replay.{IsReplayed}
 use Rattle.pt_cli.proofs.FormLaws.{form_is_lawful, form_is_faithful, form_ends}

@@ -6,8 +6,8 @@ use Rattle.std.proofs.lemmas.Bool.{and_parts}
 use Rattle.std.proofs.lemmas.Bool.Decides.{nat_tests}
 use Rattle.std.specs.Int.{is_in_range}
 use Rattle.std.specs.List.{list_all, AllByRecursion, concat}
-use Rattle.pt_cli.specs.declared.model.Step.{Step}
-use Rattle.pt_cli.specs.declared.model.Step.TheVariants as step
+use Rattle.ep_model.specs.declared.step.Step.{Step}
+use Rattle.ep_model.specs.declared.step.Step.TheVariants as step
 use Rattle.pt_cli.specs.FirstForm.{IsText, Spells, SpellAll, IsForm, IsSchedule, IsStamp, begin_line, finish_line, event_line}
 use Rattle.pt_cli.specs.Machine.{IsOfForm}
 use Rattle.pt_cli.specs.Replay.{IsNoSchedule}

@@ -5,11 +5,11 @@ use Rattle.std.specs.Result.{is_ok}
 use Rattle.ep_defs.specs.declared.event.EventDef.{EventDef}
 use Rattle.pt_io.specs.Memory.{SinkState}
 use Rattle.nt_write.specs.declared.writer.TraceWriter.{TraceWriter}
-use Rattle.nt_write.specs.Ordered.{Entry, Event, Point}
+use Rattle.ep_defs.specs.Entry.{Entry, Event, Point}
 use Rattle.nt_write.specs.Writer.{point_of}
 use Rattle.nt_write.specs.Writing.{AreDistinct, definition_at}
-use Rattle.pt_cli.specs.History.{Past, opened}
-use Rattle.pt_cli.specs.Entries.{entries, told_number, event_entry, point_entry}
+use Rattle.ep_model.specs.History.{Past, opened}
+use Rattle.ep_model.specs.Entries.{entries, told_number, event_entry, point_entry}
 use Rattle.pt_cli.specs.FirstForm.{form_event, form_events, form_write}
 use Rattle.pt_cli.specs.declared.machine.Shown.{Shown}
 use Rattle.pt_cli.specs.Machine.{IsTelling, shown_entry}

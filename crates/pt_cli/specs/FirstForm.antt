@@ -5,8 +5,8 @@ use Rattle.std.specs.Int.{is_in_range}
 use Rattle.ep_defs.specs.declared.event.EventDef.{EventDef}
 use Rattle.ep_defs.specs.declared.session.Config.{Config}
 use Rattle.ep_defs.specs.declared.session.Write.{Write}
-use Rattle.pt_cli.specs.declared.model.Step.{Step}
-use Rattle.pt_cli.specs.declared.model.Step.TheVariants as step
+use Rattle.ep_model.specs.declared.step.Step.{Step}
+use Rattle.ep_model.specs.declared.step.Step.TheVariants as step
 
 -- ---- lines
 

@@ -4,10 +4,10 @@ use Rattle.std.specs.List.{concat, flat_map, AllByRecursion}
 use Rattle.pt_cli.specs.declared.form.Form.{Form}
 use Rattle.pt_cli.specs.declared.form.Place.{Place}
 use Rattle.pt_cli.specs.declared.form.Place.TheVariants as place
-use Rattle.pt_cli.specs.declared.model.Step.{Step}
-use Rattle.pt_cli.specs.declared.model.Step.TheVariants as step
+use Rattle.ep_model.specs.declared.step.Step.{Step}
+use Rattle.ep_model.specs.declared.step.Step.TheVariants as step
 use Rattle.pt_cli.specs.FirstForm.{IsForm, opening, round_steps, ending}
-use Rattle.pt_cli.specs.History.{Past, opened, shows}
+use Rattle.ep_model.specs.History.{Past, opened, shows}
 use Rattle.pt_cli.specs.Machine.{IsOfForm}
 
 -- ---- what may still come

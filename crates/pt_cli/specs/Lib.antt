@@ -1,9 +1,6 @@
-pub mod Entries
 pub mod Faithful
 pub mod FirstForm
 pub mod Form
-pub mod History
-pub mod Lawful
 pub mod Lines
 pub mod Machine
 pub mod Replay

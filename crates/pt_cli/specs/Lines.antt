@@ -1,6 +1,6 @@
 -- What of a step a line's fixed words don't say.
-use Rattle.pt_cli.specs.declared.model.Step.{Step}
-use Rattle.pt_cli.specs.declared.model.Step.TheVariants as step
+use Rattle.ep_model.specs.declared.step.Step.{Step}
+use Rattle.ep_model.specs.declared.step.Step.TheVariants as step
 
 -- A step with a config or a stamp.
 abbrev pub HasPart : Step → Type 0

@@ -4,14 +4,14 @@ use Rattle.std.specs.Option.{option_map}
 use Rattle.ep_defs.specs.Session.{standard_info_of}
 use Rattle.pt_io.specs.Memory.{SinkState}
 use Rattle.nt_write.specs.declared.writer.TraceWriter.{TraceWriter}
-use Rattle.nt_write.specs.Ordered.{EventEntry, Entry}
+use Rattle.ep_defs.specs.Entry.{EventEntry, Entry}
 use Rattle.nt_write.specs.Writer.{IsWriting}
 use Rattle.pt_cli.specs.declared.machine.Machine.{Machine}
 use Rattle.pt_cli.specs.declared.machine.Shown.{Shown}
-use Rattle.pt_cli.specs.declared.model.Step.{Step}
-use Rattle.pt_cli.specs.declared.model.Step.TheVariants as step
-use Rattle.pt_cli.specs.History.{Past, Begun, last_begun, opened, shows}
-use Rattle.pt_cli.specs.Entries.{event_entry, pending, told_number, entries}
+use Rattle.ep_model.specs.declared.step.Step.{Step}
+use Rattle.ep_model.specs.declared.step.Step.TheVariants as step
+use Rattle.ep_model.specs.History.{Past, Begun, last_begun, opened, shows}
+use Rattle.ep_model.specs.Entries.{event_entry, pending, told_number, entries}
 use Rattle.pt_cli.specs.FirstForm.{form_event, form_events, form_config, form_write}
 
 -- The step is one of session 1, thread 1 and the one event of the form.

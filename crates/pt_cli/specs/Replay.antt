@@ -3,11 +3,12 @@ use Rattle.std.specs.Prelude.{◌≡◌, ℕ, ◌++◌, ◌⊎◌, Bool, List, [
 use Rattle.std.specs.String.{string_bytes}
 use Rattle.ep_defs.specs.Session.{standard_info_of}
 use Rattle.nt_write.specs.Canonical.{IsCanonical}
-use Rattle.pt_cli.specs.declared.model.Step.{Step}
-use Rattle.pt_cli.specs.History.{Past}
-use Rattle.pt_cli.specs.Lawful.{IsLawful}
-use Rattle.pt_cli.specs.Entries.{entries}
-use Rattle.pt_cli.specs.Faithful.{Faithful, shares_of, no_refusals}
+use Rattle.ep_model.specs.declared.step.Step.{Step}
+use Rattle.ep_model.specs.History.{Past}
+use Rattle.ep_model.specs.Lawful.{IsLawful}
+use Rattle.ep_model.specs.Entries.{entries}
+use Rattle.ep_model.specs.Faithful.{shares_of, no_refusals}
+use Rattle.pt_cli.specs.Faithful.{Faithful}
 use Rattle.pt_cli.specs.FirstForm.{form_events, IsSchedule}
 
 -- The words are the one word `replay`.

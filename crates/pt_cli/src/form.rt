@@ -1,9 +1,9 @@
 //! The order of the steps in the first form.
 ghost use Rattle.std.specs.Prelude.{◌≡◌, ◌≤◌, ◌+◌, ◌++◌, ◌↔◌, ℕ, List, [], ◌∷◌, IsTrue, reverse, false, IfSome, OnSome, IfNone};
-ghost use Rattle.pt_cli.specs.declared.model.Step.{Step};
+ghost use Rattle.ep_model.specs.declared.step.Step.{Step};
 ghost use Rattle.pt_cli.specs.FirstForm.{IsForm};
 
-use crate::model::Step;
+use ep_model::Step;
 
 /// How far the steps of a schedule have come.
 #[derive(Clone, Copy, Debug)]
@@ -22,7 +22,7 @@ enum Place {
 }
 
 impl Place {
-    ghost use Rattle.pt_cli.specs.declared.model.Step.TheVariants.{Open};
+    ghost use Rattle.ep_model.specs.declared.step.Step.TheVariants.{Open};
     ghost use Rattle.pt_cli.specs.Form.{Leads, IsRefused, opened_by};
 
     // Where the step leads, if it may come next. That writes are few is left to the caller.
@@ -58,8 +58,8 @@ pub(crate) struct Form {
 }
 
 impl Form {
-    ghost use Rattle.pt_cli.specs.declared.model.Step.TheVariants.{Open};
-    ghost use Rattle.pt_cli.specs.History.{opened, shows};
+    ghost use Rattle.ep_model.specs.declared.step.Step.TheVariants.{Open};
+    ghost use Rattle.ep_model.specs.History.{opened, shows};
     ghost use Rattle.pt_cli.specs.Machine.{IsOfForm};
     ghost use Rattle.pt_cli.specs.Form.{IsAfter};
 

@@ -11,9 +11,8 @@
 mod form;
 mod lines;
 mod machine;
-mod model;
 mod replay;
 mod top;
 
-pub use model::{Kind, Step, Unlawful};
+pub use ep_model::{Kind, Step, Unlawful};
 pub use top::{Finished, tracepipe};

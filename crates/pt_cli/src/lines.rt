@@ -1,11 +1,11 @@
 //! Reading a line of a schedule.
 ghost use Rattle.std.specs.Prelude.{◌≡◌, ◌≢◌, ◌++◌, ◌⊎◌, ◌==◌, ℕ, List, [], ◌∷◌, Some, not, IfOk, IfSome, OnSome, IfNone, IsTrue};
 ghost use Rattle.std.specs.List.{list_all};
-ghost use Rattle.pt_cli.specs.declared.model.Step.{Step};
+ghost use Rattle.ep_model.specs.declared.step.Step.{Step};
 ghost use Rattle.pt_cli.specs.FirstForm.{Spells, IsStamp, begin_line, finish_line, form_config, form_write};
 ghost use Rattle.pt_cli.specs.Lines.{HasPart};
 
-use crate::model::Step;
+use ep_model::Step;
 use ep_defs::{Config, Items, Rule, Write};
 use std::alloc::{AllocError, Global};
 

@@ -2,7 +2,7 @@
 ghost use Rattle.std.specs.Prelude.{◌≡◌, ◌+◌, ◌<◌, ◌≤◌, ◌^◌, ◌-◌, ◌++◌, List, [], ◌∷◌, map, false, IfOk, OnOk};
 ghost use Rattle.pt_cli.specs.FirstForm.{form_event, form_events};
 
-use crate::model::Step;
+use ep_model::Step;
 use ep_defs::{EventDef, Items, standard_info};
 use nt_write::{EventOut, TraceWriter};
 use pt_io::MemSink;
@@ -56,10 +56,10 @@ impl Machine {
     ghost use Rattle.ep_defs.specs.Session.{standard_info_of};
     ghost use Rattle.pt_io.specs.Memory.{SinkState};
     ghost use Rattle.nt_write.specs.Canonical.{IsCanonical};
-    ghost use Rattle.nt_write.specs.Ordered.{Entry, Event};
-    ghost use Rattle.pt_cli.specs.declared.model.Step.TheVariants.{Accept, Open, Begin, Show, End, Steal, Give, Close, Finish};
-    ghost use Rattle.pt_cli.specs.History.{Past};
-    ghost use Rattle.pt_cli.specs.Entries.{entries};
+    ghost use Rattle.ep_defs.specs.Entry.{Entry, Event};
+    ghost use Rattle.ep_model.specs.declared.step.Step.TheVariants.{Accept, Open, Begin, Show, End, Steal, Give, Close, Finish};
+    ghost use Rattle.ep_model.specs.History.{Past};
+    ghost use Rattle.ep_model.specs.Entries.{entries};
     ghost use Rattle.pt_cli.specs.FirstForm.{form_write};
     ghost use Rattle.pt_cli.specs.Machine.{Follows, IsOfForm, IsTelling, shown_entry, shows_of, is_opened};
 

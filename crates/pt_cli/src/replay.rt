@@ -1,6 +1,6 @@
 //! The stream that a schedule replays.
 ghost use Rattle.std.specs.Prelude.{◌≡◌, ◌↔◌, ◌++◌, List, [], ◌∷◌, reverse, false, IsTrue, IfOk, IfSome, IfNone};
-ghost use Rattle.pt_cli.specs.declared.model.Step.{Step};
+ghost use Rattle.ep_model.specs.declared.step.Step.{Step};
 ghost use Rattle.pt_cli.specs.FirstForm.{event_line, Spells, IsForm, IsSchedule};
 ghost use Rattle.pt_cli.specs.Form.{IsAfter};
 ghost use Rattle.pt_cli.specs.Machine.{Follows};

@@ -3,7 +3,7 @@ ghost use Rattle.std.specs.Prelude.{◌≡◌, ◌≢◌, ◌⊎◌, ◌↔◌, 
 ghost use Rattle.std.specs.String.{string_bytes};
 ghost use Rattle.pt_io.specs.Faults.{HasRisen};
 ghost use Rattle.pt_io.specs.Taken.{TookPartOf};
-ghost use Rattle.pt_cli.specs.declared.model.Step.{Step};
+ghost use Rattle.ep_model.specs.declared.step.Step.{Step};
 ghost use Rattle.pt_cli.specs.FirstForm.{IsSchedule};
 ghost use Rattle.pt_cli.specs.Replay.{IsReplay, IsReplayed, IsNoSchedule, ReadAll, TookText, IsAnswer, words_error, form_error};
 

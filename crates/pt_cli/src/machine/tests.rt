@@ -5,7 +5,7 @@ ghost use Rattle.pt_cli.specs.FirstForm.{form_config, form_write};
 ghost use Rattle.pt_cli.specs.Machine.{shows_of};
 
 use crate::machine::Machine;
-use crate::model::Step;
+use ep_model::Step;
 use ep_defs::{Config, Items, Rule, Write};
 use std::alloc::{AllocError, Global};
 use std::test::Fail;

@@ -1,5 +1,5 @@
 use Rattle.std.proofs.Common.{Some, refl, ap}
-use Rattle.pt_cli.specs.declared.model.Step.TheVariants as step
+use Rattle.ep_model.specs.declared.step.Step.TheVariants as step
 use Rattle.pt_cli.proofs.Spelled.{same-step}
 use Rattle.pt_cli.proofs.lines.read_step.Goals as goal
 

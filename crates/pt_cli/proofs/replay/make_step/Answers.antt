@@ -2,10 +2,10 @@
 use Rattle.std.proofs.Common.{◌≡◌, ℕ, Bool, false, true, List, [], ◌∷◌, ◌++◌, reverse, refl, sym, ap, ◌∙◌, subst}
 use Rattle.std.specs.Prelude.{if◌then◌else◌}
 use Rattle.std.proofs.lemmas.List.{reverse-append}
-use Rattle.pt_cli.specs.declared.model.Step.{Step}
-use Rattle.pt_cli.specs.declared.model.Step.TheVariants.{Open}
+use Rattle.ep_model.specs.declared.step.Step.{Step}
+use Rattle.ep_model.specs.declared.step.Step.TheVariants.{Open}
 use Rattle.pt_cli.specs.declared.machine.Machine.{Machine}
-use Rattle.pt_cli.specs.History.{Past}
+use Rattle.ep_model.specs.History.{Past}
 use Rattle.pt_cli.specs.Machine.{Follows, is_opened}
 use Rattle.pt_cli.proofs.SpelledLines.{Spells-of_form}
 use Rattle.pt_cli.proofs.replay.make_step.Goals as goal

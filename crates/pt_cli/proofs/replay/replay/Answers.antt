@@ -1,7 +1,7 @@
 -- What the loop has read makes the bytes a schedule, or keeps them from being one.
 use Rattle.std.proofs.Common.{◌≡◌, List, ℕ, true, false, reverse, ap, sym, ◌∙◌, subst, rules}
 use Rattle.std.proofs.lemmas.Bool.{false≢true}
-use Rattle.pt_cli.specs.declared.model.Step.{Step}
+use Rattle.ep_model.specs.declared.step.Step.{Step}
 use Rattle.pt_cli.specs.FirstForm.{event_line, IsForm}
 use Rattle.pt_cli.proofs.ReadSoFar.{read-none, read-more, no-event, no-lines, refused-line, unfinished, finished}
 use Rattle.pt_cli.proofs.Replayed.{replayed}

@@ -1,7 +1,7 @@
 -- What was read and what was to be written is named at each end that the search leaves.
 use Rattle.std.proofs.Common.{◌≡◌, ◌⊎◌, ℕ, List, [], ◌∷◌, map, codes, rules, refl, IsTrue, false, true, sym, ap, ◌∙◌, subst, inl, inr}
 use Rattle.std.specs.String.{string_bytes}
-use Rattle.pt_cli.specs.declared.model.Step.{Step}
+use Rattle.ep_model.specs.declared.step.Step.{Step}
 use Rattle.pt_cli.specs.FirstForm.{IsSchedule}
 use Rattle.pt_cli.specs.Replay.{IsReplay, IsNoSchedule, words_error, form_error}
 use Rattle.pt_cli.proofs.top.tracepipe.Goals as goal

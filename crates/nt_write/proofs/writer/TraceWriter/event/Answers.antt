@@ -1,6 +1,6 @@
 use Rattle.std.proofs.Common.{◌++◌, refl}
 use Rattle.nt_write.specs.Stream.{stream_start, blocks_bytes}
-use Rattle.nt_write.specs.Ordered.{Event}
+use Rattle.ep_defs.specs.Entry.{Event}
 use Rattle.nt_write.specs.Layout.{empty_layout, with_entries}
 use Rattle.nt_write.specs.Writing.{roomy}
 use Rattle.nt_write.specs.Writer.{entry_of}

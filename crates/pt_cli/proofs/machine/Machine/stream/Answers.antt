@@ -2,7 +2,7 @@ use Rattle.std.proofs.Common.{ℕ, List, [], refl, sym, ◌∙◌, subst}
 use Rattle.std.proofs.lemmas.Result.{IfOk-weaker}
 use Rattle.ep_defs.specs.Session.{standard_info_of}
 use Rattle.nt_write.specs.Canonical.{IsCanonical}
-use Rattle.pt_cli.specs.Entries.{entries}
+use Rattle.ep_model.specs.Entries.{entries}
 use Rattle.pt_cli.specs.FirstForm.{form_events}
 use Rattle.pt_cli.proofs.Telling.{OnOk-where}
 use Rattle.pt_cli.proofs.machine.Machine.stream.Goals as goal

@@ -1,5 +1,5 @@
 use Rattle.std.proofs.Common.{◌++◌, List, map, take}
-use Rattle.nt_write.specs.Ordered.{Entry, Event}
+use Rattle.ep_defs.specs.Entry.{Entry, Event}
 use Rattle.pt_cli.specs.Machine.{IsTelling, shown_entry}
 use Rattle.pt_cli.proofs.machine.Machine.write_all.Given as goal
 

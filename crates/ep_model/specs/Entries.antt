@@ -1,17 +1,16 @@
 -- What a session's stream tells.
 use Rattle.std.specs.Prelude.{ℕ, ◌+◌, ◌&&◌, List, [], ◌∷◌, ◌++◌, map, Option, Some, None, ◌==◌, if◌then◌else◌}
 use Rattle.std.specs.List.{flat_map}
-use Rattle.std.specs.Int.{w64}
+use Rattle.std.specs.Int.{w64, to_le_bytes}
 use Rattle.ep_defs.specs.declared.event.EventDef.{EventDef}
 use Rattle.ep_defs.specs.declared.session.Write.{Write}
-use Rattle.nt_write.specs.Ordered.{EventEntry, PointEntry, Entry, Event, Point}
-use Rattle.pt_cli.specs.declared.model.Step.TheVariants as step
-use Rattle.pt_cli.specs.History.{Past, Begun, last_begun, event_at, opened, shows}
-use Rattle.nt_write.specs.Numbers.{fixed}
+use Rattle.ep_defs.specs.Entry.{EventEntry, PointEntry, Entry, Event, Point}
+use Rattle.ep_model.specs.declared.step.Step.TheVariants as step
+use Rattle.ep_model.specs.History.{Past, Begun, last_begun, event_at, opened, shows}
 
 -- A stack's addresses, of 8 bytes each.
 abbrev pub frame_bytes : List ℕ → List ℕ
-frame_bytes frames = flat_map (fixed w64) frames
+frame_bytes frames = flat_map (to_le_bytes w64) frames
 
 abbrev pub event_entry : ℕ → ℕ → ℕ → Write → EventDef → EventEntry
 event_entry thread number stamp write def =

@@ -4,12 +4,12 @@ use Rattle.std.specs.List.{list_any}
 use Rattle.std.specs.Int.{is_in_range}
 use Rattle.ep_defs.specs.declared.event.EventDef.{EventDef}
 use Rattle.ep_defs.specs.Session.{is_valid_config, fits}
-use Rattle.pt_cli.specs.declared.model.Step.{Step}
-use Rattle.pt_cli.specs.declared.model.Step.TheVariants as step
-use Rattle.pt_cli.specs.declared.model.Kind.{Kind}
-use Rattle.pt_cli.specs.declared.model.Kind.TheVariants.{SessionNumber, BadConfig, Full, NoSession, NoThread, AlreadyOpen, InWrite, NotInWrite, NoEvent, TooLarge, TooMany, NotDue, ShowsDue, NotOpen, HandFull, StillOpen}
-use Rattle.pt_cli.specs.declared.model.Unlawful.{Unlawful}
-use Rattle.pt_cli.specs.History.{Past, accepted, is_present, present, opened, is_open, in_write, event_at, is_due}
+use Rattle.ep_model.specs.declared.step.Step.{Step}
+use Rattle.ep_model.specs.declared.step.Step.TheVariants as step
+use Rattle.ep_model.specs.declared.step.Kind.{Kind}
+use Rattle.ep_model.specs.declared.step.Kind.TheVariants.{SessionNumber, BadConfig, Full, NoSession, NoThread, AlreadyOpen, InWrite, NotInWrite, NoEvent, TooLarge, TooMany, NotDue, ShowsDue, NotOpen, HandFull, StillOpen}
+use Rattle.ep_model.specs.declared.step.Unlawful.{Unlawful}
+use Rattle.ep_model.specs.History.{Past, accepted, is_present, present, opened, is_open, in_write, event_at, is_due}
 
 -- Threads 1 to 256.
 abbrev pub is_thread : ℕ → Bool

@@ -1,7 +1,7 @@
 -- How many of a thread's events are missing, as the numbers in a stream tell it (the NetTrace format document of PerfView (version 4), on sequence numbers).
 use Rattle.std.specs.Prelude.{ℕ, ◌+◌, ◌-◌, ◌%◌, ◌^◌, List, [], ◌∷◌, filter, map, ◌==◌, if◌then◌else◌}
 use Rattle.std.specs.List.{flat_map}
-use Rattle.nt_write.specs.Ordered.{Entry, Event, Point}
+use Rattle.ep_defs.specs.Entry.{Entry, Event, Point}
 
 -- A number of a thread: an event's own, or the last one that a point knows of.
 pub data Sighting : Type 0 where

@@ -5,8 +5,8 @@ use Rattle.ep_defs.specs.declared.event.EventDef.{EventDef}
 use Rattle.ep_defs.specs.declared.session.Config.{Config}
 use Rattle.ep_defs.specs.declared.session.Write.{Write}
 use Rattle.ep_defs.specs.Admits.{session_admits}
-use Rattle.pt_cli.specs.declared.model.Step.{Step}
-use Rattle.pt_cli.specs.declared.model.Step.TheVariants as step
+use Rattle.ep_model.specs.declared.step.Step.{Step}
+use Rattle.ep_model.specs.declared.step.Step.TheVariants as step
 
 abbrev pub Past : Type 0
 Past = List Step
@@ -30,6 +30,12 @@ is_present session [] = false
 is_present session (step.Accept s config ∷ past) = (s == session) || is_present session past
 is_present session (step.Finish s stamp ∷ past) = not (s == session) && is_present session past
 is_present session (_ ∷ past) = is_present session past
+
+-- Its stream has ended.
+abbrev pub is_finished : ℕ → Past → Bool
+is_finished session [] = false
+is_finished session (step.Finish s stamp ∷ past) = (s == session) || is_finished session past
+is_finished session (_ ∷ past) = is_finished session past
 
 abbrev pub present : Past → List ℕ
 present past = filter (λ s. is_present s past) (accepted past)

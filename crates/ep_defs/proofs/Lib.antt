@@ -1,0 +1,2 @@
+pub mod Sameness
+mod Units
