@@ -1,0 +1,93 @@
+-- The words of a line that is written.
+use Rattle.std.proofs.Common.{◌≡◌, ℕ, ◌+◌, ◌<◌, ◌≤◌, List, [], ◌∷◌, ◌++◌, length, map, take, get_or, refl, sym, ap, ◌∙◌, subst, append_assoc, Result, Ok, Err, OnOk}
+use Rattle.std.specs.List.{join_with_byte, AllByRecursion}
+use Rattle.std.proofs.lemmas.List.{append-nil, take_more, take_all, map-append}
+use Rattle.ep_defs.specs.declared.session.Rule.{Rule}
+use Rattle.ep_plan.specs.Words.{number_text, rule_text}
+use Rattle.ep_plan.specs.Printing.{spaced, number_words, RuleFits}
+use Rattle.ep_plan.proofs.Texts.{join-push}
+
+-- ---- words behind others
+
+pub spaced-append : (xs ys : List (List ℕ)) → spaced (xs ++ ys) ≡ spaced xs ++ spaced ys
+spaced-append [] ys = refl
+spaced-append (x ∷ xs) ys = ap (λ rest. (32 ∷ x) ++ rest) (spaced-append xs ys) ∙ sym (append_assoc (32 ∷ x) (spaced xs) (spaced ys))
+
+-- One word more was written.
+pub word-more : (start line next : List ℕ) (words : List (List ℕ)) (word : List ℕ) → line ≡ start ++ spaced words → next ≡ line ++ 32 ∷ word → next ≡ start ++ spaced (words ++ word ∷ [])
+word-more start line next words word h more =
+    let one : spaced (words ++ word ∷ []) ≡ spaced words ++ 32 ∷ word = spaced-append words (word ∷ []) ∙ ap (λ w. spaced words ++ 32 ∷ w) (append-nil word) in
+    let behind : List ℕ → List ℕ = λ text. text ++ 32 ∷ word in
+    let whole : List ℕ → List ℕ = λ text. start ++ text in
+    more ∙ ap behind h ∙ append_assoc start (spaced words) (32 ∷ word) ∙ ap whole (sym one)
+
+pub no-words : (start : List ℕ) → start ≡ start ++ spaced []
+no-words start = sym (append-nil start)
+
+-- The words of a line are the first one and those behind it.
+join-spaced : (first : List ℕ) (words : List (List ℕ)) → join_with_byte 32 (first ∷ words) ≡ first ++ spaced words
+join-spaced first [] = sym (append-nil first)
+join-spaced first (word ∷ words) = ap (λ rest. first ++ 32 ∷ rest) (join-spaced word words)
+
+pub join-more : (first : List ℕ) (xs ys : List (List ℕ)) → join_with_byte 32 (first ∷ (xs ++ ys)) ≡ join_with_byte 32 (first ∷ xs) ++ spaced ys
+join-more first xs ys =
+    let behind : List ℕ → List ℕ = λ text. text ++ spaced ys in
+    join-spaced first (xs ++ ys) ∙ ap (λ rest. first ++ rest) (spaced-append xs ys) ∙ sym (append_assoc first (spaced xs) (spaced ys)) ∙ ap behind (sym (join-spaced first xs))
+
+-- Words were written behind a line.
+pub line-more : (start line next first : List ℕ) (xs ys : List (List ℕ)) → line ≡ start ++ join_with_byte 32 (first ∷ xs) → next ≡ line ++ spaced ys → next ≡ start ++ join_with_byte 32 (first ∷ (xs ++ ys))
+line-more start line next first xs ys h more =
+    let behind : List ℕ → List ℕ = λ text. text ++ spaced ys in
+    let whole : List ℕ → List ℕ = λ text. start ++ text in
+    more ∙ ap behind h ∙ append_assoc start (join_with_byte 32 (first ∷ xs)) (spaced ys) ∙ ap whole (sym (join-more first xs ys))
+
+-- ---- numbers
+
+number-push : (name : List ℕ) (numbers : List ℕ) (count : ℕ) → count < length numbers → join_with_byte 32 (number_words name (take (count + 1) numbers)) ≡ join_with_byte 32 (number_words name (take count numbers)) ++ 32 ∷ number_text (get_or numbers count 0)
+number-push name numbers count within =
+    let more : map number_text (take (count + 1) numbers) ≡ map number_text (take count numbers) ++ number_text (get_or numbers count 0) ∷ [] =
+    ap (map number_text) (take_more numbers count 0 within) ∙ map-append number_text (take count numbers) (get_or numbers count 0 ∷ []) in
+    ap (λ words. join_with_byte 32 (name ∷ words)) more ∙ join-push 32 name (map number_text (take count numbers)) (number_text (get_or numbers count 0))
+
+pub number-more : (start line spaced next name : List ℕ) (numbers : List ℕ) (count : ℕ) → count < length numbers → line ≡ start ++ join_with_byte 32 (number_words name (take count numbers)) → spaced ≡ line ++ 32 ∷ [] → next ≡ spaced ++ number_text (get_or numbers count 0) → next ≡ start ++ join_with_byte 32 (number_words name (take (count + 1) numbers))
+number-more start line spaced next name numbers count within h space more =
+    let text = number_text (get_or numbers count 0) in
+    let words = join_with_byte 32 (number_words name (take count numbers)) in
+    let behind : List ℕ → List ℕ = λ before. before ++ text in
+    let between : List ℕ → List ℕ = λ before. before ++ 32 ∷ [] in
+    let whole : List ℕ → List ℕ = λ after. start ++ after in
+    more ∙ ap behind (space ∙ ap between h) ∙ append_assoc (start ++ words) (32 ∷ []) text ∙ append_assoc start words (32 ∷ text) ∙ ap whole (sym (number-push name numbers count within))
+
+pub number-all : (start line name : List ℕ) (numbers : List ℕ) (count : ℕ) → length numbers ≤ count → line ≡ start ++ join_with_byte 32 (number_words name (take count numbers)) → line ≡ start ++ join_with_byte 32 (number_words name numbers)
+number-all start line name numbers count all h = h ∙ ap (λ ns. start ++ join_with_byte 32 (number_words name ns)) (take_all count numbers all)
+
+-- ---- rules
+
+pub rule-more : (start line next : List ℕ) (rules : List Rule) (rule : Rule) (count : ℕ) → count < length rules → rule ≡ get_or rules count rule → line ≡ start ++ spaced (map rule_text (take count rules)) → next ≡ line ++ 32 ∷ rule_text rule → next ≡ start ++ spaced (map rule_text (take (count + 1) rules))
+rule-more start line next rules rule count within is h more =
+    let item : map rule_text (take (count + 1) rules) ≡ map rule_text (take count rules) ++ rule_text rule ∷ [] =
+    ap (map rule_text) (take_more rules count rule within ∙ ap (λ r. take count rules ++ r ∷ []) (sym is)) ∙ map-append rule_text (take count rules) (rule ∷ []) in
+    word-more start line next (map rule_text (take count rules)) (rule_text rule) h more ∙ ap (λ words. start ++ spaced words) (sym item)
+
+fits-append : (rules : List Rule) (rule : Rule) → AllByRecursion RuleFits rules → RuleFits rule → AllByRecursion RuleFits (rules ++ rule ∷ [])
+fits-append [] rule all one = (one, tt)
+fits-append (first ∷ rules) rule all one = (all.0, fits-append rules rule all.1 one)
+
+pub fits-more : (rules : List Rule) (rule : Rule) (count : ℕ) → count < length rules → rule ≡ get_or rules count rule → AllByRecursion RuleFits (take count rules) → RuleFits rule → AllByRecursion RuleFits (take (count + 1) rules)
+fits-more rules rule count within is all one =
+    let item : take (count + 1) rules ≡ take count rules ++ rule ∷ [] = take_more rules count rule within ∙ ap (λ r. take count rules ++ r ∷ []) (sym is) in
+    let P : List Rule → Type 0 = λ rs. AllByRecursion RuleFits rs in
+    subst P (sym item) (fits-append (take count rules) rule all one)
+
+pub fits-all : (rules : List Rule) (count : ℕ) → length rules ≤ count → AllByRecursion RuleFits (take count rules) → AllByRecursion RuleFits rules
+fits-all rules count all h =
+    let P : List Rule → Type 0 = λ rs. AllByRecursion RuleFits rs in
+    subst P (take_all count rules all) h
+
+pub word-all : (start line : List ℕ) (rules : List Rule) (count : ℕ) → length rules ≤ count → line ≡ start ++ spaced (map rule_text (take count rules)) → line ≡ start ++ spaced (map rule_text rules)
+word-all start line rules count all h = h ∙ ap (λ rs. start ++ spaced (map rule_text rs)) (take_all count rules all)
+
+-- Words were written behind a line, where there was memory.
+pub ok-line : {T E : Type 0} (r : Result T E) (start line next first : List ℕ) (xs ys : List (List ℕ)) → line ≡ start ++ join_with_byte 32 (first ∷ xs) → OnOk r (next ≡ line ++ spaced ys) → OnOk r (next ≡ start ++ join_with_byte 32 (first ∷ (xs ++ ys)))
+ok-line (Ok x) start line next first xs ys h more = line-more start line next first xs ys h more
+ok-line (Err e) start line next first xs ys h more = tt

@@ -1,0 +1,75 @@
+-- The words of rules that were read one after another.
+use Rattle.std.proofs.Common.{◌≡◌, ◌≢◌, ◌⊎◌, inl, inr, ℕ, suc, ◌+◌, ◌-◌, ◌<◌, ◌≤◌, List, [], ◌∷◌, ◌++◌, length, Option, Some, None, option_map, refl, sym, ap, ◌∙◌, arith, length-append, append_assoc}
+use Rattle.std.proofs.lemmas.List.{append-nil}
+use Rattle.ep_defs.specs.declared.session.Rule.{Rule as RuleValue}
+use Rattle.ep_plan.specs.declared.cursor.Cursor.{Cursor}
+use Rattle.ep_plan.specs.Lines.{Rule, Bad, first_bad}
+use Rattle.ep_plan.specs.Words.{rule_in, all_in, with_first}
+use Rattle.ep_plan.specs.Cursor.{left, column_of, bad_left, Took}
+use Rattle.ep_plan.proofs.Reading.{is-end}
+
+-- What the words left spell, behind the rules so far.
+abbrev pub behind : List RuleValue → List (List ℕ) → Option (List RuleValue)
+behind rules words = option_map (λ more. rules ++ more) (all_in rule_in words)
+
+behind-none : (o : Option (List RuleValue)) → o ≡ option_map (λ more. [] ++ more) o
+behind-none None = refl
+behind-none (Some rules) = refl
+
+-- One more rule.
+behind-first : (rules : List RuleValue) (rule : RuleValue) (o : Option (List RuleValue)) → option_map (λ more. rules ++ more) (with_first (Some rule) o) ≡ option_map (λ more. (rules ++ rule ∷ []) ++ more) o
+behind-first rules rule None = refl
+behind-first rules rule (Some more) = ap Some (sym (append_assoc rules (rule ∷ []) more))
+
+-- A rule was taken from the words.
+pub behind-next : (start : Option (List RuleValue)) (words rest : List (List ℕ)) (before after : List RuleValue) (word : List ℕ) (rule : RuleValue) → words ≡ word ∷ rest → rule_in word ≡ Some rule → after ≡ before ++ rule ∷ [] → start ≡ behind before words → start ≡ behind after rest
+behind-next start words rest before after word rule cut spelled more h =
+    let read : Option RuleValue → Option (List RuleValue) = λ first. option_map (λ more. before ++ more) (with_first first (all_in rule_in rest)) in
+    let as_words : behind before words ≡ behind before (word ∷ rest) = ap (behind before) cut in
+    let as_rule : behind before (word ∷ rest) ≡ read (Some rule) = ap read spelled in
+    let longer : List RuleValue → Option (List RuleValue) = λ rules. behind rules rest in
+    h ∙ as_words ∙ as_rule ∙ behind-first before rule (all_in rule_in rest) ∙ ap longer (sym more)
+
+-- The first of them.
+pub behind-start : (words rest : List (List ℕ)) (after : List RuleValue) (word : List ℕ) (rule : RuleValue) → words ≡ word ∷ rest → rule_in word ≡ Some rule → after ≡ [] ++ rule ∷ [] → all_in rule_in words ≡ behind after rest
+behind-start words rest after word rule cut spelled more = behind-next (all_in rule_in words) words rest [] after word rule cut spelled more (behind-none (all_in rule_in words))
+
+-- The last of them.
+pub behind-end : (start : Option (List RuleValue)) (words : List (List ℕ)) (rules all : List RuleValue) → words ≡ [] → all ≡ rules → start ≡ behind rules words → start ≡ Some all
+behind-end start words rules all none same h = h ∙ ap (behind rules) none ∙ ap Some (append-nil rules ∙ sym same)
+
+-- ---- what is wrong
+
+further : (past column more : ℕ) (words : List (List ℕ)) → words ≢ [] → first_bad past column [] (suc more) words ≡ first_bad past column (Rule ∷ []) more words
+unfolding first_bad
+further past column more [] some = absurd (some refl)
+further past column more (word ∷ words) some = refl
+
+-- One of the rules that may follow is the next word.
+pub further-rule : (cursor : Cursor) (more : ℕ) → left cursor ≢ [] → bad_left cursor [] (suc more) ≡ bad_left cursor (Rule ∷ []) more
+unfolding bad_left
+further-rule cursor more some = further cursor.past (column_of cursor) more (left cursor) some
+
+-- As many more may follow as 1,000 leaves room for.
+pub room-next : (start : Option Bad) (words next : Cursor) (before after : List RuleValue) (word : List ℕ) (rule : RuleValue) → Took Rule words next word → after ≡ before ++ rule ∷ [] → length before < 1000 → start ≡ bad_left words [] (1000 - length before) → start ≡ bad_left next [] (1000 - length after)
+room-next start words next before after word rule took more few h =
+    let some : left words ≢ [] = λ none. cc in
+    let room : 1000 - length before ≡ suc (999 - length before) = omega arith in
+    let longer : length after ≡ length before + 1 = ap length more ∙ length-append before (rule ∷ []) in
+    let less : 999 - length before ≡ 1000 - length after = omega arith in
+    h ∙ ap (bad_left words []) room ∙ further-rule words (999 - length before) some ∙ took.bad [] (999 - length before) ∙ ap (bad_left next []) less
+
+pub room-first : (start : Option Bad) (next : Cursor) (after : List RuleValue) (rule : RuleValue) → after ≡ [] ++ rule ∷ [] → start ≡ bad_left next [] 999 → start ≡ bad_left next [] (1000 - length after)
+room-first start next after rule more h =
+    let one : length after ≡ 1 = ap length more in
+    let room : 999 ≡ 1000 - length after = omega arith in
+    h ∙ ap (bad_left next []) room
+
+-- A word left over stands behind 1,000 rules.
+pub room-none : (start : Option Bad) (words : Cursor) (rules : List RuleValue) (bad : Bad) → (1000 ≤ length rules) ⊎ (left words ≡ []) → start ≡ bad_left words [] (1000 - length rules) → bad_left words [] 0 ≡ Some bad → start ≡ Some bad
+room-none start words rules bad (inl full) h found =
+    let room : 1000 - length rules ≡ 0 = omega arith in
+    h ∙ ap (bad_left words []) room ∙ found
+room-none start words rules bad (inr none) h found =
+    let good = is-end words none 0 in
+    cc

@@ -1,0 +1,14 @@
+use Rattle.std.proofs.Common.{◌≡◌, ◌∷◌, codes}
+use Rattle.ep_plan.specs.Lines.{Spells}
+use Rattle.ep_plan.specs.Cursor.{left}
+use Rattle.ep_plan.proofs.step.read_accept.Goals as goal
+
+pub returns-clause-read : goal.returns-clause-read
+unfolding Spells
+returns-clause-read c =
+    let a = c.in_ok-session.ensures.took in
+    let b = c.in_ok-chunks.ensures.took in
+    let first = a.1.words in
+    let second = b.1.words in
+    let words : codes "accept" ∷ left c.args.words.now ≡ codes "accept" ∷ a.0 ∷ b.0 ∷ left c.number-2.new.self = cc in
+    (a.0, b.0, left c.number-2.new.self, words, a.2, b.2, c.in_ok-rules.ensures.read)

@@ -1,0 +1,49 @@
+-- What a cursor has still to read of a line.
+use Rattle.std.specs.Prelude.{◌≡◌, ◌≢◌, ℕ, ◌+◌, ◌-◌, Bool, true, false, List, [], ◌∷◌, length, Option, Some, option_copied, unwrap_or}
+use Rattle.ep_plan.specs.declared.cursor.Cursor.{Cursor}
+use Rattle.ep_plan.specs.declared.line.LineKind.{LineKind}
+use Rattle.ep_plan.specs.Lines.{Part, Bad, bad_at, first_bad}
+use Rattle.ep_plan.specs.Words.{parts_behind}
+
+-- The words that are left.
+unfoldable pub left : Cursor → List (List ℕ)
+left cursor = parts_behind 32 (option_copied cursor.rest)
+
+-- The column of the next word, or one past the line's end.
+abbrev pub column_of : Cursor → ℕ
+column_of cursor = cursor.past - length (unwrap_or (option_copied cursor.rest) [])
+
+-- The first word that is bad among those left, which have to be these parts and at most so many rules.
+unfoldable pub bad_left : Cursor → List Part → ℕ → Option Bad
+bad_left cursor parts more_rules = first_bad cursor.past (column_of cursor) parts more_rules (left cursor)
+
+-- The words that are left begin at this column, if there are any.
+abbrev pub BeginsAt : ℕ → Cursor → Type 0
+BeginsAt column cursor =
+    (parts : List Part) (more_rules : ℕ) → first_bad cursor.past column parts more_rules (left cursor) ≡ bad_left cursor parts more_rules
+
+-- The next word is there and not empty.
+abbrev pub has_word : List (List ℕ) → Bool
+has_word [] = false
+has_word ([] ∷ words) = false
+has_word ((byte ∷ word) ∷ words) = true
+
+-- A word was taken.
+pub record TookWord (old new : Cursor) (word : List ℕ) : Type 0 where
+  pub line : new.line ≡ old.line
+  pub past : new.past ≡ old.past
+  pub some : word ≢ []
+  pub words : left old ≡ word ∷ left new
+  -- what is left begins after the word and a space
+  pub begins : BeginsAt (column_of old + length word + 1) new
+
+-- A word was taken that is good as this part.
+pub record Took (part : Part) (old new : Cursor) (word : List ℕ) : Type 0 where
+  pub line : new.line ≡ old.line
+  pub words : left old ≡ word ∷ left new
+  pub bad : (parts : List Part) (more_rules : ℕ) → bad_left old (part ∷ parts) more_rules ≡ bad_left new parts more_rules
+
+-- The next word is bad as this part, or missing.
+pub record IsBad (part : Part) (cursor : Cursor) (line column : ℕ) (kind : LineKind) : Type 0 where
+  pub line_is : line ≡ cursor.line
+  pub bad : (parts : List Part) (more_rules : ℕ) → bad_left cursor (part ∷ parts) more_rules ≡ Some (bad_at column kind)

@@ -1,0 +1,4 @@
+pub mod Cursor
+pub mod Lines
+pub mod Printing
+pub mod Words

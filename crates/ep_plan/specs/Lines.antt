@@ -1,0 +1,257 @@
+-- What a line of a schedule means, and what is wrong with it.
+use Rattle.std.specs.Prelude.{◌≡◌, ℕ, zero, suc, ◌+◌, ◌-◌, ◌^◌, Bool, true, false, ◌&&◌, List, [], ◌∷◌, length, codes, find, Option, Some, None, option_map, option_and_then, nat_lt, nat_le, ◌==◌, if◌then◌else◌}
+use Rattle.std.specs.List.{list_any}
+use Rattle.std.specs.Option.{option_or}
+use Rattle.ep_defs.specs.declared.event.EventDef.{EventDef}
+use Rattle.ep_defs.specs.Event.{is_valid_event, is_same_event, is_same_text}
+use Rattle.ep_defs.specs.declared.session.Write.{Write}
+use Rattle.ep_model.specs.declared.step.Step.{Step}
+use Rattle.ep_model.specs.declared.step.Step.TheVariants as step
+use Rattle.ep_plan.specs.declared.line.Line.{Line}
+use Rattle.ep_plan.specs.declared.line.Line.TheVariants as line
+use Rattle.ep_plan.specs.declared.line.LineKind.{LineKind}
+use Rattle.ep_plan.specs.declared.line.LineKind.TheVariants as kind
+use Rattle.ep_plan.specs.Words.{words_of, number_in, hex_in, id_in, frames_in, payload_in, provider_in, event_name_in, rule_in, fields_in, all_in}
+
+-- ---- the table of lines
+
+-- What a word stands for in its line.
+pub data Part : Type 0 where
+  -- the number of an event, which has to be this one
+  Index : (next : ℕ) → Part
+  Number : Part
+  Stamp : Part
+  Provider : Part
+  Name : Part
+  Keywords : Part
+  Fields : Part
+  Rule : Part
+  Id : Part
+  Frames : Part
+  Payload : Part
+
+-- What follows the first word of a line.
+pub record Form : Type 0 where
+  pub name : List ℕ
+  -- these parts, each in a word
+  pub parts : List Part
+  -- and after them at most so many rules
+  pub more_rules : ℕ
+
+abbrev pub form : List ℕ → List Part → Form
+form name parts = record { name = name; parts = parts; more_rules = 0 }
+
+-- An `accept` line has 1 to 1,000 rules.
+abbrev pub accept_form : Form
+accept_form = record { name = codes "accept"; parts = Number ∷ Number ∷ Rule ∷ []; more_rules = 999 }
+
+-- The definition of an event: PROVIDER ID VERSION LEVEL KEYWORDS NAME FIELDS.
+abbrev pub definition_parts : List Part
+definition_parts = Provider ∷ Number ∷ Number ∷ Number ∷ Keywords ∷ Name ∷ Fields ∷ []
+
+-- What follows the word `event`, where the next number is this one.
+abbrev pub event_parts : ℕ → List Part
+event_parts next = Index next ∷ definition_parts
+
+-- A write: E ACTIVITY RELATED FRAMES PAYLOAD.
+abbrev pub write_parts : List Part
+write_parts = Number ∷ Id ∷ Id ∷ Frames ∷ Payload ∷ []
+
+abbrev pub begin_parts : List Part
+begin_parts = Number ∷ Stamp ∷ write_parts
+
+-- The lines of steps.
+abbrev pub step_forms : List Form
+step_forms =
+    accept_form
+    ∷ form (codes "open") (Number ∷ Number ∷ [])
+    ∷ form (codes "begin") begin_parts
+    ∷ form (codes "show") (Number ∷ Number ∷ [])
+    ∷ form (codes "end") (Number ∷ [])
+    ∷ form (codes "steal") (Number ∷ Number ∷ [])
+    ∷ form (codes "give") (Number ∷ [])
+    ∷ form (codes "point") (Number ∷ Stamp ∷ [])
+    ∷ form (codes "close") (Number ∷ Number ∷ [])
+    ∷ form (codes "finish") (Number ∷ Stamp ∷ [])
+    ∷ []
+
+-- ---- what is wrong with a word
+
+-- Numbers are below 2 ^ 32, stamps below 2 ^ 64.
+abbrev pub number_of : List ℕ → Option ℕ
+number_of word = number_in (2 ^ 32 - 1) word
+
+abbrev pub stamp_of : List ℕ → Option ℕ
+stamp_of word = number_in (2 ^ 64 - 1) word
+
+-- This kind, where a word spells nothing.
+abbrev pub unless : {A : Type 0} → Option A → LineKind → Option LineKind
+unless None kind = Some kind
+unless (Some value) kind = None
+
+-- Events are numbered in turn, from 1 to 1,000.
+abbrev pub order_fault : ℕ → Option ℕ → Option LineKind
+order_fault next None = Some kind.Number
+order_fault next (Some index) = if (index == next) && nat_le index 1000 then None else Some kind.EventOrder
+
+-- What is wrong with a word that is not empty.
+abbrev pub spelling_fault : Part → List ℕ → Option LineKind
+spelling_fault (Index next) word = order_fault next (number_of word)
+spelling_fault Number word = unless (number_of word) kind.Number
+spelling_fault Stamp word = unless (stamp_of word) kind.Number
+spelling_fault Provider word = unless (provider_in word) kind.Word
+spelling_fault Name word = unless (event_name_in word) kind.Word
+spelling_fault Keywords word = unless (hex_in word) kind.Hex
+spelling_fault Fields word = unless (fields_in word) kind.Fields
+spelling_fault Rule word = unless (rule_in word) kind.Fields
+spelling_fault Id word = unless (id_in word) kind.Hex
+spelling_fault Frames word = unless (frames_in word) kind.Hex
+spelling_fault Payload word = unless (payload_in word) kind.Hex
+
+-- What is wrong with the word for a part.
+unfoldable pub fault_of : Part → List ℕ → Option LineKind
+fault_of part [] = Some kind.Word
+fault_of part (byte ∷ word) = spelling_fault part (byte ∷ word)
+
+-- ---- what is wrong with a line
+
+-- Where a line is refused, from column 1, and why.
+pub record Bad : Type 0 where
+  pub column : ℕ
+  pub kind : LineKind
+
+abbrev pub bad_at : ℕ → LineKind → Bad
+bad_at column kind = record { column = column; kind = kind }
+
+-- The first word that is wrong, missing or left over, in a line that ends before this column. The words left begin at
+-- the second column; they have to be these parts, and then at most so many rules.
+unfoldable pub first_bad : ℕ → ℕ → List Part → ℕ → List (List ℕ) → Option Bad
+first_bad past column [] more_rules [] = None
+first_bad past column (part ∷ parts) more_rules [] = Some (bad_at past kind.Word)
+first_bad past column [] zero (word ∷ words) = Some (bad_at column kind.Word)
+first_bad past column [] (suc more_rules) (word ∷ words) =
+    option_or (option_map (bad_at column) (fault_of Rule word)) (first_bad past (column + length word + 1) [] more_rules words)
+first_bad past column (part ∷ parts) more_rules (word ∷ words) =
+    option_or (option_map (bad_at column) (fault_of part word)) (first_bad past (column + length word + 1) parts more_rules words)
+
+-- The words after the first one have this form.
+abbrev pub form_bad : ℕ → ℕ → List (List ℕ) → Option Form → Option Bad
+form_bad past column words None = Some (bad_at 1 kind.Word)
+form_bad past column words (Some form) = first_bad past column form.parts form.more_rules words
+
+-- A line that begins with this word has one of the forms.
+unfoldable pub step_bad : ℕ → List ℕ → List (List ℕ) → Option Bad
+step_bad past first words =
+    form_bad past (length first + 2) words (find (λ form. is_same_text first form.name) step_forms)
+
+-- ---- what words spell together
+
+infixl 10 ◌>>=◌
+abbrev pub ◌>>=◌ : {A B : Type 0} → Option A → (A → Option B) → Option B
+o >>= f = option_and_then f o
+
+-- The write that the words of a `begin` line spell, after the stamp.
+unfoldable pub write_of : List (List ℕ) → Option Write
+write_of (event ∷ activity ∷ related ∷ frames ∷ payload ∷ []) = do
+  event ← number_of event
+  activity ← id_in activity
+  related ← id_in related
+  frames ← frames_in frames
+  payload ← payload_in payload
+  Some (record { event = event; activity = activity; related = related; frames = frames; payload = payload })
+write_of words = None
+
+-- The definition that the words of an `event` line spell, after the event's number.
+unfoldable pub definition_of : List (List ℕ) → Option EventDef
+definition_of (provider ∷ id ∷ version ∷ level ∷ keywords ∷ name ∷ fields ∷ []) = do
+  provider ← provider_in provider
+  id ← number_of id
+  version ← number_of version
+  level ← number_of level
+  keywords ← hex_in keywords
+  name ← event_name_in name
+  fields ← fields_in fields
+  Some (record { provider = provider; id = id; version = version; level = level; keywords = keywords; name = name; fields = fields })
+definition_of words = None
+
+-- A definition has to be valid, and unlike those before it.
+abbrev pub definition_fault : List EventDef → EventDef → Option LineKind
+definition_fault events def =
+    if is_valid_event def then
+    (if list_any (λ other. is_same_event other def) events then Some kind.Same else None)
+    else Some kind.Fields
+
+-- What is wrong with the definition after the number of an event.
+unfoldable pub definition_bad : List EventDef → List (List ℕ) → Option Bad
+definition_bad events [] = None
+definition_bad events (index ∷ words) =
+    option_map (bad_at 1) (option_and_then (definition_fault events) (definition_of words))
+
+-- An `event` line stands before the lines of steps. Its definition is judged once its words are good.
+unfoldable pub event_bad : List EventDef → Bool → ℕ → List (List ℕ) → Option Bad
+event_bad events stepped past words =
+    if stepped then Some (bad_at 1 kind.LateEvent)
+    else option_or (first_bad past 7 (event_parts (length events + 1)) 0 words) (definition_bad events words)
+
+-- ---- lines
+
+-- A line that has something in it is no comment, and has words.
+abbrev pub is_blank : List ℕ → Bool
+is_blank [] = true
+is_blank (byte ∷ text) = byte == 35
+
+unfoldable pub words_bad : List EventDef → Bool → ℕ → List (List ℕ) → Option Bad
+words_bad events stepped past [] = None
+words_bad events stepped past (first ∷ words) =
+    if is_same_text first (codes "event") then event_bad events stepped past words else step_bad past first words
+
+-- What is wrong with a line after these definitions, where a step line has come before or not. A line has at most
+-- 262,144 bytes.
+unfoldable pub bad_of : List EventDef → Bool → List ℕ → Option Bad
+bad_of events stepped text =
+    if nat_lt 262144 (length text) then Some (bad_at 1 kind.Long)
+    else (if is_blank text then None else words_bad events stepped (length text + 1) (words_of text))
+
+-- The words are this one and one that spells a number.
+abbrev pub SpellNumber : List ℕ → List (List ℕ) → ℕ → Type 0
+SpellNumber name words number = (a : List ℕ) × (words ≡ name ∷ a ∷ []) × (number_of a ≡ Some number)
+
+-- The words are this one and two that spell numbers.
+abbrev pub SpellNumbers : List ℕ → List (List ℕ) → ℕ → ℕ → Type 0
+SpellNumbers name words first second =
+    (a : List ℕ) × (b : List ℕ) × (words ≡ name ∷ a ∷ b ∷ []) × (number_of a ≡ Some first) × (number_of b ≡ Some second)
+
+-- The words are this one, one that spells a number, and one that spells a stamp.
+abbrev pub SpellStamp : List ℕ → List (List ℕ) → ℕ → ℕ → Type 0
+SpellStamp name words number stamp =
+    (a : List ℕ) × (b : List ℕ) × (words ≡ name ∷ a ∷ b ∷ []) × (number_of a ≡ Some number) × (stamp_of b ≡ Some stamp)
+
+-- The words of a line spell this step.
+unfoldable pub Spells : List (List ℕ) → Step → Type 0
+Spells words (step.Accept session config) =
+    (a : List ℕ) × (b : List ℕ) × (rules : List (List ℕ)) × (words ≡ codes "accept" ∷ a ∷ b ∷ rules)
+    × (number_of a ≡ Some session) × (number_of b ≡ Some config.chunks) × (all_in rule_in rules ≡ Some config.rules)
+Spells words (step.Open session thread) = SpellNumbers (codes "open") words session thread
+Spells words (step.Begin thread stamp write) =
+    (a : List ℕ) × (b : List ℕ) × (rest : List (List ℕ)) × (words ≡ codes "begin" ∷ a ∷ b ∷ rest)
+    × (number_of a ≡ Some thread) × (stamp_of b ≡ Some stamp) × (write_of rest ≡ Some write)
+Spells words (step.Show thread session) = SpellNumbers (codes "show") words thread session
+Spells words (step.End thread) = SpellNumber (codes "end") words thread
+Spells words (step.Steal session thread) = SpellNumbers (codes "steal") words session thread
+Spells words (step.Give session) = SpellNumber (codes "give") words session
+Spells words (step.Point session stamp) = SpellStamp (codes "point") words session stamp
+Spells words (step.Close session thread) = SpellNumbers (codes "close") words session thread
+Spells words (step.Finish session stamp) = SpellStamp (codes "finish") words session stamp
+
+-- The line means this.
+unfoldable pub Means : List ℕ → Line → Type 0
+Means text line.Blank = is_blank text ≡ true
+Means text (line.Event index def) =
+    (number : List ℕ) × (words : List (List ℕ)) × (is_blank text ≡ false) × (words_of text ≡ codes "event" ∷ number ∷ words)
+    × (number_of number ≡ Some index) × (definition_of words ≡ Some def)
+Means text (line.Step made) = (is_blank text ≡ false) × Spells (words_of text) made
+
+-- The line is good and means this.
+pub record IsLine (events : List EventDef) (stepped : Bool) (text : List ℕ) (line : Line) : Type 0 where
+  pub good : bad_of events stepped text ≡ None
+  pub meaning : Means text line

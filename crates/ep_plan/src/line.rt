@@ -1,0 +1,110 @@
+//! Reading a line.
+ghost use Rattle.std.specs.Prelude.{◌≡◌, ◌≤◌, ◌+◌, ℕ, true, false, List, length, Some, None, Err, IsTrue, IfOk, IfErr};
+ghost use Rattle.std.specs.List.{list_any};
+ghost use Rattle.ep_defs.specs.declared.event.EventDef.{EventDef};
+ghost use Rattle.ep_defs.specs.Event.{is_valid_event, is_same_event};
+ghost use Rattle.ep_plan.specs.declared.line.Line.{Line};
+ghost use Rattle.ep_plan.specs.declared.line.Line.TheVariants.{Event};
+ghost use Rattle.ep_plan.specs.declared.line.LineKind.{LineKind};
+ghost use Rattle.ep_plan.specs.declared.line.LineFault.TheVariants.{Bad as Refused, OutOfMemory};
+ghost use Rattle.ep_plan.specs.Lines.{bad_of, is_blank, IsLine};
+
+use crate::cursor::Cursor;
+use crate::event::read_event;
+use crate::step::read_step;
+use ep_defs::EventDef;
+use ep_model::Step;
+use std::alloc::{AllocError, Global};
+
+/// Why a line is refused.
+#[derive(Clone, Copy, Debug, PartialEq, Eq)]
+pub enum LineKind {
+    Word,
+    Number,
+    Hex,
+    Fields,
+    Long,
+    LateEvent,
+    EventOrder,
+    Same,
+}
+
+/// What a line means.
+#[derive(Debug, Drop)]
+pub enum Line {
+    /// An empty line, or a comment.
+    Blank,
+    /// The definition of an event under its number, from 1.
+    Event { index: u32, def: EventDef },
+    Step(Step),
+}
+
+/// Why a line was not read.
+#[derive(Clone, Copy, Debug)]
+pub enum LineFault {
+    /// The line's number and the 1-based byte column of its first bad word.
+    Bad {
+        line: u64,
+        column: u64,
+        kind: LineKind,
+    },
+    OutOfMemory,
+}
+
+impl From<AllocError> for LineFault {
+    ghost from_gives = { λ error fault. fault ≡ OutOfMemory };
+
+    fn from(_error: AllocError) -> Self {
+        LineFault::OutOfMemory
+    }
+}
+
+/// Reads one line, without its line feed. `events` are the definitions read so far, at most 1,000, and `stepped` says
+/// that a step line came before.
+pub fn read_line(
+    alloc: Global,
+    text: &[u8],
+    line: u64,
+    events: &[EventDef],
+    stepped: bool,
+) -> Result<Line, LineFault>
+    requires { length events.now ≤ 1000 }
+    ensures read { IfOk result (λ read. IsLine events.now stepped text.now read) }
+    ensures bad { (at column : ℕ) (kind : LineKind) → result ≡ Err (Refused at column kind)
+        → (at ≡ line) × (bad_of events.now stepped text.now ≡ Some (record { column = column; kind = kind })) }
+{
+    if text.len() > 262_144 {
+        return Err(LineFault::Bad {
+            line,
+            column: 1,
+            kind: LineKind::Long,
+        });
+    }
+    if is_blank(text) {
+        return Ok(Line::Blank);
+    }
+    let mut words = Cursor::new(line, text);
+    let first = words.word()?;
+    if first == b"event".as_slice() {
+        let (index, def) = read_event(alloc, &mut words, events, stepped)?;
+        return Ok(Line::Event { index, def });
+    }
+    Ok(Line::Step(read_step(alloc, first, &mut words)?))
+}
+
+// Whether a line is empty or a comment.
+fn is_blank(text: &[u8]) -> bool
+    ensures { result ≡ is_blank text.now }
+{
+    match text.first() {
+        Some(byte) => *byte == b'#',
+        None => true,
+    }
+}
+
+/// A good line means one thing; a definition in it is the next one, valid and unlike those before it.
+pub fn a_line_means_one_thing()
+    ensures one { (events : List EventDef) (stepped : _) (text : List ℕ) (a b : Line) → IsLine events stepped text a → IsLine events stepped text b → a ≡ b }
+    ensures event { (events : List EventDef) (stepped : _) (text : List ℕ) (index : ℕ) (def : EventDef) → IsLine events stepped text (Event index def)
+        → (stepped ≡ false) × (index ≡ length events + 1) × (index ≤ 1000) × IsTrue (is_valid_event def) × (list_any (λ other. is_same_event other def) events ≡ false) }
+{}

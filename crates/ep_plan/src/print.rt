@@ -1,0 +1,150 @@
+//! Writing the line of a step.
+ghost use Rattle.std.specs.Prelude.{◌≡◌, ◌<◌, ◌^◌, ◌++◌, ℕ, [], ◌∷◌, List, length, map, slice_index, IsTrue, IfOk, OnOk};
+ghost use Rattle.std.specs.List.{list_all, join_with_byte, AllByRecursion};
+ghost use Rattle.hex.specs.Hex.{IsBytes};
+ghost use Rattle.ep_defs.specs.declared.event.EventDef.{EventDef};
+ghost use Rattle.ep_plan.specs.declared.line.Line.TheVariants.{Step as StepLine};
+ghost use Rattle.ep_plan.specs.Lines.{IsLine};
+ghost use Rattle.ep_plan.specs.Words.{is_name, id_text, frames_text, payload_text, rule_text};
+ghost use Rattle.ep_plan.specs.Printing.{spaced, number_words, step_text, has_parts, can_print, RuleFits, WriteFits, StepFits};
+
+use crate::words::{put_frames, put_id, put_number, put_payload, put_rule};
+use ep_defs::{Rule, Write};
+use ep_model::Step;
+use std::alloc::{AllocError, Global};
+
+/// The line of a step, without its line feed. It takes a step that a line can hold: names that the text can hold, in
+/// an Accept 1 to 1,000 rules, and at most 262,144 bytes.
+pub fn print_step(alloc: Global, step: &Step) -> Result<Vec<u8>, AllocError>
+    requires { IsTrue (can_print step.now) }
+    ensures text { IfOk result (λ text. text.items ≡ step_text step.now) }
+    // what is printed is read back as that step
+    ensures read { IfOk result (λ text. (events : List EventDef) (stepped : _) → IsLine events stepped text.items (StepLine step.now)) }
+{
+    let mut line = Vec::new(alloc);
+    put_step(&mut line, step)?;
+    Ok(line)
+}
+
+// Appends the line of a step.
+fn put_step(line: &mut Vec<u8>, step: &Step) -> Result<(), AllocError>
+    requires { IsTrue (has_parts step.now) }
+    ensures text { OnOk result (line.new.items ≡ line.old.items ++ step_text step.now) }
+    ensures fits { OnOk result (StepFits step.now) }
+{
+    match step {
+        Step::Accept { session, config } => {
+            put_numbers(
+                line,
+                b"accept",
+                &[u64::from(*session), u64::from(config.chunks)],
+            )?;
+            put_rules(line, config.rules.as_slice())
+        }
+        Step::Open { session, thread } => put_pair(line, b"open", *session, *thread),
+        Step::Begin {
+            thread,
+            stamp,
+            write,
+        } => {
+            let event = u64::from(write.event);
+            put_numbers(line, b"begin", &[u64::from(*thread), *stamp, event])?;
+            put_write(line, write)
+        }
+        Step::Show { thread, session } => put_pair(line, b"show", *thread, *session),
+        Step::End { thread } => put_numbers(line, b"end", &[u64::from(*thread)]),
+        Step::Steal { session, thread } => put_pair(line, b"steal", *session, *thread),
+        Step::Give { session } => put_numbers(line, b"give", &[u64::from(*session)]),
+        Step::Point { session, stamp } => {
+            put_numbers(line, b"point", &[u64::from(*session), *stamp])
+        }
+        Step::Close { session, thread } => put_pair(line, b"close", *session, *thread),
+        Step::Finish { session, stamp } => {
+            put_numbers(line, b"finish", &[u64::from(*session), *stamp])
+        }
+    }
+}
+
+// Appends a word and two numbers below 2 ^ 32.
+fn put_pair(line: &mut Vec<u8>, name: &[u8], first: u32, second: u32) -> Result<(), AllocError>
+    ensures { OnOk result (line.new.items ≡ line.old.items ++ join_with_byte 32 (number_words name.now (first ∷ second ∷ []))) }
+{
+    put_numbers(line, name, &[u64::from(first), u64::from(second)])
+}
+
+// Appends a word and numbers.
+fn put_numbers(line: &mut Vec<u8>, name: &[u8], numbers: &[u64]) -> Result<(), AllocError>
+    ensures { OnOk result (line.new.items ≡ line.old.items ++ join_with_byte 32 (number_words name.now numbers.now)) }
+{
+    line.extend_from_slice(name)?;
+    for number in numbers {
+        line.extend_from_slice(b" ")?;
+        put_number(line, *number)?;
+    }
+    Ok(())
+}
+
+// Appends each rule as a word more.
+fn put_rules(line: &mut Vec<u8>, rules: &[Rule]) -> Result<(), AllocError>
+    requires { IsTrue (list_all (λ rule. is_name rule.name) rules.now) }
+    ensures text { OnOk result (line.new.items ≡ line.old.items ++ spaced (map rule_text rules.now)) }
+    ensures fits { OnOk result (AllByRecursion RuleFits rules.now) }
+{
+    for rule in rules {
+        put_rule_word(line, rule)?;
+    }
+    Ok(())
+}
+
+// Appends a rule as a word more.
+fn put_rule_word(line: &mut Vec<u8>, rule: &Rule) -> Result<(), AllocError>
+    requires { IsTrue (is_name rule.now.name) }
+    ensures text { OnOk result (line.new.items ≡ line.old.items ++ 32 ∷ rule_text rule.now) }
+    ensures fits { RuleFits rule.now }
+{
+    let _keywords = rule.keywords;
+    let _level = rule.level;
+    line.extend_from_slice(b" ")?;
+    put_rule(line, rule)
+}
+
+// Appends what a write has beside its event.
+fn put_write(line: &mut Vec<u8>, write: &Write) -> Result<(), AllocError>
+    ensures text { OnOk result (line.new.items ≡ line.old.items ++ spaced (id_text write.now.activity ∷ id_text write.now.related ∷ frames_text write.now.frames ∷ payload_text write.now.payload ∷ [])) }
+    ensures fits { OnOk result (WriteFits write.now) }
+{
+    let _event = write.event;
+    put_id_word(line, &write.activity)?;
+    put_id_word(line, &write.related)?;
+    put_frames_word(line, write.frames.as_slice())?;
+    put_payload_word(line, write.payload.as_slice())?;
+    Ok(())
+}
+
+// Appends an id as a word more.
+fn put_id_word(line: &mut Vec<u8>, id: &[u8; 16]) -> Result<(), AllocError>
+    ensures text { OnOk result (line.new.items ≡ line.old.items ++ 32 ∷ id_text id.now) }
+    ensures length { length id.now ≡ 16 }
+    ensures bytes { IsBytes id.now }
+{
+    line.extend_from_slice(b" ")?;
+    put_id(line, id)
+}
+
+// Appends return addresses as a word more.
+fn put_frames_word(line: &mut Vec<u8>, frames: &[u64]) -> Result<(), AllocError>
+    ensures text { OnOk result (line.new.items ≡ line.old.items ++ 32 ∷ frames_text frames.now) }
+    ensures fits { (i : ℕ) → slice_index frames.now i < 2 ^ 64 }
+{
+    line.extend_from_slice(b" ")?;
+    put_frames(line, frames)
+}
+
+// Appends a payload as a word more.
+fn put_payload_word(line: &mut Vec<u8>, payload: &[u8]) -> Result<(), AllocError>
+    ensures text { OnOk result (line.new.items ≡ line.old.items ++ 32 ∷ payload_text payload.now) }
+    ensures bytes { IsBytes payload.now }
+{
+    line.extend_from_slice(b" ")?;
+    put_payload(line, payload)
+}
