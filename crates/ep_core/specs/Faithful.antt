@@ -1,0 +1,28 @@
+-- A stream that tells of each thread the writes that were admitted, less those that were refused.
+use Rattle.std.specs.Prelude.{◌≡◌, ℕ, true, false, List, ◌∷◌, ◌++◌, []}
+use Rattle.std.specs.List.{AllByRecursion}
+use Rattle.ep_defs.specs.declared.session.TraceInfo.{TraceInfo}
+use Rattle.ep_defs.specs.declared.item.Item.{Item}
+use Rattle.ep_defs.specs.declared.item.ItemKind.{ItemKind}
+use Rattle.ep_defs.specs.declared.item.ItemKind.TheVariants as item
+use Rattle.ep_defs.specs.Entry.{Entry}
+use Rattle.nt_write.specs.Ordered.{kinds_of, Tell}
+use Rattle.nt_write.specs.Canonical.{is_trace, is_plain}
+use Rattle.ep_model.specs.Faithful.{Share, totals, AreFaithful}
+
+-- A stream's items tell the shares of the threads.
+pub record Faithful (shares : List Share) (items : List Item) : Type 0 where
+  pub info : TraceInfo
+  pub others : List ItemKind
+  pub entries : List Entry
+  -- one Trace, the first item
+  pub one_trace : kinds_of items ≡ item.Trace info ∷ others
+  pub no_other_trace : AllByRecursion (λ kind. is_trace kind ≡ false) others
+  -- each name is defined before its use
+  pub told : Tell items entries
+  pub plain : AllByRecursion (λ kind. is_plain kind ≡ true) others
+  pub faithful : AreFaithful shares entries
+  -- the last item is a point with the totals
+  pub front : List ItemKind
+  pub stamp : ℕ
+  pub last : kinds_of items ≡ front ++ item.Point stamp (totals shares) ∷ []

@@ -1,0 +1,5 @@
+pub mod Bounds
+pub mod Faithful
+pub mod Judge
+pub mod Machine
+pub mod Streams

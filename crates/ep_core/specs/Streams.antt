@@ -1,0 +1,15 @@
+-- What the stream of a finished session is.
+use Rattle.std.specs.Prelude.{ℕ, List}
+use Rattle.ep_defs.specs.declared.event.EventDef.{EventDef}
+use Rattle.ep_defs.specs.declared.session.TraceInfo.{TraceInfo}
+use Rattle.nt_write.specs.Canonical.{IsCanonical}
+use Rattle.ep_model.specs.History.{Past}
+use Rattle.ep_model.specs.Entries.{entries}
+use Rattle.ep_model.specs.Faithful.{shares_of, no_refusals}
+use Rattle.ep_core.specs.Faithful.{Faithful}
+
+-- The bytes are the one stream of the session's entries, and their items tell of each thread exactly the writes that
+-- the session admitted, none refused.
+pub record IsStreamOf (events : List EventDef) (info : TraceInfo) (session : ℕ) (past : Past) (bytes : List ℕ) : Type 0 where
+  pub canonical : IsCanonical info (entries events session past) bytes
+  pub faithful : Faithful (shares_of events session past no_refusals) canonical.items
