@@ -1,11 +1,7 @@
-pub mod Feeds
-pub mod FormLaws
-pub mod FormPast
-pub mod Forms
+pub mod Answering
+pub mod Definitions
+pub mod OutcomeLaws
 pub mod ReadSoFar
-pub mod Replayed
-pub mod Spelled
-pub mod SpelledLines
-pub mod Stamps
-pub mod Telling
+pub mod ReplayWords
+pub mod Standing
 pub mod TextLines

@@ -1,134 +1,153 @@
--- What a loop over the lines of a schedule has read.
-use Rattle.std.proofs.Common.{◌≡◌, ℕ, Bool, true, false, List, [], ◌∷◌, ◌++◌, Option, Some, None, refl, sym, ap, ◌∙◌, subst, reverse, append_assoc}
-use Rattle.std.specs.Prelude.{IsTrue, ◌≢◌}
-use Rattle.std.specs.List.{AllByRecursion}
-use Rattle.pt_cli.specs.declared.form.Form.{Form}
-use Rattle.pt_cli.specs.declared.machine.Machine.{Machine}
-use Rattle.ep_model.specs.declared.step.Step.{Step}
-use Rattle.pt_cli.specs.FirstForm.{event_line, Spells, SpellAll, IsForm, IsSchedule, IsText}
-use Rattle.pt_cli.specs.Form.{IsAfter}
-use Rattle.pt_cli.specs.Machine.{Follows}
-use Rattle.pt_cli.specs.Replay.{IsNoSchedule}
-use Rattle.pt_cli.proofs.Spelled.{same-step}
-use Rattle.pt_cli.proofs.SpelledLines.{SpellAll-are_lines, event-is_line}
-use Rattle.pt_cli.proofs.TextLines.{lines_of, AreLines, is_line, lines_of-text_is, text-lines_of}
+-- What was read of a text, with a byte more and at its end.
+use Rattle.std.proofs.Common.{◌≡◌, ℕ, ◌+◌, ◌<◌, ◌≤◌, true, false, not, List, [], ◌∷◌, ◌++◌, length, Option, Some, None, refl, sym, ap, ◌∙◌, subst, inl, inr, append_assoc, arith, length-append}
+use Rattle.std.specs.Prelude.{IsTrue, ◌≢◌, is_some}
+use Rattle.std.proofs.lemmas.Bool.{lt-ltb, ne_eqb}
+use Rattle.std.proofs.lemmas.List.Folds.{list_all-append}
+use Rattle.ep_plan.specs.declared.line.Line.{Line}
+use Rattle.ep_plan.specs.Lines.{bad_of}
+use Rattle.ep_plan.specs.declared.line.LineKind.TheVariants.{Long}
+use Rattle.pt_cli.specs.declared.errors.Refusal.{Refusal}
+use Rattle.pt_cli.specs.declared.errors.Reason.TheVariants as reason
+use Rattle.pt_cli.specs.declared.schedule.Schedule.{Schedule}
+use Rattle.pt_cli.specs.Text.{lines_of}
+use Rattle.pt_cli.specs.Schedule.{bad_after, Takes, Refuses, AreGood, HaveRefused, IsSchedule, IsRefused}
+use Rattle.pt_cli.specs.Reading.{Stands, AreGoodSoFar, IsSoFar, IsJudgedAs}
+use Rattle.pt_cli.proofs.TextLines.{is_line, Begins, lines_of-feed, lines_of-begins, lines_of-one}
 
--- The lines of the bytes up to the rest spell these steps, which the form and the machine have taken.
-pub record ReadSoFar (bytes rest : List ℕ) (form : Form) (machine : Machine) : Type 0 where
-  pub lines : List (List ℕ)
-  pub done : List Step
-  pub split : lines_of bytes ≡ event_line ∷ (lines ++ lines_of rest)
-  pub spelled : SpellAll lines done
-  pub after : IsAfter done form
-  pub follows : Follows (reverse done) machine
-
--- Before the first line of a step.
-pub read-none : (bytes first rest : List ℕ) (form : Form) (machine : Machine) → lines_of bytes ≡ first ∷ lines_of rest → first ≡ event_line → IsAfter [] form → Follows [] machine → ReadSoFar bytes rest form machine
-read-none bytes first rest form machine split is_event after follows = record {
-  lines = [];
-  done = [];
-  split = split ∙ ap (λ line. line ∷ lines_of rest) is_event;
-  spelled = tt;
-  after = after;
-  follows = follows;
-}
-
--- One line more is spelled.
-spell_all-more : (lines : List (List ℕ)) (steps : List Step) (line : List ℕ) (step : Step) → SpellAll lines steps → Spells line step → SpellAll (lines ++ line ∷ []) (steps ++ step ∷ [])
-spell_all-more [] [] line step all one = (one, tt)
-spell_all-more [] (s ∷ steps) line step all one = absurd all
-spell_all-more (l ∷ lines) [] line step all one = absurd all
-spell_all-more (l ∷ lines) (s ∷ steps) line step all one = (all.0, spell_all-more lines steps line step all.1 one)
-
--- The loop goes on with the step of the next line.
-pub read-more : (bytes rest after line : List ℕ) (form next_form : Form) (machine next_machine : Machine) (h : ReadSoFar bytes rest form machine) → lines_of rest ≡ line ∷ lines_of after → (step : Step) → Spells line step → IsAfter (h.done ++ step ∷ []) next_form → Follows (reverse (h.done ++ step ∷ [])) next_machine → ReadSoFar bytes after next_form next_machine
-read-more bytes rest after line form next_form machine next_machine h split step spelled is_after follows = record {
-  lines = h.lines ++ line ∷ [];
-  done = h.done ++ step ∷ [];
-  split = h.split ∙ ap (λ ls. event_line ∷ (h.lines ++ ls)) split ∙ ap (λ ls. event_line ∷ ls) (sym (append_assoc h.lines (line ∷ []) (lines_of after)));
-  spelled = spell_all-more h.lines h.done line step h.spelled spelled;
-  after = is_after;
-  follows = follows;
-}
-
--- The lines of a schedule are the lines of its bytes.
-pub schedule-lines : (bytes : List ℕ) (steps : List Step) (h : IsSchedule bytes steps) → lines_of bytes ≡ event_line ∷ h.lines
-schedule-lines bytes steps h = lines_of-text_is (event_line ∷ h.lines) bytes (event-is_line, SpellAll-are_lines h.lines steps h.spelled) h.text
-
-head_is : (a b : List ℕ) (xs ys : List (List ℕ)) → a ∷ xs ≡ b ∷ ys → a ≡ b
-head_is a b xs ys e = cc
-
--- Bytes whose first line is not that of the event are no schedule.
-pub no-event : (bytes first rest : List ℕ) → lines_of bytes ≡ first ∷ lines_of rest → (first ≡ event_line → ⊥) → IsNoSchedule bytes
-no-event bytes first rest split other steps schedule =
-    other (head_is first event_line (lines_of rest) schedule.lines (sym split ∙ schedule-lines bytes steps schedule))
-
--- No bytes are no schedule.
-pub no-lines : (bytes : List ℕ) → bytes ≡ [] → IsNoSchedule bytes
-no-lines bytes none steps schedule =
-    let e : [] ≡ event_line ∷ schedule.lines = ap lines_of (sym none) ∙ schedule-lines bytes steps schedule in
-    cc
-
--- Lines that begin with lines that spell steps spell these first.
-pub record GoesOn (done : List Step) (lines : List (List ℕ)) (steps : List Step) : Type 0 where
-  pub later : List Step
-  pub in_order : steps ≡ done ++ later
-  pub spelled : SpellAll lines later
-
-goes_on : (lines more : List (List ℕ)) (done steps : List Step) → SpellAll lines done → SpellAll (lines ++ more) steps → GoesOn done more steps
-goes_on [] more [] steps one all = record { later = steps; in_order = refl; spelled = all }
-goes_on [] more (s ∷ done) steps one all = absurd one
-goes_on (line ∷ lines) more [] steps one all = absurd one
-goes_on (line ∷ lines) more (s ∷ done) [] one all = absurd all
-goes_on (line ∷ lines) more (s ∷ done) (t ∷ steps) one all =
-    let rest = goes_on lines more done steps one.1 all.1 in
-    let same : s ≡ t = same-step line s t one.0 all.0 in
-    record { later = rest.later; in_order = cc; spelled = rest.spelled }
-
-tail_is : (a b : List (List ℕ)) (line : List ℕ) → line ∷ a ≡ line ∷ b → a ≡ b
-tail_is a b line e = cc
-
--- How any schedule of the bytes goes on.
-pub schedule-goes_on : (bytes rest : List ℕ) (form : Form) (machine : Machine) (h : ReadSoFar bytes rest form machine) (steps : List Step) → IsSchedule bytes steps → GoesOn h.done (lines_of rest) steps
-schedule-goes_on bytes rest form machine h steps schedule =
-    let same : schedule.lines ≡ h.lines ++ lines_of rest = tail_is schedule.lines (h.lines ++ lines_of rest) event_line (sym (schedule-lines bytes steps schedule) ∙ h.split) in
-    let P : List (List ℕ) → Type 0 = λ lines. SpellAll lines steps in
-    goes_on h.lines (lines_of rest) h.done steps h.spelled (subst P same schedule.spelled)
-
--- A line that spells no step that may come next makes the bytes no schedule.
-pub refused-line : (bytes rest after line : List ℕ) (form : Form) (machine : Machine) (h : ReadSoFar bytes rest form machine) → lines_of rest ≡ line ∷ lines_of after → ((step : Step) (later : List Step) → Spells line step → IsForm (h.done ++ step ∷ later) → ⊥) → IsNoSchedule bytes
-refused-line bytes rest after line form machine h split refused steps schedule =
-    let goes = schedule-goes_on bytes rest form machine h steps schedule in
-    by_steps goes.later goes.in_order (subst (λ (lines : List (List ℕ)). SpellAll lines goes.later) split goes.spelled)
-  where
-    by_steps : (later : List Step) → steps ≡ h.done ++ later → SpellAll (line ∷ lines_of after) later → ⊥
-    by_steps [] e spelled = spelled
-    by_steps (step ∷ later) e spelled = refused step later spelled.0 (subst (λ (all : List Step). IsForm all) e schedule.form)
-
--- Nothing follows the last line.
-spell_all-none : (steps : List Step) → SpellAll [] steps → steps ≡ []
-spell_all-none [] h = refl
-spell_all-none (s ∷ steps) h = absurd h
-
-append_nil : {A : Type 0} (xs : List A) → xs ++ [] ≡ xs
+pub append_nil : {A : Type 0} (xs : List A) → xs ++ [] ≡ xs
 append_nil [] = refl
 append_nil (x ∷ xs) = ap (λ ys. x ∷ ys) (append_nil xs)
 
--- Steps that are not yet whole where the bytes end make them no schedule.
-pub unfinished : (bytes rest : List ℕ) (form : Form) (machine : Machine) (h : ReadSoFar bytes rest form machine) → rest ≡ [] → (IsForm h.done → ⊥) → IsNoSchedule bytes
-unfinished bytes rest form machine h ended refused steps schedule =
-    let goes = schedule-goes_on bytes rest form machine h steps schedule in
-    let none : goes.later ≡ [] = spell_all-none goes.later (subst (λ (lines : List (List ℕ)). SpellAll lines goes.later) (ap lines_of ended) goes.spelled) in
-    let same : steps ≡ h.done = goes.in_order ∙ ap (λ later. h.done ++ later) none ∙ append_nil h.done in
-    refused (subst (λ (all : List Step). IsForm all) same schedule.form)
-
--- Steps that are whole where the bytes end make them a schedule.
-pub finished : (bytes rest : List ℕ) (form : Form) (machine : Machine) (h : ReadSoFar bytes rest form machine) → rest ≡ [] → IsForm h.done → IsSchedule bytes h.done
-finished bytes rest form machine h ended whole =
-    let same : lines_of bytes ≡ event_line ∷ h.lines = h.split ∙ ap (λ ls. event_line ∷ (h.lines ++ ls)) (ap lines_of ended) ∙ ap (λ ls. event_line ∷ ls) (append_nil h.lines) in
+-- Before the first byte.
+pub read-none : (schedule : Schedule) → Stands [] schedule → AreGoodSoFar [] schedule []
+read-none schedule stands =
     record {
-      lines = h.lines;
-      text = subst (λ (lines : List (List ℕ)). IsText lines bytes) same (text-lines_of bytes);
-      spelled = h.spelled;
-      form = whole;
+      lines = [];
+      stands = stands;
+      good = λ rest after good. good;
+      refused = λ rest refusal refused. refused;
+      no_feed = refl;
+      short = omega arith;
     }
+
+-- Where no line is refused the bytes are good so far.
+pub so_far-good : (bytes : List ℕ) (schedule : Schedule) (part : List ℕ) (refusal : Option Refusal) → refusal ≡ None → IsSoFar bytes schedule part refusal → AreGoodSoFar bytes schedule part
+so_far-good bytes schedule part None none so_far = so_far
+so_far-good bytes schedule part (Some refusal) none so_far = cc
+
+-- A text that is refused whatever follows is so with more bytes.
+pub so_far-refused : (bytes more : List ℕ) (schedule schedule' : Schedule) (part part' : List ℕ) (refusal : Refusal) → IsSoFar bytes schedule part (Some refusal) → IsSoFar (bytes ++ more) schedule' part' (Some refusal)
+so_far-refused bytes more schedule schedule' part part' refusal so_far = λ rest.
+    subst (λ bs. IsRefused bs refusal) (sym (append_assoc bytes more rest)) (so_far (more ++ rest))
+
+-- And back.
+pub good-so_far : (bytes : List ℕ) (schedule : Schedule) (part : List ℕ) (refusal : Option Refusal) → refusal ≡ None → AreGoodSoFar bytes schedule part → IsSoFar bytes schedule part refusal
+good-so_far bytes schedule part None none good = good
+good-so_far bytes schedule part (Some refusal) none good = cc
+
+-- Where no line is refused the bytes are a schedule.
+pub good-judged : (bytes : List ℕ) (schedule : Schedule) (refusal : Option Refusal) → refusal ≡ None → (lines : List Line) → IsSchedule bytes lines → Stands lines schedule → IsJudgedAs bytes schedule refusal
+good-judged bytes schedule None none lines is stands = (lines, is, stands)
+good-judged bytes schedule (Some refusal) none lines is stands = cc
+
+-- At the end what was refused stays so.
+pub refused-judged : (bytes : List ℕ) (schedule : Schedule) (part : List ℕ) (refusal : Option Refusal) → is_some refusal ≡ true → IsSoFar bytes schedule part refusal → IsJudgedAs bytes schedule refusal
+refused-judged bytes schedule part None some so_far = cc
+refused-judged bytes schedule part (Some refusal) some so_far = subst (λ bs. IsRefused bs refusal) (append_nil bytes) (so_far [])
+
+-- Nothing is read where a line was refused.
+pub refused-so_far : (bytes more : List ℕ) (schedule : Schedule) (part : List ℕ) (refusal : Option Refusal) → is_some refusal ≡ true → IsSoFar bytes schedule part refusal → IsSoFar (bytes ++ more) schedule part refusal
+refused-so_far bytes more schedule part None some so_far = cc
+refused-so_far bytes more schedule part (Some refusal) some so_far = so_far-refused bytes more schedule schedule part part refusal so_far
+
+pub is_some-false : {A : Type 0} (x : Option A) → is_some x ≡ false → x ≡ None
+is_some-false None not = refl
+is_some-false (Some a) not = cc
+
+-- The lines of bytes that begin with a part of a line.
+lines_of-part : (part rest : List ℕ) → IsTrue (is_line part) → 0 < length part → Begins part (lines_of (part ++ rest))
+lines_of-part [] rest no_feed some = let not : ⊥ = omega arith in absurd not
+lines_of-part (b ∷ part) rest no_feed some = lines_of-begins b part rest no_feed
+
+-- A line that is too long is refused for that, whatever it is.
+long-bad : (lines : List Line) (text : List ℕ) → 262144 < length text → bad_after lines text ≡ Some (record { column = 1; kind = Long })
+unfolding bad_of
+long-bad lines text long = rw (lt-ltb 262144 (length text) long) refl
+
+module _ (bytes : List ℕ) (schedule : Schedule) (part : List ℕ) (so_far : AreGoodSoFar bytes schedule part) where
+  -- A byte more behind the bytes is the first of what follows.
+  good-more : (b : ℕ) (rest : List ℕ) (after : List Line) → AreGood so_far.lines (lines_of (part ++ b ∷ rest)) after → IsSchedule (bytes ++ b ∷ [] ++ rest) after
+  good-more b rest after good =
+      subst (λ bs. IsSchedule bs after) (sym (append_assoc bytes (b ∷ []) rest)) (so_far.good (b ∷ rest) after good)
+
+  refused-more : (b : ℕ) (rest : List ℕ) (refusal : Refusal) → HaveRefused so_far.lines (lines_of (part ++ b ∷ rest)) refusal → IsRefused (bytes ++ b ∷ [] ++ rest) refusal
+  refused-more b rest refusal refused =
+      subst (λ bs. IsRefused bs refusal) (sym (append_assoc bytes (b ∷ []) rest)) (so_far.refused (b ∷ rest) refusal refused)
+
+  -- A byte more of the part.
+  no_feed-more : (b : ℕ) → b ≢ 10 → IsTrue (is_line (part ++ b ∷ []))
+  no_feed-more b other = rw (list_all-append, so_far.no_feed, ne_eqb b 10 other) refl
+
+  pub read-byte : (b : ℕ) → b ≢ 10 → length part < 262144 → AreGoodSoFar (bytes ++ b ∷ []) schedule (part ++ b ∷ [])
+  read-byte b other short =
+      record {
+        lines = so_far.lines;
+        stands = so_far.stands;
+        good = λ rest after good. good-more b rest after (subst (λ bs. AreGood so_far.lines (lines_of bs) after) (append_assoc part (b ∷ []) rest) good);
+        refused = λ rest refusal refused. refused-more b rest refusal (subst (λ bs. HaveRefused so_far.lines (lines_of bs) refusal) (append_assoc part (b ∷ []) rest) refused);
+        no_feed = no_feed-more b other;
+        short = omega (arith, length-append part (b ∷ []));
+      }
+
+  -- A part that is too long is refused, whatever follows.
+  pub read-long : (b : ℕ) → b ≢ 10 → 262144 ≤ length part → (rest : List ℕ) → IsRefused (bytes ++ b ∷ [] ++ rest) (record { line = schedule.lines + 1; column = 1; reason = reason.Line Long })
+  read-long b other long rest =
+      let whole : List ℕ = part ++ b ∷ [] in
+      let some : 0 < length (part ++ b ∷ []) = omega (arith, length-append part (b ∷ [])) in
+      let begins = lines_of-part (part ++ b ∷ []) rest (no_feed-more b other) some in
+      let split : lines_of (part ++ b ∷ rest) ≡ (part ++ b ∷ [] ++ begins.rest) ∷ begins.later =
+      ap lines_of (sym (append_assoc part (b ∷ []) rest)) ∙ begins.are in
+      let above : 262144 < length (part ++ b ∷ [] ++ begins.rest) =
+      omega (arith, length-append part (b ∷ []), length-append (part ++ b ∷ []) begins.rest) in
+      let refusal : Refusal = record { line = schedule.lines + 1; column = 1; reason = reason.Line Long } in
+      let number : schedule.lines + 1 ≡ length so_far.lines + 1 = ap (λ n. n + 1) so_far.stands.count in
+      refused-more b rest refusal
+      (subst (λ ls. HaveRefused so_far.lines ls refusal) (sym split)
+      (inl (record { number = number; why = long-bad so_far.lines (part ++ b ∷ [] ++ begins.rest) above })))
+
+  -- A line feed ends a good line.
+  pub read-line : (line : Line) (next : Schedule) → Takes so_far.lines part line → Stands (line ∷ so_far.lines) next → AreGoodSoFar (bytes ++ 10 ∷ []) next []
+  read-line line next takes stands =
+      record {
+        lines = line ∷ so_far.lines;
+        stands = stands;
+        good = λ rest after good. good-more 10 rest after (subst (λ ls. AreGood so_far.lines ls after) (sym (lines_of-feed part rest so_far.no_feed)) (line, takes, good));
+        refused = λ rest refusal refused. refused-more 10 rest refusal (subst (λ ls. HaveRefused so_far.lines ls refusal) (sym (lines_of-feed part rest so_far.no_feed)) (inr (line, takes, refused)));
+        no_feed = refl;
+        short = omega arith;
+      }
+
+  -- A line feed ends a line that is refused.
+  pub read-refused : (refusal : Refusal) → Refuses so_far.lines part refusal → (rest : List ℕ) → IsRefused (bytes ++ 10 ∷ [] ++ rest) refusal
+  read-refused refusal refuses rest =
+      refused-more 10 rest refusal (subst (λ ls. HaveRefused so_far.lines ls refusal) (sym (lines_of-feed part rest so_far.no_feed)) (inl refuses))
+
+  -- The end of the text ends a line.
+  last-line : part ≢ [] → lines_of (part ++ []) ≡ part ∷ []
+  last-line some = ap lines_of (append_nil part) ∙ lines_of-one part so_far.no_feed some
+
+  pub last-good : (line : Line) → part ≢ [] → Takes so_far.lines part line → IsSchedule bytes (line ∷ so_far.lines)
+  last-good line some takes =
+      subst (λ bs. IsSchedule bs (line ∷ so_far.lines)) (append_nil bytes)
+      (so_far.good [] (line ∷ so_far.lines) (subst (λ ls. AreGood so_far.lines ls (line ∷ so_far.lines)) (sym (last-line some)) (line, takes, refl)))
+
+  pub last-refused : (refusal : Refusal) → part ≢ [] → Refuses so_far.lines part refusal → IsRefused bytes refusal
+  last-refused refusal some refuses =
+      subst (λ bs. IsRefused bs refusal) (append_nil bytes)
+      (so_far.refused [] refusal (subst (λ ls. HaveRefused so_far.lines ls refusal) (sym (last-line some)) (inl refuses)))
+
+  -- The end of the text behind a line feed.
+  pub last-none : part ≡ [] → IsSchedule bytes so_far.lines
+  last-none none =
+      subst (λ bs. IsSchedule bs so_far.lines) (append_nil bytes)
+      (so_far.good [] so_far.lines (subst (λ bs. AreGood so_far.lines (lines_of (bs ++ [])) so_far.lines) (sym none) refl))

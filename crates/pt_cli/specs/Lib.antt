@@ -1,6 +1,8 @@
-pub mod Faithful
-pub mod FirstForm
-pub mod Form
-pub mod Lines
-pub mod Machine
+pub mod Errors
+pub mod Machines
+pub mod Outcomes
+pub mod Reading
 pub mod Replay
+pub mod Schedule
+pub mod Text
+pub mod Words

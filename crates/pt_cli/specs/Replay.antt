@@ -1,37 +1,37 @@
 -- What the program answers and writes.
-use Rattle.std.specs.Prelude.{◌≡◌, ℕ, ◌++◌, ◌⊎◌, Bool, List, [], ◌∷◌, map, reverse, codes, String, IsTrue}
-use Rattle.std.specs.String.{string_bytes}
+use Rattle.std.specs.Prelude.{◌≡◌, ℕ, ◌++◌, ◌⊎◌, Bool, true, false, List, [], IsTrue}
 use Rattle.ep_defs.specs.Session.{standard_info_of}
-use Rattle.nt_write.specs.Canonical.{IsCanonical}
-use Rattle.ep_model.specs.declared.step.Step.{Step}
-use Rattle.ep_model.specs.History.{Past}
+use Rattle.ep_model.specs.History.{is_finished}
 use Rattle.ep_model.specs.Lawful.{IsLawful}
-use Rattle.ep_model.specs.Entries.{entries}
-use Rattle.ep_model.specs.Faithful.{shares_of, no_refusals}
-use Rattle.pt_cli.specs.Faithful.{Faithful}
-use Rattle.pt_cli.specs.FirstForm.{form_events, IsSchedule}
+use Rattle.ep_core.specs.Streams.{IsStreamOf}
+use Rattle.ep_plan.specs.declared.line.Line.{Line}
+use Rattle.pt_cli.specs.declared.errors.Refusal.{Refusal}
+use Rattle.pt_cli.specs.Errors.{words_error, refusal_error, unfinished_error}
+use Rattle.pt_cli.specs.Schedule.{definitions_of, past_of, IsSchedule, IsRefused}
+use Rattle.pt_cli.specs.Words.{IsReplay}
 
--- The words are the one word `replay`.
-abbrev pub IsReplay : List (List ℕ) → Type 0
-IsReplay words = words ≡ codes "replay" ∷ []
+-- The stream is what replaying the bytes for a session gives: they are a schedule, each of its steps could be made, the
+-- session is finished, and the stream is the one of its entries and faithful.
+pub record IsReplayed (session : ℕ) (bytes stream : List ℕ) : Type 0 where
+  pub lines : List Line
+  pub schedule : IsSchedule bytes lines
+  pub lawful : IsLawful (definitions_of lines) (past_of lines)
+  pub finished : is_finished session (past_of lines) ≡ true
+  pub told : IsStreamOf (definitions_of lines) (standard_info_of 1 1) session (past_of lines) stream
 
--- The error lines, each with its line feed.
-abbrev pub words_error : List ℕ
-words_error = codes "error: words" ++ 10 ∷ []
+-- The bytes are a schedule that does not finish the session.
+abbrev pub IsUnfinished : ℕ → List ℕ → Type 0
+IsUnfinished session bytes = (lines : List Line) × IsSchedule bytes lines × (is_finished session (past_of lines) ≡ false)
 
-abbrev pub form_error : List ℕ
-form_error = codes "error: form" ++ 10 ∷ []
+-- The bytes are a schedule that finishes the session.
+abbrev pub Finishes : ℕ → List ℕ → Type 0
+Finishes session bytes = (lines : List Line) × IsSchedule bytes lines × (is_finished session (past_of lines) ≡ true)
 
--- The bytes are the stream of session 1 after these steps: each step could be made, the bytes are canonical for the
--- session's entries, and their items tell of each thread exactly the writes that the session admitted, none refused.
-pub record IsReplayed (steps : List Step) (bytes : List ℕ) : Type 0 where
-  pub lawful : IsLawful form_events (reverse steps)
-  pub canonical : IsCanonical (standard_info_of 1 1) (entries form_events 1 (reverse steps)) bytes
-  pub faithful : Faithful (shares_of form_events 1 (reverse steps) no_refusals) canonical.items
-
--- The bytes are no schedule of the form.
-abbrev pub IsNoSchedule : List ℕ → Type 0
-IsNoSchedule bytes = (steps : List Step) → IsSchedule bytes steps → ⊥
+-- The error line for bytes that can't be replayed for a session.
+abbrev pub IsError : ℕ → List ℕ → List ℕ → Type 0
+IsError session bytes text =
+    ((refusal : Refusal) × IsRefused bytes refusal × (text ≡ refusal_error refusal))
+    ⊎ (IsUnfinished session bytes × (text ≡ unfinished_error session))
 
 -- All of the input was read, and it was these bytes, where it tells them.
 abbrev pub ReadAll : {I : Type 0} → (I → Bool) → (I → List ℕ) → (I → List ℕ) → I → I → List ℕ → Type 0
@@ -45,6 +45,6 @@ TookText tells taken old new text = IsTrue (tells old) → taken new ≡ taken o
 -- What is written for the words and the input, if nothing fails.
 abbrev pub IsAnswer : List (List ℕ) → List ℕ → List ℕ → Type 0
 IsAnswer words bytes text =
-    ((IsReplay words → ⊥) × (text ≡ words_error))
-    ⊎ (IsReplay words × IsNoSchedule bytes × (text ≡ form_error))
-    ⊎ ((steps : List Step) × IsReplay words × IsSchedule bytes steps × IsReplayed steps text)
+    (((session : ℕ) → IsReplay words session → ⊥) × (text ≡ words_error))
+    ⊎ ((session : ℕ) × IsReplay words session × IsError session bytes text)
+    ⊎ ((session : ℕ) × IsReplay words session × IsReplayed session bytes text)

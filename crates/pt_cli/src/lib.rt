@@ -1,18 +1,22 @@
 //! The program `tracepipe` as one call: the words of its command line, its input and its output.
 //!
-//! `model` has the steps of a schedule and what can stand against one; `lines` reads a line of a schedule; `form`
-//! judges the order of the lines; `machine` makes the steps; `replay` joins them; `top` is the call. What a schedule
-//! means is defined in `specs/`: `History`, `Lawful`, `Entries` and `Faithful` for any schedule, `FirstForm` for those
-//! that are read today. It stands on nt_write, for the stream, pt_io, for input and output, and ep_defs, for the types.
+//! `words` reads the command line; `text` splits the input into lines as it comes; `schedule` takes the lines one after
+//! another, over the machine that makes their steps; `errors` has the lines that say why an input is refused; `top` is
+//! the call; `outcome` has the law that a text has one outcome. Which texts are schedules is defined in
+//! `specs/Schedule`, and what the program answers in `specs/Replay`. It stands on ep_plan, for what a line means,
+//! ep_core, for the machine, ep_model, for the steps, nt_write, for the streams, pt_io, for input and output, and
+//! ep_defs, for the types.
 //!
 //! Its one contract: the clauses of `tracepipe`.
 #![tactic(auto)]
 
-mod form;
-mod lines;
-mod machine;
-mod replay;
+mod errors;
+mod outcome;
+mod schedule;
+mod text;
 mod top;
+mod words;
 
-pub use ep_model::{Kind, Step, Unlawful};
+pub use errors::{Reason, Refusal};
+pub use outcome::a_text_has_one_outcome;
 pub use top::{Finished, tracepipe};

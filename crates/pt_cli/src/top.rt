@@ -1,13 +1,20 @@
 //! The top call.
-ghost use Rattle.std.specs.Prelude.{◌≡◌, ◌≢◌, ◌⊎◌, ◌↔◌, ℕ, List, map, codes, IsTrue, IfOk, OnOk};
+ghost use Rattle.std.specs.Prelude.{◌≡◌, ◌≢◌, ◌⊎◌, ℕ, List, map, IsTrue, IfOk, OnOk, IsOkAnd};
 ghost use Rattle.std.specs.String.{string_bytes};
 ghost use Rattle.pt_io.specs.Faults.{HasRisen};
 ghost use Rattle.pt_io.specs.Taken.{TookPartOf};
-ghost use Rattle.ep_model.specs.declared.step.Step.{Step};
-ghost use Rattle.pt_cli.specs.FirstForm.{IsSchedule};
-ghost use Rattle.pt_cli.specs.Replay.{IsReplay, IsReplayed, IsNoSchedule, ReadAll, TookText, IsAnswer, words_error, form_error};
+ghost use Rattle.pt_cli.specs.declared.errors.Refusal.{Refusal};
+ghost use Rattle.pt_cli.specs.declared.top.ReadFault.TheVariants.{OutOfMemory};
+ghost use Rattle.pt_cli.specs.Errors.{words_error};
+ghost use Rattle.pt_cli.specs.Schedule.{IsRefused};
+ghost use Rattle.pt_cli.specs.Reading.{IsJudged};
+ghost use Rattle.pt_cli.specs.Words.{IsReplay};
+ghost use Rattle.pt_cli.specs.Replay.{IsReplayed, IsUnfinished, Finishes, IsError, ReadAll, TookText, IsAnswer};
 
-use crate::replay::replay;
+use crate::errors::{refusal_text, unfinished_text};
+use crate::outcome::a_text_has_one_outcome;
+use crate::text::{Outcome, Reader};
+use crate::words::session_of;
 use pt_io::{Failed, Sink, Source};
 use std::alloc::{AllocError, Global};
 
@@ -24,39 +31,44 @@ pub struct Finished {
 
 /// Does what the words of the command line ask for.
 ///
-/// With the one word `replay` it reads a schedule from `input` to its end and writes the stream of session 1 to `output`
-/// in one write. With status 2 or 3 the output took one error line. Nothing is written before the input was read.
+/// With `replay`, `replay --session N` or `replay --session=N` it reads a schedule from `input` to its end and writes the
+/// stream of session N, by default 1, to `output` in one write. With status 2 or 3 the output took one error line. Nothing
+/// is written before the input was read.
 pub fn tracepipe<I: Source, O: Sink>(
     alloc: Global,
     words: &[String],
     input: &mut I,
     output: &mut O,
 ) -> Finished
-    ensures done { result.status ≡ 0 → IsReplay (map string_bytes words.now) × ((bytes : List ℕ) × (steps : List Step) × (stream : List ℕ)
-        × ReadAll I.tells_given I.given I.left input.old input.new bytes × IsSchedule bytes steps
-        × IsReplayed steps stream × TookText O.tells_taken O.taken output.old output.new stream) }
+    ensures done { result.status ≡ 0 → (session : ℕ) × IsReplay (map string_bytes words.now) session × ((bytes : List ℕ) × (stream : List ℕ)
+        × ReadAll I.tells_given I.given I.left input.old input.new bytes
+        × IsReplayed session bytes stream × TookText O.tells_taken O.taken output.old output.new stream) }
 
     // Words that are not `replay`.
-    ensures words { result.status ≡ 2 → (IsReplay (map string_bytes words.now) → ⊥) × TookText O.tells_taken O.taken output.old output.new words_error × (input.new ≡ input.old) }
-    ensures words_refused { (IsReplay (map string_bytes words.now) → ⊥) → (result.status ≡ 2) ⊎ (result.status ≡ 5) }
+    ensures words { result.status ≡ 2 → ((session : ℕ) → IsReplay (map string_bytes words.now) session → ⊥)
+        × TookText O.tells_taken O.taken output.old output.new words_error × (input.new ≡ input.old) }
+    ensures words_refused { ((session : ℕ) → IsReplay (map string_bytes words.now) session → ⊥) → (result.status ≡ 2) ⊎ (result.status ≡ 5) }
 
-    // An input that is no schedule of the form.
-    ensures form { result.status ≡ 3 → IsReplay (map string_bytes words.now) × ((bytes : List ℕ)
-        × ReadAll I.tells_given I.given I.left input.old input.new bytes × IsNoSchedule bytes
-        × TookText O.tells_taken O.taken output.old output.new form_error) }
+    // An input that is no schedule, or does not finish the session.
+    ensures refused { result.status ≡ 3 → (session : ℕ) × IsReplay (map string_bytes words.now) session × ((bytes : List ℕ) × (text : List ℕ)
+        × ReadAll I.tells_given I.given I.left input.old input.new bytes
+        × IsError session bytes text × TookText O.tells_taken O.taken output.old output.new text) }
 
     // An input that tells its bytes is judged by them, unless something fails.
-    ensures form_refused { IsReplay (map string_bytes words.now) → IsTrue (I.tells_given input.old) → IsNoSchedule (I.left input.old)
-        → (result.status ≡ 3) ⊎ (result.status ≡ 4) ⊎ (result.status ≡ 5) ⊎ (result.status ≡ 9) }
-    ensures form_taken { (steps : List Step) → IsReplay (map string_bytes words.now) → IsTrue (I.tells_given input.old) → IsSchedule (I.left input.old) steps
-        → (result.status ≡ 0) ⊎ (result.status ≡ 4) ⊎ (result.status ≡ 5) ⊎ (result.status ≡ 9) }
+    ensures refused_exactly { (session : ℕ) (refusal : Refusal) → IsReplay (map string_bytes words.now) session → IsTrue (I.tells_given input.old)
+        → IsRefused (I.left input.old) refusal → (result.status ≡ 3) ⊎ (result.status ≡ 4) ⊎ (result.status ≡ 5) ⊎ (result.status ≡ 9) }
+    ensures unfinished { (session : ℕ) → IsReplay (map string_bytes words.now) session → IsTrue (I.tells_given input.old)
+        → IsUnfinished session (I.left input.old) → (result.status ≡ 3) ⊎ (result.status ≡ 4) ⊎ (result.status ≡ 5) ⊎ (result.status ≡ 9) }
+    ensures taken { (session : ℕ) → IsReplay (map string_bytes words.now) session → IsTrue (I.tells_given input.old)
+        → Finishes session (I.left input.old) → (result.status ≡ 0) ⊎ (result.status ≡ 4) ⊎ (result.status ≡ 5) ⊎ (result.status ≡ 9) }
 
     // A fault comes only from the object that was handed in, in this call.
-    ensures read_fault { result.status ≡ 4 → IsReplay (map string_bytes words.now) × HasRisen (I.read_faults input.old) (I.read_faults input.new) × (output.new ≡ output.old) }
+    ensures read_fault { result.status ≡ 4 → ((session : ℕ) × IsReplay (map string_bytes words.now) session)
+        × HasRisen (I.read_faults input.old) (I.read_faults input.new) × (output.new ≡ output.old) }
     ensures all_read { result.status ≢ 4 → I.read_faults input.new ≡ I.read_faults input.old }
     ensures write_fault { result.status ≡ 5 → HasRisen (O.write_faults output.old) (O.write_faults output.new) }
     ensures written_part { result.status ≡ 5 → (bytes : List ℕ) × (text : List ℕ)
-        × (IsReplay (map string_bytes words.now) → ReadAll I.tells_given I.given I.left input.old input.new bytes)
+        × ((session : ℕ) → IsReplay (map string_bytes words.now) session → ReadAll I.tells_given I.given I.left input.old input.new bytes)
         × IsAnswer (map string_bytes words.now) bytes text
         × (IsTrue (O.tells_taken output.old) → TookPartOf text (O.taken output.old) (O.taken output.new)) }
     ensures all_written { result.status ≢ 5 → O.write_faults output.new ≡ O.write_faults output.old }
@@ -66,18 +78,14 @@ pub fn tracepipe<I: Source, O: Sink>(
     ensures statuses { (result.status ≡ 0) ⊎ (result.status ≡ 2) ⊎ (result.status ≡ 3) ⊎ (result.status ≡ 4) ⊎ (result.status ≡ 5) ⊎ (result.status ≡ 9) }
     ensures no_code { (result.code ≡ 0) × (result.at ≡ 0) }
 {
-    if !is_replay(words) {
+    a_text_has_one_outcome();
+    let Some(session) = session_of(words) else {
         return say(output, b"error: words\n", 2);
-    }
-    let bytes = match read_all(alloc, input) {
-        Ok(bytes) => bytes,
-        Err(ReadFault::Failed) => return ended_with(4),
-        Err(ReadFault::OutOfMemory) => return ended_with(9),
     };
-    match replay(alloc, &bytes) {
-        Ok(Some(stream)) => say(output, &stream, 0),
-        Ok(None) => say(output, b"error: form\n", 3),
-        Err(AllocError) => ended_with(9),
+    match read_all(alloc, input) {
+        Ok(reader) => answer(alloc, &reader, session, output),
+        Err(ReadFault::Failed) => ended_with(4),
+        Err(ReadFault::OutOfMemory) => ended_with(9),
     }
 }
 
@@ -90,23 +98,6 @@ fn ended_with(status: u8) -> Finished
         code: 0,
         at: 0,
     }
-}
-
-// Whether the words are the one word `replay`.
-fn is_replay(words: &[String]) -> bool
-    ensures yes { IsTrue result → IsReplay (map string_bytes words.now) }
-    ensures no { IsReplay (map string_bytes words.now) → IsTrue result }
-{
-    match words {
-        [word] => is_word(word),
-        _ => false,
-    }
-}
-
-fn is_word(word: &String) -> bool
-    ensures { IsTrue result ↔ (string_bytes word.now ≡ codes "replay") }
-{
-    word.as_str() == "replay"
 }
 
 // Writes a text and ends with this status, or with 5 where that fails.
@@ -124,19 +115,67 @@ fn say<O: Sink>(output: &mut O, text: &[u8], status: u8) -> Finished
     }
 }
 
+// Writes what the bytes that were read come to for a session.
+fn answer<O: Sink>(alloc: Global, reader: &Reader, session: u32, output: &mut O) -> Finished
+    ensures done { (bytes : List ℕ) → IsJudged bytes reader.now → result.status ≡ 0 → (stream : List ℕ) × IsReplayed session bytes stream
+        × TookText O.tells_taken O.taken output.old output.new stream }
+    ensures refused { (bytes : List ℕ) → IsJudged bytes reader.now → result.status ≡ 3 → (text : List ℕ) × IsError session bytes text
+        × TookText O.tells_taken O.taken output.old output.new text }
+    ensures part { (bytes : List ℕ) → IsJudged bytes reader.now → result.status ≡ 5 → (text : List ℕ)
+        × (IsError session bytes text ⊎ IsReplayed session bytes text)
+        × (IsTrue (O.tells_taken output.old) → TookPartOf text (O.taken output.old) (O.taken output.new)) }
+    ensures write_fault { result.status ≡ 5 → HasRisen (O.write_faults output.old) (O.write_faults output.new) }
+    ensures all_written { result.status ≢ 5 → O.write_faults output.new ≡ O.write_faults output.old }
+    ensures memory { result.status ≡ 9 → output.new ≡ output.old }
+    ensures statuses { (result.status ≡ 0) ⊎ (result.status ≡ 3) ⊎ (result.status ≡ 5) ⊎ (result.status ≡ 9) }
+    ensures no_code { (result.code ≡ 0) × (result.at ≡ 0) }
+{
+    match reader.outcome(session) {
+        Outcome::Stream(stream) => say(output, stream, 0),
+        Outcome::Refused(refusal) => say_error(output, refusal_text(alloc, &refusal)),
+        Outcome::Unfinished => say_error(output, unfinished_text(alloc, session)),
+    }
+}
+
+// Writes an error line, where there was memory for it.
+fn say_error<O: Sink>(output: &mut O, text: Result<String, AllocError>) -> Finished
+    ensures took { result.status ≡ 3 → IsOkAnd text (λ text. TookText O.tells_taken O.taken output.old output.new (string_bytes text)) }
+    ensures part { result.status ≡ 5 → IsOkAnd text (λ text. IsTrue (O.tells_taken output.old)
+        → TookPartOf (string_bytes text) (O.taken output.old) (O.taken output.new)) }
+    ensures write_fault { result.status ≡ 5 → HasRisen (O.write_faults output.old) (O.write_faults output.new) }
+    ensures all_written { result.status ≢ 5 → O.write_faults output.new ≡ O.write_faults output.old }
+    ensures memory { result.status ≡ 9 → output.new ≡ output.old }
+    ensures statuses { (result.status ≡ 3) ⊎ (result.status ≡ 5) ⊎ (result.status ≡ 9) }
+    ensures no_code { (result.code ≡ 0) × (result.at ≡ 0) }
+{
+    match text {
+        Ok(text) => say(output, text.as_bytes(), 3),
+        Err(AllocError) => ended_with(9),
+    }
+}
+
 enum ReadFault {
     Failed,
     OutOfMemory,
 }
 
-// All the bytes of the input, up to its end.
-fn read_all<I: Source>(alloc: Global, input: &mut I) -> Result<Vec<u8>, ReadFault>
-    ensures all { IfOk result (λ bytes. ReadAll I.tells_given I.given I.left input.old input.new bytes.items) }
+impl From<AllocError> for ReadFault {
+    ghost from_gives = { λ _ fault. fault ≡ OutOfMemory };
+
+    fn from(_error: AllocError) -> ReadFault {
+        ReadFault::OutOfMemory
+    }
+}
+
+// Reads and judges all the bytes of the input, up to its end.
+fn read_all<I: Source>(alloc: Global, input: &mut I) -> Result<Reader, ReadFault>
+    ensures all { IfOk result (λ reader. (bytes : List ℕ) × IsJudged bytes reader
+        × ReadAll I.tells_given I.given I.left input.old input.new bytes) }
     ensures read { OnOk result (I.read_faults input.new ≡ I.read_faults input.old) }
     ensures fault { result ≡ Err ReadFault.Failed → HasRisen (I.read_faults input.old) (I.read_faults input.new) }
     ensures memory { result ≡ Err ReadFault.OutOfMemory → I.read_faults input.new ≡ I.read_faults input.old }
 {
-    let mut bytes = Vec::new(alloc);
+    let mut reader = Reader::new(alloc);
     let mut buffer = [0; 4096];
     loop {
         let count = match input.read(&mut buffer) {
@@ -144,11 +183,10 @@ fn read_all<I: Source>(alloc: Global, input: &mut I) -> Result<Vec<u8>, ReadFaul
             Err(Failed) => return Err(ReadFault::Failed),
         };
         if count == 0 {
-            return Ok(bytes);
+            reader.finish(alloc)?;
+            return Ok(reader);
         }
-        if bytes.extend_from_slice(&buffer[..count]).is_err() {
-            return Err(ReadFault::OutOfMemory);
-        }
+        reader.take(alloc, &buffer[..count])?;
     }
 }
 

@@ -5,11 +5,11 @@ use pt_io::{MemSink, MemSource};
 use std::alloc::Global;
 use std::test::Fail;
 
-const OPENING: &str = "event 1 P 1 0 4 1 E -\naccept 1 16 P:1:4\nopen 1 1\n";
+const ONE_EVENT: &str =
+    "event 1 P 1 0 4 1 E -\naccept 1 16 P:1:4\nopen 1 1\nbegin 1 100 1 - - - -\nshow 1 1\nend 1\nsteal 1 1\ngive 1\nclose 1 1\nfinish 1 200\n";
 
-const STOLEN: &str = "steal 1 1\ngive 1\n";
-
-const ENDING: &str = "close 1 1\nfinish 1 200\n";
+const NO_EVENTS: &str =
+    "event 1 P 1 0 4 1 E -\naccept 1 16 P:1:4\nopen 1 1\nclose 1 1\nfinish 1 200\n";
 
 // The start of the stream, the head and the Trace object.
 const START: [u8; 102] = [
@@ -69,48 +69,14 @@ fn source(alloc: Global, text: &str, most: usize) -> Result<MemSource, Fail>
     Ok(MemSource::new(text.as_bytes().to_vec(alloc)?, most, Vec::new(alloc)))
 }
 
-/// The run of `replay` on a text.
-fn replayed(alloc: Global, text: &str) -> Result<Run, Fail> {
+/// The run with these words on a text.
+fn run_on(alloc: Global, words: &[&str], text: &str) -> Result<Run, Fail> {
     run_words(
         alloc,
-        &["replay"],
+        words,
         source(alloc, text, 4096)?,
         MemSink::new(Vec::new(alloc)),
     )
-}
-
-fn push_write(text: &mut String, alloc: Global, stamp: &str) -> Result<(), Fail> {
-    text.push_str(format!(in alloc; "begin 1 {stamp} 1 - - - -\nshow 1 1\nend 1\n")?.as_str())?;
-    Ok(())
-}
-
-/// A schedule of the form whose rounds have writes at these stamps.
-fn schedule(alloc: Global, rounds: &[&[&str]]) -> Result<String, Fail> {
-    let mut text = String::from_str(alloc, OPENING)?;
-    for round in rounds {
-        for stamp in *round {
-            push_write(&mut text, alloc, stamp)?;
-        }
-        text.push_str(STOLEN)?;
-    }
-    text.push_str(ENDING)?;
-    Ok(text)
-}
-
-/// So many writes, all in one round or each in a round of its own.
-fn many(alloc: Global, count: u32, apart: bool) -> Result<String, Fail> {
-    let mut text = String::from_str(alloc, OPENING)?;
-    for stamp in 0..count {
-        push_write(&mut text, alloc, format!(in alloc; "{stamp}")?.as_str())?;
-        if apart {
-            text.push_str(STOLEN)?;
-        }
-    }
-    if !apart {
-        text.push_str(STOLEN)?;
-    }
-    text.push_str(ENDING)?;
-    Ok(text)
 }
 
 /// The start of the stream and what follows it.
@@ -123,8 +89,7 @@ fn stream(alloc: Global, rest: &[u8]) -> Result<Vec<u8>, Fail> {
 #[test]
 fn one_event_takes_310_bytes(rt: HostRuntime) -> Result<(), Fail> {
     let alloc = rt.alloc();
-    let text = schedule(alloc, &[&["100"]])?;
-    let run = replayed(alloc, text.as_str())?;
+    let run = run_on(alloc, &["replay"], ONE_EVENT)?;
     assert_eq!(rt; run.status, 0);
     assert_eq!(rt;
         run.taken.as_slice(),
@@ -136,8 +101,7 @@ fn one_event_takes_310_bytes(rt: HostRuntime) -> Result<(), Fail> {
 #[test]
 fn a_session_without_events_takes_158_bytes(rt: HostRuntime) -> Result<(), Fail> {
     let alloc = rt.alloc();
-    let text = schedule(alloc, &[])?;
-    let run = replayed(alloc, text.as_str())?;
+    let run = run_on(alloc, &["replay"], NO_EVENTS)?;
     assert_eq!(rt; run.status, 0);
     assert_eq!(rt;
         run.taken.as_slice(),
@@ -147,140 +111,22 @@ fn a_session_without_events_takes_158_bytes(rt: HostRuntime) -> Result<(), Fail>
 }
 
 #[test]
-fn rounds_do_not_show_in_the_stream(rt: HostRuntime) -> Result<(), Fail> {
-    let alloc = rt.alloc();
-    let together = schedule(alloc, &[&["7", "5", "9"]])?;
-    let apart = schedule(alloc, &[&["7"], &["5"], &["9"]])?;
-    let first = replayed(alloc, together.as_str())?;
-    let second = replayed(alloc, apart.as_str())?;
-    assert_eq!(rt; first.status, 0);
-    assert_eq!(rt; second.status, 0);
-    assert_eq!(rt; first.taken.as_slice(), second.taken.as_slice());
-    Ok(())
-}
-
-#[test]
-fn there_are_at_most_963_writes(rt: HostRuntime) -> Result<(), Fail> {
-    let alloc = rt.alloc();
-    let first = replayed(alloc, many(alloc, 963, false)?.as_str())?;
-    let second = replayed(alloc, many(alloc, 963, true)?.as_str())?;
-    assert_eq!(rt; first.status, 0);
-    assert_eq!(rt; second.status, 0);
-    assert_eq!(rt; first.taken.as_slice(), second.taken.as_slice());
-    assert_eq!(rt;
-        replayed(alloc, many(alloc, 964, false)?.as_str())?.status,
-        3
-    );
-    assert_eq!(rt;
-        replayed(alloc, many(alloc, 964, true)?.as_str())?.status,
-        3
-    );
-    Ok(())
-}
-
-#[test]
-fn stamps_have_64_bits(rt: HostRuntime) -> Result<(), Fail> {
-    let alloc = rt.alloc();
-    let last = schedule(alloc, &[&["18446744073709551615"]])?;
-    assert_eq!(rt; replayed(alloc, last.as_str())?.status, 0);
-    let past = schedule(alloc, &[&["18446744073709551616"]])?;
-    assert_eq!(rt; replayed(alloc, past.as_str())?.status, 3);
-    let zeros = schedule(alloc, &[&["00000000000000000100"]])?;
-    let run = replayed(alloc, zeros.as_str())?;
-    assert_eq!(rt;
-        run.taken.as_slice(),
-        stream(alloc, &ONE_WRITTEN)?.as_slice()
-    );
-    let many_zeros = schedule(alloc, &[&["000000000000000000100"]])?;
-    assert_eq!(rt; replayed(alloc, many_zeros.as_str())?.status, 3);
-    Ok(())
-}
-
-#[test]
 fn the_last_line_feed_may_be_missing(rt: HostRuntime) -> Result<(), Fail> {
     let alloc = rt.alloc();
-    let mut text = String::from_str(alloc, OPENING)?;
-    push_write(&mut text, alloc, "100")?;
-    text.push_str(STOLEN)?;
-    text.push_str("close 1 1\nfinish 1 200")?;
-    let run = replayed(alloc, text.as_str())?;
-    assert_eq!(rt;
-        run.taken.as_slice(),
-        stream(alloc, &ONE_WRITTEN)?.as_slice()
-    );
-    Ok(())
-}
-
-#[test]
-fn other_texts_are_no_schedule(rt: HostRuntime) -> Result<(), Fail> {
-    let alloc = rt.alloc();
-    let texts = [
-        "",
-        "\n",
-        "event 1 P 1 0 4 1 E -",
-        "event 1 P 1 0 4 1 E -\naccept 1 16 P:1:4\nopen 1 1\nclose 1 1\n",
-        "event 1 P 1 0 4 1 E -\naccept 1 16 P:1:4\nopen 1 1\nsteal 1 1\ngive 1\nclose 1 1\nfinish 1 200\n",
-        "event 1 P 1 0 4 1 E -\naccept 1 16 P:1:4\nopen 1 1\nclose 1 1\nfinish 1 200\n\n",
-        "event 1 P 1 0 4 1 E -\n\naccept 1 16 P:1:4\nopen 1 1\nclose 1 1\nfinish 1 200\n",
-        "event 1 P 1 0 4 1 E -\r\naccept 1 16 P:1:4\r\nopen 1 1\r\nclose 1 1\r\nfinish 1 200\r\n",
-        "event 1 P 1 0 4 1 E -\naccept 1 16 P:1:4\nopen 1  1\nclose 1 1\nfinish 1 200\n",
-        "event 1 P 1 0 4 1 E -\naccept 1 16 P:1:4\nopen 1 1\nclose 1 1 \nfinish 1 200\n",
-        "event 1 P 1 0 4 1 E -\naccept 1 16 P:1:4\nopen 1 1\nfinish 1 200\nclose 1 1\n",
-        "event 1 P 1 0 4 1 E -\naccept 1 16 P:1:4\nopen 1 1\nclose 1 1\nfinish 1 +200\n",
-    ];
-    for text in texts {
-        let run = replayed(alloc, text)?;
-        assert_eq!(rt; run.status, 3);
-        assert_eq!(rt; run.taken.as_slice(), b"error: form\n".as_slice());
-    }
-    Ok(())
-}
-
-/// The run with these words and no input.
-fn run_of_words(alloc: Global, words: &[&str]) -> Result<Run, Fail> {
-    run_words(
-        alloc,
-        words,
-        source(alloc, "", 1)?,
-        MemSink::new(Vec::new(alloc)),
-    )
-}
-
-#[test]
-fn no_words_are_refused(rt: HostRuntime) -> Result<(), Fail> {
-    let run = run_of_words(rt.alloc(), &[])?;
-    assert_eq!(rt; run.status, 2);
-    assert_eq!(rt; run.taken.as_slice(), b"error: words\n".as_slice());
-    Ok(())
-}
-
-#[test]
-fn words_other_than_replay_are_refused(rt: HostRuntime) -> Result<(), Fail> {
-    let alloc = rt.alloc();
-    for word in ["Replay", "", "--help", "replay "] {
-        let run = run_of_words(alloc, &[word])?;
-        assert_eq!(rt; run.status, 2);
-        assert_eq!(rt; run.taken.as_slice(), b"error: words\n".as_slice());
-    }
-    Ok(())
-}
-
-#[test]
-fn a_word_too_many_is_refused(rt: HostRuntime) -> Result<(), Fail> {
-    let run = run_of_words(rt.alloc(), &["replay", "x"])?;
-    assert_eq!(rt; run.status, 2);
-    assert_eq!(rt; run.taken.as_slice(), b"error: words\n".as_slice());
+    let text = ONE_EVENT.strip_suffix("\n").unwrap_or("");
+    let run = run_on(alloc, &["replay"], text)?;
+    assert_eq!(rt; run.status, 0);
+    assert_eq!(rt; run.taken.len(), 310);
     Ok(())
 }
 
 #[test]
 fn one_byte_at_a_time_is_read_alike(rt: HostRuntime) -> Result<(), Fail> {
     let alloc = rt.alloc();
-    let text = schedule(alloc, &[&["100"]])?;
     let run = run_words(
         alloc,
         &["replay"],
-        source(alloc, text.as_str(), 1)?,
+        source(alloc, ONE_EVENT, 1)?,
         MemSink::new(Vec::new(alloc)),
     )?;
     assert_eq!(rt;
@@ -290,26 +136,253 @@ fn one_byte_at_a_time_is_read_alike(rt: HostRuntime) -> Result<(), Fail> {
     Ok(())
 }
 
+/// Events 1 to 3 have the keywords 1, 2 and 3. Session 1 admits the first and the third, session 2 the last two.
+const TWO_SESSIONS: &str =
+    "# two sessions\n\nevent 1 P 1 0 4 1 A -\nevent 2 P 2 0 4 2 B -\nevent 3 P 3 0 4 3 C -\n\
+    accept 1 16 P:1:4\naccept 2 16 P:2:4\nopen 1 1\nopen 2 1\n\
+    begin 1 10 1 - - - -\nshow 1 1\nend 1\n\
+    begin 1 20 2 - - - -\nshow 1 2\nend 1\n\
+    begin 1 30 3 - - - -\nshow 1 1\nshow 1 2\nend 1\n\
+    close 1 1\ngive 1\nfinish 1 40\nclose 2 1\ngive 2\nfinish 2 50\n";
+
+/// The same with the steps of the sessions in another order.
+const SHUFFLED: &str = "event 1 P 1 0 4 1 A -\nevent 2 P 2 0 4 2 B -\nevent 3 P 3 0 4 3 C -\n\
+    accept 1 16 P:1:4\nopen 1 1\naccept 2 16 P:2:4\nopen 2 1\n\
+    begin 1 10 1 - - - -\nshow 1 1\nend 1\nsteal 1 1\n\
+    begin 1 20 2 - - - -\nshow 1 2\nend 1\ngive 1\nsteal 2 1\ngive 2\n\
+    begin 1 30 3 - - - -\nshow 1 2\nshow 1 1\nend 1\n\
+    close 2 1\ngive 2\nclose 1 1\ngive 1\nfinish 2 50\nfinish 1 40\n";
+
+/// The same with one session alone, so numbered that its stream is that of the session of two.
+const FIRST_ALONE: &str = "event 1 P 1 0 4 1 A -\nevent 2 P 2 0 4 2 B -\nevent 3 P 3 0 4 3 C -\n\
+    accept 1 16 P:1:4\nopen 1 1\n\
+    begin 1 10 1 - - - -\nshow 1 1\nend 1\nbegin 1 20 2 - - - -\nend 1\nbegin 1 30 3 - - - -\nshow 1 1\nend 1\n\
+    close 1 1\ngive 1\nfinish 1 40\n";
+
+#[test]
+fn each_session_has_its_own_stream(rt: HostRuntime) -> Result<(), Fail> {
+    let alloc = rt.alloc();
+    let first = run_on(alloc, &["replay"], TWO_SESSIONS)?;
+    let alone = run_on(alloc, &["replay", "--session=1"], FIRST_ALONE)?;
+    let second = run_on(alloc, &["replay", "--session", "2"], TWO_SESSIONS)?;
+    assert_eq!(rt; (first.status, alone.status, second.status), (0, 0, 0));
+    assert_eq!(rt; first.taken.as_slice(), alone.taken.as_slice());
+    assert!(rt; first.taken.as_slice() != second.taken.as_slice());
+    Ok(())
+}
+
+#[test]
+fn the_order_of_the_sessions_does_not_show(rt: HostRuntime) -> Result<(), Fail> {
+    let alloc = rt.alloc();
+    for session in ["1", "02"] {
+        let words = ["replay", "--session", session];
+        let run = run_on(alloc, &words, TWO_SESSIONS)?;
+        let shuffled = run_on(alloc, &words, SHUFFLED)?;
+        assert_eq!(rt; (run.status, shuffled.status), (0, 0));
+        assert_eq!(rt; run.taken.as_slice(), shuffled.taken.as_slice());
+    }
+    Ok(())
+}
+
+const OPENING: &str = "event 1 P 1 0 4 1 E -\naccept 1 16 P:1:4\nopen 1 1\n";
+
+/// Texts that are refused behind the opening, on lines 4 and further.
+const REFUSED: [(&str, &str); 16] = [
+    ("open 1 1\n", "error: line 4 column 1: AlreadyOpen\n"),
+    ("open 1 1", "error: line 4 column 1: AlreadyOpen\n"),
+    ("\n#\nopne 1 1\n", "error: line 6 column 1: Word\n"),
+    (
+        "open 1 1\nopne 1 1\n",
+        "error: line 4 column 1: AlreadyOpen\n",
+    ),
+    ("close 1 1\r\n", "error: line 4 column 9: Number\n"),
+    (
+        "event 2 P 2 0 4 1 E -\n",
+        "error: line 4 column 1: LateEvent\n",
+    ),
+    ("close 1 1\n", "error: end: NotFinished 1\n"),
+    // What is not taken yet, before the step's own kind.
+    ("point 1 5\n", "error: line 4 column 1: Form\n"),
+    ("begin 1 5 1 - - ff -\n", "error: line 4 column 1: Form\n"),
+    ("open 1 16\n", "error: line 4 column 1: Form\n"),
+    ("begin 16 5 1 - - - -\n", "error: line 4 column 1: Form\n"),
+    ("show 16 1\n", "error: line 4 column 1: Form\n"),
+    ("end 300\n", "error: line 4 column 1: Form\n"),
+    ("steal 9 16\n", "error: line 4 column 1: Form\n"),
+    ("close 1 16\n", "error: line 4 column 1: Form\n"),
+    ("accept 1 15 P:1:4\n", "error: line 4 column 1: Form\n"),
+];
+
+#[test]
+fn the_first_bad_line_is_named(rt: HostRuntime) -> Result<(), Fail> {
+    let alloc = rt.alloc();
+    for (lines, error) in REFUSED {
+        let text = format!(in alloc; "{OPENING}{lines}")?;
+        let run = run_on(alloc, &["replay"], text.as_str())?;
+        assert_eq!(rt; run.status, 3);
+        assert_eq!(rt; run.taken.as_slice(), error.as_bytes(), "at {lines}");
+    }
+    Ok(())
+}
+
+#[test]
+fn texts_without_a_step_are_refused(rt: HostRuntime) -> Result<(), Fail> {
+    let alloc = rt.alloc();
+    let texts = [
+        ("", "error: end: NotFinished 1\n"),
+        ("\n", "error: end: NotFinished 1\n"),
+        (
+            "event 1 P 1 0 4 1 E -\nevent 2 P 1 0 4 1 E -\n",
+            "error: line 2 column 1: Same\n",
+        ),
+        (
+            "event 1 P 1 0 4 1 E -\naccept 1 16 P:1:4\nopne 1 1\n",
+            "error: line 3 column 1: Word\n",
+        ),
+    ];
+    for (text, error) in texts {
+        let run = run_on(alloc, &["replay"], text)?;
+        assert_eq!(rt; run.status, 3);
+        assert_eq!(rt; run.taken.as_slice(), error.as_bytes());
+    }
+    Ok(())
+}
+
+#[test]
+fn a_session_that_is_not_finished_is_named(rt: HostRuntime) -> Result<(), Fail> {
+    let alloc = rt.alloc();
+    let run = run_on(alloc, &["replay", "--session=4294967295"], ONE_EVENT)?;
+    assert_eq!(rt; run.status, 3);
+    assert_eq!(rt;
+        run.taken.as_slice(),
+        b"error: end: NotFinished 4294967295\n".as_slice()
+    );
+    let finish = ONE_EVENT.strip_suffix("finish 1 200\n").unwrap_or("");
+    let run = run_on(alloc, &["replay"], finish)?;
+    assert_eq!(rt; run.status, 3);
+    assert_eq!(rt;
+        run.taken.as_slice(),
+        b"error: end: NotFinished 1\n".as_slice()
+    );
+    Ok(())
+}
+
+/// A schedule with a write of each of these sizes, in hexadecimal digits of its payload.
+fn with_payloads(alloc: Global, payloads: &[usize]) -> Result<String, Fail> {
+    let mut text = String::from_str(alloc, OPENING)?;
+    for payload in payloads {
+        text.push_str("begin 1 5 1 - - - ")?;
+        for _ in 0..*payload {
+            text.push_str("00")?;
+        }
+        text.push_str("\nshow 1 1\nend 1\n")?;
+    }
+    text.push_str("close 1 1\ngive 1\nfinish 1 9\n")?;
+    Ok(text)
+}
+
+#[test]
+fn all_writes_take_at_most_65536_bytes(rt: HostRuntime) -> Result<(), Fail> {
+    let alloc = rt.alloc();
+    // A write takes 68 bytes and its payload: 60,068 and 5,468 are 65,536.
+    let most = with_payloads(alloc, &[60_000, 5_400])?;
+    assert_eq!(rt; run_on(alloc, &["replay"], most.as_str())?.status, 0);
+    let above = with_payloads(alloc, &[60_000, 5_401])?;
+    let run = run_on(alloc, &["replay"], above.as_str())?;
+    assert_eq!(rt; run.status, 3);
+    assert_eq!(rt;
+        run.taken.as_slice(),
+        b"error: line 7 column 1: Form\n".as_slice()
+    );
+    Ok(())
+}
+
+/// A comment of so many bytes behind two lines, and a bad line behind it.
+fn with_comment(alloc: Global, length: usize) -> Result<String, Fail> {
+    let mut text = String::from_str(alloc, "\n\n")?;
+    for _ in 0..length {
+        text.push_str("#")?;
+    }
+    text.push_str("\nopne\n")?;
+    Ok(text)
+}
+
+#[test]
+fn a_line_has_at_most_262144_bytes(rt: HostRuntime) -> Result<(), Fail> {
+    let alloc = rt.alloc();
+    let cases = [
+        (262_144, "error: line 4 column 1: Word\n"),
+        (262_145, "error: line 3 column 1: Long\n"),
+        (300_000, "error: line 3 column 1: Long\n"),
+    ];
+    for (length, error) in cases {
+        let text = with_comment(alloc, length)?;
+        let run = run_on(alloc, &["replay"], text.as_str())?;
+        assert_eq!(rt; run.status, 3);
+        assert_eq!(rt; run.taken.as_slice(), error.as_bytes());
+    }
+    Ok(())
+}
+
+const OTHER_WORDS: [&[&str]; 22] = [
+    &[],
+    &[""],
+    &["Replay"],
+    &["replay "],
+    &["--help"],
+    &["--session", "1"],
+    &["replay", ""],
+    &["replay", "x"],
+    &["replay", "--"],
+    &["replay", "--help"],
+    &["replay", "--session"],
+    &["replay", "--session="],
+    &["replay", "--session", ""],
+    &["replay", "--session", "0"],
+    &["replay", "--session", "+1"],
+    &["replay", "--session", "replay"],
+    &["replay", "--session", "000000000000000000001"],
+    &["replay", "--session=4294967296"],
+    &["replay", "--session=18446744073709551617"],
+    &["replay", "--session", "1", "--session", "1"],
+    &["replay", "--session=1", "--session=1"],
+    &["replay", "--session", "1", ""],
+];
+
+#[test]
+fn other_words_are_refused(rt: HostRuntime) -> Result<(), Fail> {
+    let alloc = rt.alloc();
+    for words in OTHER_WORDS {
+        let run = run_on(alloc, words, ONE_EVENT)?;
+        assert_eq!(rt; run.status, 2);
+        assert_eq!(rt; run.taken.as_slice(), b"error: words\n".as_slice());
+    }
+    Ok(())
+}
+
 #[test]
 fn each_failed_read_ends_the_run(rt: HostRuntime) -> Result<(), Fail> {
     let alloc = rt.alloc();
-    let text = schedule(alloc, &[&["100"]])?;
-    let reads = text.len() as u64 / 10;
-    for failing in 1..reads {
-        let mut fails = Vec::new(alloc);
-        fails.push(failing)?;
-        let input = MemSource::new(text.as_bytes().to_vec(alloc)?, 10, fails);
-        let run = run_words(alloc, &["replay"], input, MemSink::new(Vec::new(alloc)))?;
-        assert_eq!(rt; run.status, 4);
-        assert_eq!(rt; run.taken.len(), 0);
+    // The second text is refused at its first line, and read to its end all the same.
+    for text in [
+        ONE_EVENT,
+        "opne\nevent 1 P 1 0 4 1 E -\naccept 1 16 P:1:4\n",
+    ] {
+        let reads = text.len() as u64 / 10;
+        for failing in 1..reads {
+            let fails = vec![in alloc; failing]?;
+            let input = MemSource::new(text.as_bytes().to_vec(alloc)?, 10, fails);
+            let run = run_words(alloc, &["replay"], input, MemSink::new(Vec::new(alloc)))?;
+            assert_eq!(rt; run.status, 4);
+            assert_eq!(rt; run.taken.len(), 0);
+        }
     }
     Ok(())
 }
 
 /// The run whose first write fails.
 fn run_unwritten(alloc: Global, word: &str, text: &str) -> Result<Run, Fail> {
-    let mut fails = Vec::new(alloc);
-    fails.push(1)?;
+    let fails = vec![in alloc; 1]?;
     run_words(
         alloc,
         &[word],
@@ -321,12 +394,14 @@ fn run_unwritten(alloc: Global, word: &str, text: &str) -> Result<Run, Fail> {
 #[test]
 fn a_failed_write_ends_the_run(rt: HostRuntime) -> Result<(), Fail> {
     let alloc = rt.alloc();
-    let text = schedule(alloc, &[&["100"]])?;
-    let stream = run_unwritten(alloc, "replay", text.as_str())?;
-    assert_eq!(rt; (stream.status, stream.taken.len()), (5, 0));
-    let form_error = run_unwritten(alloc, "replay", "")?;
-    assert_eq!(rt; (form_error.status, form_error.taken.len()), (5, 0));
-    let words_error = run_unwritten(alloc, "x", "")?;
-    assert_eq!(rt; (words_error.status, words_error.taken.len()), (5, 0));
+    for (word, text) in [
+        ("replay", ONE_EVENT),
+        ("replay", ""),
+        ("replay", "opne"),
+        ("x", ""),
+    ] {
+        let run = run_unwritten(alloc, word, text)?;
+        assert_eq!(rt; (run.status, run.taken.len()), (5, 0));
+    }
     Ok(())
 }

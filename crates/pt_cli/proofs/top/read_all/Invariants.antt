@@ -1,5 +1,6 @@
--- What was read so far and what is left are the whole input, and no read failed.
-use Rattle.std.proofs.Common.{◌≡◌, ◌++◌, IsTrue, length}
+-- What was read so far and what is left are the whole input, no read failed, and the reader has read it.
+use Rattle.std.proofs.Common.{◌≡◌, ℕ, ◌+◌, ◌<◌, ◌^◌, ◌++◌, List, IsTrue, length}
+use Rattle.pt_cli.specs.Reading.{HasRead, used}
 use Rattle.pt_cli.proofs.top.read_all.Given as goal
 
 abbrev pub invariant-loop-count : goal.invariant-loop-count
@@ -8,8 +9,11 @@ invariant-loop-count g l =
     record {
       told : source.tells_given l.input ≡ source.tells_given l.fn.input;
       faults : source.read_faults l.input ≡ source.read_faults l.fn.input;
-      given : IsTrue (source.tells_given l.fn.input) → source.given l.input ≡ source.given l.fn.input ++ l.bytes.items;
-      left : IsTrue (source.tells_given l.fn.input) → source.left l.fn.input ≡ l.bytes.items ++ source.left l.input;
+      bytes : List ℕ;
+      read : HasRead bytes l.reader;
+      given : IsTrue (source.tells_given l.fn.input) → source.given l.input ≡ source.given l.fn.input ++ bytes;
+      left : IsTrue (source.tells_given l.fn.input) → source.left l.fn.input ≡ bytes ++ source.left l.input;
+      few : source.may_give l.input < 2 ^ 63 → used l.reader + source.may_give l.input < 2 ^ 63;
       room : length l.buffer ≡ 4096;
     }
 

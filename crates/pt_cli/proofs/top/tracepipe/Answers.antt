@@ -1,47 +1,97 @@
 -- What was read and what was to be written is named at each end that the search leaves.
-use Rattle.std.proofs.Common.{◌≡◌, ◌⊎◌, ℕ, List, [], ◌∷◌, map, codes, rules, refl, IsTrue, false, true, sym, ap, ◌∙◌, subst, inl, inr}
+use Rattle.std.proofs.Common.{[], map, refl, inl, inr}
 use Rattle.std.specs.String.{string_bytes}
-use Rattle.ep_model.specs.declared.step.Step.{Step}
-use Rattle.pt_cli.specs.FirstForm.{IsSchedule}
-use Rattle.pt_cli.specs.Replay.{IsReplay, IsNoSchedule, words_error, form_error}
+use Rattle.pt_cli.specs.Errors.{words_error}
+use Rattle.pt_cli.specs.Replay.{IsAnswer}
+use Rattle.pt_cli.proofs.Answering.{replayed-not_refused, replayed-not_unfinished, error-not_finished}
 use Rattle.pt_cli.proofs.top.tracepipe.Goals as goal
 
-pub returns-then-not-is_replay-clause-written_part :
-    goal.returns-then-not-is_replay-clause-written_part
-returns-then-not-is_replay-clause-written_part g c = λ five.
-    let is_not : IsReplay (map string_bytes c.args.words.now) → ⊥ = λ is. let yes = c.is_replay.ensures.no is in cc in
-    ([], words_error, (λ is. absurd (is_not is)), inl (is_not, refl), c.say.ensures.part five)
+pub returns-in_default-clause-refused_exactly : goal.returns-in_default-clause-refused_exactly
+returns-in_default-clause-refused_exactly g c = λ session refusal is tells refused. absurd (c.in_default.ensures.none session is)
 
-pub returns-in-Ok-Some-clause-form_refused : goal.returns-in-Ok-Some-clause-form_refused
-returns-in-Ok-Some-clause-form_refused g c = λ is tells none.
-    let read = c.in-Ok.ensures.all tells in
-    let found = rw c.in-Ok-Some.field-0-is at c.in-Ok-Some.ensures.stream in
-    let P : List ℕ → Type 0 = λ bytes. IsSchedule bytes found.0 in
-    absurd (none found.0 (subst P (c.deref.ensures.value ∙ sym read.0) found.1))
+pub returns-in_default-clause-unfinished : goal.returns-in_default-clause-unfinished
+returns-in_default-clause-unfinished g c = λ session is tells unfinished. absurd (c.in_default.ensures.none session is)
 
-pub returns-in-Ok-None-clause-form : goal.returns-in-Ok-None-clause-form
-returns-in-Ok-None-clause-form g c = λ three.
-    let none = rw c.in-Ok-None.field-0-is at c.in-Ok-None.ensures.none in
-    let P : List ℕ → Type 0 = λ bytes. IsNoSchedule bytes in
-    let not_five : c.say-in-Ok-None.result.status ≡ 5 → ⊥ = λ five. cc in (
-      c.is_replay.ensures.yes c.if-not-is_replay.false,
-      (c.in-Ok.bytes.items, c.in-Ok.ensures.all, subst P c.deref.ensures.value none, c.say-in-Ok-None.ensures.took not_five),
-    )
+pub returns-in_default-clause-taken : goal.returns-in_default-clause-taken
+returns-in_default-clause-taken g c = λ session is tells finishes. absurd (c.in_default.ensures.none session is)
 
-pub returns-in-Ok-None-clause-form_taken : goal.returns-in-Ok-None-clause-form_taken
-returns-in-Ok-None-clause-form_taken g c = λ steps is tells schedule.
-    let read = c.in-Ok.ensures.all tells in
-    let none = rw c.in-Ok-None.field-0-is at c.in-Ok-None.ensures.none in
-    let P : List ℕ → Type 0 = λ bytes. IsSchedule bytes steps in
-    absurd (none steps (subst P (read.0 ∙ sym c.deref.ensures.value) schedule))
+pub returns-in_default-clause-written_part : goal.returns-in_default-clause-written_part
+returns-in_default-clause-written_part g c = λ five. (
+  [],
+  words_error,
+  (λ session is. absurd (c.in_default.ensures.none session is)),
+  inl (c.in_default.ensures.none, refl),
+  c.say.ensures.part five,
+)
 
-pub returns-in-Ok-None-clause-written_part : goal.returns-in-Ok-None-clause-written_part
-returns-in-Ok-None-clause-written_part g c = λ five.
-    let none = rw c.in-Ok-None.field-0-is at c.in-Ok-None.ensures.none in
-    let P : List ℕ → Type 0 = λ bytes. IsNoSchedule bytes in (
-      c.in-Ok.bytes.items,
-      form_error,
-      (λ is. c.in-Ok.ensures.all),
-      inr (inl (c.is_replay.ensures.yes c.if-not-is_replay.false, subst P c.deref.ensures.value none, refl)),
-      c.say-in-Ok-None.ensures.part five,
-    )
+pub returns-in-Ok-clause-done : goal.returns-in-Ok-clause-done
+returns-in-Ok-clause-done g c = λ zero.
+    let read = c.in-Ok.ensures.all in
+    let done = c.answer.ensures.done read.0 read.1 zero in
+    (c.in-Some.session, c.in-Some.ensures.some, (read.0, done.0, read.2, done.1, done.2))
+
+pub returns-in-Ok-clause-words_refused : goal.returns-in-Ok-clause-words_refused
+returns-in-Ok-clause-words_refused g c = λ none. absurd (none c.in-Some.session c.in-Some.ensures.some)
+
+pub returns-in-Err-Failed-clause-words_refused : goal.returns-in-Err-Failed-clause-words_refused
+returns-in-Err-Failed-clause-words_refused g c = λ none. absurd (none c.in-Some.session c.in-Some.ensures.some)
+
+pub returns-in-Err-OutOfMemory-clause-words_refused :
+    goal.returns-in-Err-OutOfMemory-clause-words_refused
+returns-in-Err-OutOfMemory-clause-words_refused g c = λ none. absurd (none c.in-Some.session c.in-Some.ensures.some)
+
+pub returns-in-Ok-clause-refused : goal.returns-in-Ok-clause-refused
+returns-in-Ok-clause-refused g c = λ three.
+    let read = c.in-Ok.ensures.all in
+    let refused = c.answer.ensures.refused read.0 read.1 three in
+    (c.in-Some.session, c.in-Some.ensures.some, (read.0, refused.0, read.2, refused.1, refused.2))
+
+pub returns-in-Ok-clause-refused_exactly : goal.returns-in-Ok-clause-refused_exactly
+returns-in-Ok-clause-refused_exactly g c = λ session refusal is tells refused.
+    let read = c.in-Ok.ensures.all in
+    let law = c.a_text_has_one_outcome.ensures in
+    elim c.answer.ensures.statuses [
+      | inl zero ↦
+          let done = c.answer.ensures.done read.0 read.1 zero in
+          absurd (replayed-not_refused law.one_schedule law.not_both c.in-Some.session read.0 (g.I.Source.left c.args.input.now) done.0 refusal (read.2 tells).0 done.1 refused)
+      | inr (inl three) ↦ inl three
+      | inr (inr (inl five)) ↦ inr (inr (inl five))
+      | inr (inr (inr nine)) ↦ inr (inr (inr nine))
+    ]
+
+pub returns-in-Ok-clause-unfinished : goal.returns-in-Ok-clause-unfinished
+returns-in-Ok-clause-unfinished g c = λ session is tells unfinished.
+    let read = c.in-Ok.ensures.all in
+    let law = c.a_text_has_one_outcome.ensures in
+    elim c.answer.ensures.statuses [
+      | inl zero ↦
+          let done = c.answer.ensures.done read.0 read.1 zero in
+          absurd (replayed-not_unfinished law.one_schedule law.not_both (map string_bytes c.args.words.now) c.in-Some.session session read.0 (g.I.Source.left c.args.input.now) done.0 c.in-Some.ensures.some is (read.2 tells).0 done.1 unfinished)
+      | inr (inl three) ↦ inl three
+      | inr (inr (inl five)) ↦ inr (inr (inl five))
+      | inr (inr (inr nine)) ↦ inr (inr (inr nine))
+    ]
+
+pub returns-in-Ok-clause-taken : goal.returns-in-Ok-clause-taken
+returns-in-Ok-clause-taken g c = λ session is tells finishes.
+    let read = c.in-Ok.ensures.all in
+    let law = c.a_text_has_one_outcome.ensures in
+    elim c.answer.ensures.statuses [
+      | inl zero ↦ inl zero
+      | inr (inl three) ↦
+          let refused = c.answer.ensures.refused read.0 read.1 three in
+          absurd (error-not_finished law.one_schedule law.not_both (map string_bytes c.args.words.now) c.in-Some.session session read.0 (g.I.Source.left c.args.input.now) refused.0 c.in-Some.ensures.some is (read.2 tells).0 refused.1 finishes)
+      | inr (inr (inl five)) ↦ inr (inr (inl five))
+      | inr (inr (inr nine)) ↦ inr (inr (inr nine))
+    ]
+
+pub returns-in-Ok-clause-written_part : goal.returns-in-Ok-clause-written_part
+returns-in-Ok-clause-written_part g c = λ five.
+    let read = c.in-Ok.ensures.all in
+    let part = c.answer.ensures.part read.0 read.1 five in
+    let answer : IsAnswer (map string_bytes c.args.words.now) read.0 part.0 =
+    elim part.1 [
+      | inl error ↦ inr (inl (c.in-Some.session, c.in-Some.ensures.some, error))
+      | inr replayed ↦ inr (inr (c.in-Some.session, c.in-Some.ensures.some, replayed))
+    ] in
+    (read.0, part.0, (λ session is. read.2), answer, part.2)

@@ -1,0 +1,14 @@
+-- The words of the command line.
+use Rattle.std.specs.Prelude.{◌≡◌, ℕ, ◌-◌, ◌^◌, ◌<◌, ◌⊎◌, List, [], ◌∷◌, ◌++◌, Some, codes}
+use Rattle.ep_plan.specs.Words.{number_in}
+
+-- The digits spell the number of a session: from 1 to 4,294,967,295.
+abbrev pub IsSession : List ℕ → ℕ → Type 0
+IsSession digits session = (number_in (2 ^ 64 - 1) digits ≡ Some session) × (0 < session) × (session < 2 ^ 32)
+
+-- The words are `replay`, for session 1, or with the session behind `--session`, as a word of its own or behind `=`.
+abbrev pub IsReplay : List (List ℕ) → ℕ → Type 0
+IsReplay words session =
+    ((words ≡ codes "replay" ∷ []) × (session ≡ 1))
+    ⊎ ((digits : List ℕ) × (words ≡ codes "replay" ∷ codes "--session" ∷ digits ∷ []) × IsSession digits session)
+    ⊎ ((digits : List ℕ) × (words ≡ codes "replay" ∷ (codes "--session=" ++ digits) ∷ []) × IsSession digits session)

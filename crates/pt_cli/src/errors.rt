@@ -1,0 +1,96 @@
+//! Why an input is refused, and the lines that say so.
+ghost use Rattle.std.specs.Prelude.{◌≡◌, IfOk};
+ghost use Rattle.std.specs.String.{string_bytes};
+ghost use Rattle.pt_cli.specs.Errors.{line_kind_name, step_kind_name, reason_name, refusal_error, unfinished_error};
+
+use ep_model::Kind;
+use ep_plan::LineKind;
+use std::alloc::{AllocError, Global};
+
+/// Why a line of a schedule is refused.
+#[derive(Clone, Copy, Debug, PartialEq, Eq)]
+pub enum Reason {
+    /// The line is none of the schedule text.
+    Line(LineKind),
+    /// Its step is one that the program does not take yet.
+    Form,
+    /// Its step can't be made after those before it.
+    Step(Kind),
+}
+
+/// The first line of a schedule that is refused.
+#[derive(Clone, Copy, Debug, PartialEq, Eq)]
+pub struct Refusal {
+    /// From 1.
+    pub line: u64,
+    /// The column of the first bad word in bytes, from 1, or 1 where the whole line is refused.
+    pub column: u64,
+    pub reason: Reason,
+}
+
+impl Reason {
+    fn name(self) -> &'static str
+        ensures { result.now ≡ reason_name self }
+    {
+        match self {
+            Reason::Line(kind) => line_kind_text(kind),
+            Reason::Form => "Form",
+            Reason::Step(kind) => step_kind_text(kind),
+        }
+    }
+}
+
+fn line_kind_text(kind: LineKind) -> &'static str
+    ensures { result.now ≡ line_kind_name kind }
+{
+    match kind {
+        LineKind::Word => "Word",
+        LineKind::Number => "Number",
+        LineKind::Hex => "Hex",
+        LineKind::Fields => "Fields",
+        LineKind::Long => "Long",
+        LineKind::LateEvent => "LateEvent",
+        LineKind::EventOrder => "EventOrder",
+        LineKind::Same => "Same",
+    }
+}
+
+fn step_kind_text(kind: Kind) -> &'static str
+    ensures { result.now ≡ step_kind_name kind }
+{
+    match kind {
+        Kind::SessionNumber => "SessionNumber",
+        Kind::BadConfig => "BadConfig",
+        Kind::Full => "Full",
+        Kind::NoSession => "NoSession",
+        Kind::NoThread => "NoThread",
+        Kind::AlreadyOpen => "AlreadyOpen",
+        Kind::InWrite => "InWrite",
+        Kind::NotInWrite => "NotInWrite",
+        Kind::NoEvent => "NoEvent",
+        Kind::TooLarge => "TooLarge",
+        Kind::TooMany => "TooMany",
+        Kind::NotDue => "NotDue",
+        Kind::ShowsDue => "ShowsDue",
+        Kind::NotOpen => "NotOpen",
+        Kind::HandFull => "HandFull",
+        Kind::StillOpen => "StillOpen",
+    }
+}
+
+/// The error line of a refusal, with its line feed.
+pub(crate) fn refusal_text(alloc: Global, refusal: &Refusal) -> Result<String, AllocError>
+    ensures { IfOk result (λ text. string_bytes text ≡ refusal_error refusal.now) }
+{
+    let line = refusal.line;
+    let column = refusal.column;
+    let name = refusal.reason.name();
+    format!(in alloc; "error: line {line} column {column}: {name}\n")
+}
+
+/// The error line of a schedule that does not finish the session, with its line feed.
+pub(crate) fn unfinished_text(alloc: Global, session: u32) -> Result<String, AllocError>
+    ensures { IfOk result (λ text. string_bytes text ≡ unfinished_error session) }
+{
+    format!(in alloc; "error: end: NotFinished {session}\n")
+}
