@@ -70,7 +70,8 @@ impl Machine {
     ghost use Rattle.ep_core.specs.Judge.{IsFitting};
     ghost use Rattle.ep_core.specs.Machine.{Stands, thread_at};
 
-    /// A machine that has made no step. Its events are numbered from 1 in the order of their definitions.
+    /// A machine that has made no step. Its events are numbered from 1 in the order of their definitions, of which there
+    /// are at most 1,000, all valid and no two the same.
     pub fn new(alloc: Global, events: Vec<EventDef>, info: TraceInfo) -> Result<Machine, AllocError>
         requires few { length events.items ≤ 1000 }
         requires valid { IsTrue (list_all is_valid_event events.items) }
@@ -93,7 +94,7 @@ impl Machine {
     }
 
     /// Makes one step, or says why it can't be made and changes nothing. A machine that found no memory answers so from
-    /// then on.
+    /// then on. It takes writes without frames, and fewer than 2^63 steps in all.
     pub fn step(&mut self, alloc: Global, step: Step) -> Result<(), StepFault>
         requires few { steps_of self.old < 2 ^ 63 }
         requires without_frames { IsWithoutFrames step }
@@ -124,7 +125,7 @@ impl Machine {
         Ok(())
     }
 
-    /// Makes steps up to the first that can't be made.
+    /// Makes steps up to the first that can't be made, with the bounds of `step`.
     pub fn run(&mut self, alloc: Global, steps: Vec<Step>) -> Result<(), StepFault>
         requires few { steps_of self.old + length steps.items ≤ 2 ^ 63 }
         requires without_frames { AllByRecursion IsWithoutFrames steps.items }
@@ -136,7 +137,11 @@ impl Machine {
             → (first_unlawful events (length past + 1) past steps.items ≡ Some why)
             × Follows events info (reverse (take (why.step - length past - 1) steps.items) ++ past) self.new }
         ensures failed { result ≡ Err OutOfMemory → has_failed self.new ≡ true }
+        ensures stays { has_failed self.old ≡ true → (result ≡ Err OutOfMemory) × (self.new ≡ self.old) }
     {
+        if self.failed {
+            return Err(StepFault::OutOfMemory);
+        }
         for step in steps {
             self.step(alloc, step)?;
         }
