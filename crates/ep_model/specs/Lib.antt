@@ -1,3 +1,4 @@
+pub mod Budget
 pub mod Entries
 pub mod Faithful
 pub mod History
