@@ -1,0 +1,53 @@
+use Rattle.std.proofs.Common.{◌≡◌, ◌∙◌, ◌≢◌, ℕ, suc, ◌+◌, Bool, true, false, List, [], ◌∷◌, length, ◌==◌, sym, ap, subst, arith}
+use Rattle.std.proofs.lemmas.Bool.Decides.{nat_tests}
+use Rattle.nt_stacks.specs.Interning.{stacks_of}
+use Rattle.nt_stacks.proofs.Ids.{plain, known-stack, new-stack, as-many, with_known, IsGiven, Gives}
+use Rattle.nt_stacks.proofs.interner.Interner.id_of.Goals as goal
+
+some-bytes : (bytes : List ℕ) (empty : Bool) → empty ≡ (length bytes == 0) → empty ≡ false → length bytes ≢ 0
+some-bytes [] empty is holds = λ _. let wrong : true ≡ false = sym is ∙ holds in cc
+some-bytes (b ∷ bytes) empty is holds = λ e. omega arith
+
+pub returns-in-Some : goal.returns-in-Some
+returns-in-Some c =
+    let some : length c.args.bytes.now ≢ 0 = some-bytes c.args.bytes.now c.is_empty.result c.is_empty.ensures c.if-is_empty.false in
+    let known : IsGiven c.args.self.now c.args.bytes.now c.in-Some.id.now = known-stack (λ k. k.items) c.self.inside.ids.entries c.args.self.now c.args.bytes.now c.in-Some.id.now c.self.invariant c.self.view_is some c.in-Some.ensures.value in
+    record {
+      ok = sym (with_known c.args.self.now c.args.bytes.now c.in-Some.id.now known);
+      id = sym known.id_is;
+      is_new = grind (arith, nat_tests, known.high);
+      count = omega arith;
+      small = known.high;
+      equal = known.no_other;
+      err = tt;
+    }
+
+pub overflow_add-id : goal.overflow_add-id
+overflow_add-id c =
+    omega (arith, as-many (λ k. k.items) c.self.inside.ids.entries c.args.self.now c.self.view_is, c.len.ensures.len)
+
+pub overflow_cast-id : goal.overflow_cast-id
+overflow_cast-id c =
+    omega (arith, as-many (λ k. k.items) c.self.inside.ids.entries c.args.self.now c.self.view_is, c.len.ensures.len)
+
+pub invariant_of-self-2 : goal.invariant_of-self-2
+invariant_of-self-2 c =
+    let some : length c.args.bytes.now ≢ 0 = some-bytes c.args.bytes.now c.is_empty.result c.is_empty.ensures c.if-is_empty.false in
+    (new-stack (λ k. k.items) c.self.inside.ids.entries c.insert.new.self.entries c.args.self.now c.args.bytes.now c.in_ok-stack.stack (c.len.result + 1) c.self.invariant c.self.view_is some c.in_default.ensures.value c.in_ok-stack.ensures.items (ap (λ n. n + 1) c.len.ensures.len) c.in_ok-insert.ensures.entries).interned
+
+pub returns : goal.returns
+returns c =
+    let some : length c.args.bytes.now ≢ 0 = some-bytes c.args.bytes.now c.is_empty.result c.is_empty.ensures c.if-is_empty.false in
+    let gives : Gives c.args.self.now (plain (λ k. k.items) c.insert.new.self.entries) c.args.bytes.now = new-stack (λ k. k.items) c.self.inside.ids.entries c.insert.new.self.entries c.args.self.now c.args.bytes.now c.in_ok-stack.stack (c.len.result + 1) c.self.invariant c.self.view_is some c.in_default.ensures.value c.in_ok-stack.ensures.items (ap (λ n. n + 1) c.len.ensures.len) c.in_ok-insert.ensures.entries in
+    let many = as-many (λ k. k.items) c.self.inside.ids.entries c.args.self.now c.self.view_is in
+    let id-is : suc (length c.args.self.now) ≡ c.len.result + 1 = omega (arith, many, c.len.ensures.len) in
+    let given : IsGiven (stacks_of (plain (λ k. k.items) c.insert.new.self.entries)) c.args.bytes.now (c.len.result + 1) = subst (IsGiven (stacks_of (plain (λ k. k.items) c.insert.new.self.entries)) c.args.bytes.now) id-is gives.given in
+    record {
+      ok = gives.stacks;
+      id = sym given.id_is;
+      is_new = grind (arith, nat_tests, id-is);
+      count = ap length gives.stacks ∙ gives.longer;
+      small = given.high;
+      equal = given.no_other;
+      err = tt;
+    }

@@ -1,0 +1,18 @@
+//! Stacks and their ids: which id a writer gives to the bytes of a stack, and which bytes a reader knows under an id.
+//!
+//! It stands on nothing. Stack ids of a NetTrace stream hold up to the next point, so both types are cleared there:
+//! a clear costs no more than what was put in since the last. Strangers choose the bytes and the ids of a trace, so
+//! both look up in ordered maps, in which no choice of keys makes a look-up slow.
+//!
+//! Its one contract: equal ids exactly for equal stacks, and under an id the bytes that it was defined with.
+#![tactic(auto)]
+
+mod interner;
+mod limits;
+mod table;
+#[cfg(test)]
+mod tests;
+
+pub use interner::{Interned, Interner};
+pub use limits::MOST_STACKS;
+pub use table::StackTable;
