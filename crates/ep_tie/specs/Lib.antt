@@ -1,0 +1,4 @@
+-- to be believed
+pub mod Tied
+-- what private fields stand for
+pub mod Seats
