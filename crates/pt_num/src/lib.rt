@@ -1,0 +1,22 @@
+//! Numbers and texts as bytes, both ways: what a format writes, and what it reads.
+//!
+//! The modules: `fixed` has numbers of a fixed width, `varuint` numbers that take as many bytes as they need, `text`
+//! texts in UTF-16, `limits` their greatest sizes, and `laws` what holds of the definitions alone. It stands on
+//! byteorder. What the bytes of a number or a text are stands in `specs/Numbers` and `specs/Texts`, and what stands
+//! at the front of some bytes in `specs/Fields`.
+//!
+//! Its one contract: each `put_` call appends the one form that is written of its value, or nothing where memory is
+//! missing; each `take_` call answers what stands at the front of the bytes, and takes no memory.
+#![tactic(auto)]
+
+mod fixed;
+pub mod limits;
+mod text;
+mod varuint;
+
+pub use fixed::{put_u16, put_u32, put_u64, take_u16, take_u32, take_u64};
+pub use text::{TakenText, put_counted, put_utf16z, take_counted, take_utf16z};
+pub use varuint::{Taken, put_var32, put_var64, take_var32, take_var64};
+
+#[cfg(test)]
+mod tests;

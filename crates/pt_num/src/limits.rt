@@ -1,0 +1,16 @@
+//! The greatest sizes of numbers and texts.
+
+/// Units of a text that is written, without the final zero unit.
+pub const TEXT_UNITS: usize = 32_000;
+
+/// Bytes of a varuint of 32 bits.
+pub const VAR32_BYTES: usize = 5;
+
+/// Bytes of a varuint of 64 bits.
+pub const VAR64_BYTES: usize = 10;
+
+/// The fifth byte of a varuint of 32 bits, which has the four bits that are left.
+pub const VAR32_LAST: u8 = 15;
+
+/// The tenth byte of a varuint of 64 bits, which has the one bit that is left.
+pub const VAR64_LAST: u8 = 1;
