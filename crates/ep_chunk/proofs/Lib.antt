@@ -1,0 +1,4 @@
+pub mod Laid
+pub mod Read
+pub mod Holding
+pub mod Placed
