@@ -1,15 +1,15 @@
 -- The bytes of records give the records back.
-use Rattle.std.proofs.Common.{◌≡◌, ℕ, zero, suc, ◌+◌, ◌-◌, ◌*◌, ◌^◌, ◌<◌, ◌≤◌, List, [], ◌∷◌, ◌++◌, length, take, drop, refl, ap, sym, ◌∙◌, subst, append_assoc, arith, rules, length-append}
-use Rattle.std.proofs.lemmas.List.{take_at, drop_at, append-nil, drop-drop}
+use Rattle.std.proofs.Common.{◌≡◌, ℕ, zero, suc, ◌+◌, ◌*◌, ◌^◌, ◌<◌, ◌≤◌, List, [], ◌∷◌, ◌++◌, length, take, drop, refl, ap, sym, ◌∙◌, subst, arith, rules, length-append}
+use Rattle.std.proofs.lemmas.List.{drop_at, append-nil, drop-drop}
 use Rattle.std.proofs.lemmas.List.Elements.{All-head, All-tail, All-push}
 use Rattle.std.proofs.lemmas.List.Concat.{flat_map-append}
 use Rattle.std.specs.List.{All, flat_map}
-use Rattle.byteorder.specs.Endian.{little_bytes, little_number}
+use Rattle.byteorder.specs.Endian.{little_number}
 use Rattle.byteorder.specs.Numbers.{little_number-reads_back}
 use Rattle.ep_chunk.specs.Record.{Record, IsRecord, size_of, total_size, frame_bytes, bytes_of}
 use Rattle.ep_chunk.specs.Held.{numbers_in, record_in, records_in, records_within, IsHeld}
-use Rattle.ep_chunk.proofs.Laid.{Reads, length-bytes_of}
-use Rattle.ep_chunk.proofs.Read.{Pieces, pieces}
+use Rattle.ep_chunk.proofs.Laid.{length-bytes_of}
+use Rattle.ep_chunk.proofs.Read.{pieces}
 
 -- Frames are read back.
 pub numbers_in-frame_bytes : (frames rest : List ℕ) → All (λ frame. frame < 2 ^ 64) frames → numbers_in (length frames) (frame_bytes frames ++ rest) ≡ frames
@@ -54,10 +54,10 @@ record_in-bytes_of r rest fits =
     same _ _ f.event f.number f.thread f.stamp p.activity p.related
     (ap (λ (n : ℕ). numbers_in n (drop 68 bytes)) f.frame_count ∙ ap (numbers_in (length r.frames)) behind ∙ numbers_in-frame_bytes r.frames _ fits.frames)
     (
-        ap (λ (n : ℕ). take n (drop (68 + 8 * little_number 4 (drop 12 bytes)) bytes)) f.payload_len
-        ∙ ap (λ (n : ℕ). take (length r.payload) (drop (68 + 8 * n) bytes)) f.frame_count
-        ∙ ap (take (length r.payload)) (sym (drop-drop (8 * length r.frames) 68 bytes))
-        ∙ p.payload
+    ap (λ (n : ℕ). take n (drop (68 + 8 * little_number 4 (drop 12 bytes)) bytes)) f.payload_len
+    ∙ ap (λ (n : ℕ). take (length r.payload) (drop (68 + 8 * n) bytes)) f.frame_count
+    ∙ ap (take (length r.payload)) (sym (drop-drop (8 * length r.frames) 68 bytes))
+    ∙ p.payload
     )
 
 -- Records are read back, however many more might stand there.
@@ -112,8 +112,8 @@ pub more-is : (bytes : List ℕ) (room : ℕ) (r : Record) → IsHeld bytes room
 more-is bytes room r held fits =
     let records = records_in bytes in
     let spelled : bytes ++ bytes_of r ≡ flat_map bytes_of (records ++ r ∷ []) =
-        ap (λ (xs : List ℕ). xs ++ bytes_of r) held.spelled ∙ ap (λ (xs : List ℕ). flat_map bytes_of records ++ xs) (sym (append-nil (bytes_of r)))
-        ∙ sym (flat_map-append bytes_of records (r ∷ []))
+    ap (λ (xs : List ℕ). xs ++ bytes_of r) held.spelled ∙ ap (λ (xs : List ℕ). flat_map bytes_of records ++ xs) (sym (append-nil (bytes_of r)))
+    ∙ sym (flat_map-append bytes_of records (r ∷ []))
     in
     ap records_in spelled ∙ records_in-is (records ++ r ∷ []) (All-push IsRecord records r held.fitting fits)
 

@@ -1,12 +1,8 @@
 -- What stands where in the bytes of a record.
-use Rattle.std.proofs.Common.{◌≡◌, ℕ, zero, suc, ◌+◌, ◌*◌, ◌^◌, ◌<◌, ◌≤◌, List, [], ◌∷◌, ◌++◌, length, take, drop, refl, ap, sym, ◌∙◌, append_assoc, arith, length-append}
-use Rattle.std.proofs.lemmas.List.{take_at, drop_at, append-nil}
-use Rattle.std.proofs.lemmas.List.Elements.{All-head, All-tail}
-use Rattle.std.specs.List.{All, flat_map}
-use Rattle.byteorder.specs.Endian.{little_bytes, little_number}
+use Rattle.std.proofs.Common.{◌≡◌, ℕ, ◌+◌, ◌*◌, ◌^◌, ◌<◌, List, [], ◌∷◌, ◌++◌, length, take, drop, refl, ap, sym, ◌∙◌, append_assoc, arith, length-append}
+use Rattle.byteorder.specs.Endian.{little_number}
 use Rattle.byteorder.specs.Numbers.{little_number-reads_back}
 use Rattle.ep_chunk.specs.Record.{Record, IsRecord, size_of, head_bytes, frame_bytes, bytes_of}
-use Rattle.ep_chunk.specs.Held.{numbers_in, record_in}
 
 -- What the fields of these bytes say of a record.
 pub record Reads (r : Record) (bytes : List ℕ) : Type 0 where
@@ -53,13 +49,12 @@ length-head_bytes r fits = omega (arith, length-append r.activity r.related, fit
 -- A record has as many bytes as its size says.
 pub length-bytes_of : (r : Record) → IsRecord r → length (bytes_of r) ≡ size_of r
 length-bytes_of r fits =
-    omega
-    (
-        arith,
-        length-append (head_bytes r) (frame_bytes r.frames ++ r.payload),
-        length-append (frame_bytes r.frames) r.payload,
-        length-frame_bytes r.frames,
-        length-head_bytes r fits
+    omega (
+      arith,
+      length-append (head_bytes r) (frame_bytes r.frames ++ r.payload),
+      length-append (frame_bytes r.frames) r.payload,
+      length-frame_bytes r.frames,
+      length-head_bytes r fits,
     )
 
 -- A piece that was put behind what stands before a place.

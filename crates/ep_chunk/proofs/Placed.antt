@@ -1,8 +1,8 @@
 -- Where records stand in a chunk's bytes.
-use Rattle.std.proofs.Common.{◌≡◌, ℕ, zero, suc, ◌+◌, ◌-◌, ◌*◌, ◌<◌, ◌≤◌, Bool, true, false, List, [], ◌∷◌, ◌++◌, length, drop, Option, Some, None, refl, ap, sym, ◌∙◌, subst, arith, rules, nat_le, ◌==◌, if◌then◌else◌, length-append}
+use Rattle.std.proofs.Common.{◌≡◌, ℕ, ◌+◌, ◌-◌, ◌<◌, ◌≤◌, Bool, true, false, List, [], ◌∷◌, ◌++◌, length, drop, Some, None, refl, ap, sym, ◌∙◌, subst, arith, nat_le, ◌==◌, if◌then◌else◌}
 use Rattle.std.proofs.lemmas.List.{drop_at, drop-drop}
 use Rattle.std.proofs.lemmas.List.Elements.{All-head, All-tail}
-use Rattle.std.proofs.lemmas.Bool.{false≢true, eqb-true, eqb-false, leb-true, leb-false, ne_eqb, le-leb, lt-leb}
+use Rattle.std.proofs.lemmas.Bool.{false≢true, eqb-true, leb-true, ne_eqb, le-leb}
 use Rattle.std.specs.List.{All, flat_map}
 use Rattle.ep_chunk.specs.Record.{Record, IsRecord, size_of, total_size, bytes_of}
 use Rattle.std.specs.Prelude.{IsSome}
@@ -108,8 +108,10 @@ records_at-next (first ∷ records) place r others here =
   where
     zero_left : (n : ℕ) → n - n ≡ 0
     zero_left n = omega arith
+
     moved : (a b place : ℕ) → a ≤ place → place + b - a ≡ place - a + b
     moved a b place h = omega arith
+
     past : (first : Record) (records : List Record) (place : ℕ) → 0 < place → size_of first ≤ place → records_at (first ∷ records) place ≡ records_at records (place - size_of first)
     past first records place some h =
         let not_zero : (place == 0) ≡ false = ne_eqb place 0 (λ e. omega arith) in
@@ -125,16 +127,15 @@ stands bytes room place r others held here =
     let rest = flat_map bytes_of others in
     let now : drop place bytes ≡ bytes_of r ++ rest = ap (drop place) held.spelled ∙ s.bytes in
     let is : record_in (drop place bytes) ≡ r = ap record_in now ∙ record_in-bytes_of r rest fits in
-    let len = length-bytes_of r fits in
-    (
-        record {
-          spelled =
-              now
-              ∙ ap (λ (xs : List ℕ). bytes_of r ++ xs) (sym (ap (drop (size_of r)) now ∙ drop_at (bytes_of r) rest (size_of r) len))
-              ∙ ap (λ (x : Record). bytes_of x ++ drop (size_of x) (drop place bytes)) (sym is);
-          fitting = subst IsRecord (sym is) fits;
-        },
-        is
+    let len = length-bytes_of r fits in (
+      record {
+        spelled =
+            now
+            ∙ ap (λ (xs : List ℕ). bytes_of r ++ xs) (sym (ap (drop (size_of r)) now ∙ drop_at (bytes_of r) rest (size_of r) len))
+            ∙ ap (λ (x : Record). bytes_of x ++ drop (size_of x) (drop place bytes)) (sym is);
+        fitting = subst IsRecord (sym is) fits;
+      },
+      is,
     )
 
 -- What a place says of a chunk's bytes.
@@ -182,11 +183,11 @@ at-later bytes room place (r ∷ others) held here =
 pub at-place : (slice bytes : List ℕ) (room : ℕ) (records : List Record) (place : ℕ) → slice ≡ bytes → IsHeld bytes room → records_in bytes ≡ records → IsSome (records_at records place) → At slice records place
 at-place slice bytes room records place same held view here =
     let at : At bytes (records_in bytes) place =
-        elim (records_at (records_in bytes) place) as (λ o. records_at (records_in bytes) place ≡ o → IsSome o → At bytes (records_in bytes) place) [
-          | Some later ↦ λ is _. at-later bytes room place later held is
-          | None ↦ λ _ none. absurd (false≢true none)
-        ]
-        refl
-        (subst (λ (rs : List Record). IsSome (records_at rs place)) (sym view) here)
+    elim (records_at (records_in bytes) place) as (λ o. records_at (records_in bytes) place ≡ o → IsSome o → At bytes (records_in bytes) place) [
+      | Some later ↦ λ is _. at-later bytes room place later held is
+      | None ↦ λ _ none. absurd (false≢true none)
+    ]
+    refl
+    (subst (λ (rs : List Record). IsSome (records_at rs place)) (sym view) here)
     in
     subst (λ (xs : List ℕ). At xs records place) (sym same) (subst (λ (rs : List Record). At bytes rs place) view at)

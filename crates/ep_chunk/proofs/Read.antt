@@ -1,7 +1,6 @@
 -- What is read of a record that stands at the head of bytes.
-use Rattle.std.proofs.Common.{◌≡◌, ℕ, ◌+◌, ◌*◌, ◌<◌, ◌≤◌, List, [], ◌∷◌, ◌++◌, length, take, drop, refl, ap, sym, ◌∙◌, subst, append_assoc, arith, length-append}
+use Rattle.std.proofs.Common.{◌≡◌, ℕ, ◌*◌, ◌≤◌, List, ◌++◌, length, take, drop, refl, ap, sym, ◌∙◌, subst, arith, length-append}
 use Rattle.std.proofs.lemmas.List.{take_at, drop_at, drop-drop}
-use Rattle.byteorder.specs.Endian.{little_number}
 use Rattle.ep_chunk.specs.Record.{Record, IsRecord, size_of, frame_bytes, bytes_of}
 use Rattle.ep_chunk.specs.Held.{record_in, HasRecord}
 use Rattle.ep_chunk.proofs.Laid.{Reads, reads, length-frame_bytes, length-bytes_of}
@@ -25,10 +24,10 @@ pieces r rest fits =
     let tail : List ℕ = r.payload ++ more in
     let at36 : drop 36 bytes ≡ r.activity ++ (r.related ++ (frame_bytes r.frames ++ tail)) = fields.ids.1 in
     let at52 : drop 52 bytes ≡ r.related ++ (frame_bytes r.frames ++ tail) =
-        sym (drop-drop 16 36 bytes) ∙ ap (drop 16) at36 ∙ drop_at r.activity (r.related ++ (frame_bytes r.frames ++ tail)) 16 fits.activity
+    sym (drop-drop 16 36 bytes) ∙ ap (drop 16) at36 ∙ drop_at r.activity (r.related ++ (frame_bytes r.frames ++ tail)) 16 fits.activity
     in
     let at68 : drop 68 bytes ≡ frame_bytes r.frames ++ tail =
-        sym (drop-drop 16 52 bytes) ∙ ap (drop 16) at52 ∙ drop_at r.related (frame_bytes r.frames ++ tail) 16 fits.related
+    sym (drop-drop 16 52 bytes) ∙ ap (drop 16) at52 ∙ drop_at r.related (frame_bytes r.frames ++ tail) 16 fits.related
     in
     let len = length-frame_bytes r.frames in
     record {

@@ -2,7 +2,7 @@
 use Rattle.std.specs.Prelude.{◌≡◌, ℕ, zero, suc, ◌+◌, ◌*◌, ◌≤◌, List, [], ◌∷◌, ◌++◌, length, take, drop, All}
 use Rattle.std.specs.List.{flat_map}
 use Rattle.byteorder.specs.Endian.{little_number}
-use Rattle.ep_chunk.specs.declared.limits.TheConstants.{CHUNK_LEN, HEAD_LEN, FRAME_LEN}
+use Rattle.ep_chunk.specs.declared.limits.TheConstants.{CHUNK_LEN}
 use Rattle.ep_chunk.specs.Record.{Record, IsRecord, size_of, bytes_of}
 
 -- So many numbers of eight bytes each.

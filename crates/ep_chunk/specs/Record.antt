@@ -2,7 +2,7 @@
 use Rattle.std.specs.Prelude.{◌≡◌, ℕ, ◌+◌, ◌*◌, ◌^◌, ◌<◌, List, [], ◌∷◌, ◌++◌, length, All}
 use Rattle.std.specs.List.{flat_map}
 use Rattle.byteorder.specs.Endian.{little_bytes}
-use Rattle.ep_chunk.specs.declared.limits.TheConstants.{CHUNK_LEN, HEAD_LEN, FRAME_LEN}
+use Rattle.ep_chunk.specs.declared.limits.TheConstants.{HEAD_LEN, FRAME_LEN}
 use Rattle.ep_chunk.specs.declared.rec.RecIn.{RecIn}
 
 -- A write as it is kept until a session's stream takes it.

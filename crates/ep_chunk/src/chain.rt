@@ -1,6 +1,8 @@
 //! Chunks one behind another, joined and split without memory.
-ghost use Rattle.std.specs.Prelude.{◌≡◌, ◌+◌, ◌^◌, ◌<◌, [], ◌∷◌, ◌++◌, length, slice_get, IsNone, IsOk, ◌↔◌, IfOk, IfErr, IfSome, IfNone, MatchResult};
+ghost use Rattle.std.specs.Prelude.{◌≡◌, ◌+◌, ◌-◌, ◌^◌, ◌<◌, [], ◌∷◌, ◌++◌, length, slice_get, slice_index_or, IsNone, IsOk, ◌↔◌, IfOk, IfErr, IfSome, IfNone, MatchResult};
 ghost use Rattle.std.specs.Option.{option_copied};
+ghost use Rattle.std.specs.Borrow.{sem};
+ghost use Rattle.ep_chunk.specs.Lending.{LendsLast};
 
 use crate::chunk::Chunk;
 use std::alloc::Global;
@@ -92,6 +94,15 @@ impl Chain {
             }),
             Err(_) => unreachable!(),
         }
+    }
+
+    /// The last chunk, to be written to. None where there is no chunk.
+    pub fn last_mut(&mut self) -> Option<&mut Chunk>
+        ensures* writes_back { sem 𝓛 (LendsLast self.entry result) }
+        ensures empty { IsNone result ↔ (self.old ≡ []) }
+        ensures last { IfSome result (λ chunk. chunk.now ≡ slice_index_or self.old (length self.old - 1) chunk.now) }
+    {
+        self.chunks.back_mut()
     }
 
     /// The chunk at a place, from 0. None where there are no more than so many.

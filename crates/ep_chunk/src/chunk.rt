@@ -38,12 +38,8 @@ impl Chunk {
 
     /// Appends a record. False where it doesn't fit what is left. It takes no memory.
     pub fn append(&mut self, rec: &RecIn) -> bool
-        ensures fits {
-            IsTrue result ↔ (total_size self.old + size_of (record_of rec.now) ≤ CHUNK_LEN)
-        }
-        ensures records {
-            self.new ≡ (if result then self.old ++ record_of rec.now ∷ [] else self.old)
-        }
+        ensures fits { IsTrue result ↔ (total_size self.old + size_of (record_of rec.now) ≤ CHUNK_LEN) }
+        ensures records { self.new ≡ (if result then self.old ++ record_of rec.now ∷ [] else self.old) }
     {
         let left = CHUNK_LEN - self.bytes.len();
         if rec.frames.len() > CHUNK_LEN || rec.payload.len() > CHUNK_LEN {

@@ -20,5 +20,5 @@ pub use chunk::Chunk;
 pub use limits::{CHUNK_LEN, FRAME_LEN, HEAD_LEN};
 pub use rec::{RecIn, RecOut};
 
-// #[cfg(test)]
-// mod tests;
+#[cfg(test)]
+mod tests;

@@ -7,5 +7,5 @@ invariant-loop-frame l =
     record {
       items : l.bytes.items ≡ l.fn.bytes.items ++ frame_bytes (take l.frame-index l.frames);
       len : vec_len l.bytes ≡ vec_len l.fn.bytes + 8 * l.frame-index;
-      room : vec_capacity l.fn.bytes ≤ vec_capacity l.bytes
+      room : vec_capacity l.fn.bytes ≤ vec_capacity l.bytes;
     }

@@ -1,6 +1,6 @@
-use Rattle.std.proofs.Common.{◌≡◌, ◌∙◌, ◌++◌, [], ◌∷◌, ℕ, List, ap, sym, subst, length, arith, refl, vec_len, vec_capacity}
+use Rattle.std.proofs.Common.{◌∙◌, ◌++◌, [], ◌∷◌, ℕ, List, ap, sym, subst, arith, refl, vec_capacity}
 use Rattle.std.proofs.lemmas.Bool.{false≢true}
-use Rattle.ep_chunk.specs.Record.{Record, record_of, bytes_of, total_size, size_of}
+use Rattle.ep_chunk.specs.Record.{Record, record_of, total_size}
 use Rattle.ep_chunk.specs.Held.{IsHeld, records_in}
 use Rattle.ep_chunk.proofs.Holding.{more-held, more-is, used-is}
 use Rattle.ep_chunk.proofs.chunk.Chunk.append.Goals as goal

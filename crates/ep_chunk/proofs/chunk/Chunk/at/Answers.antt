@@ -1,7 +1,6 @@
 use Rattle.std.proofs.Common.{◌≡◌, ◌∙◌, ◌-◌, ◌+◌, refl, ℕ, List, ap, sym, subst, length, take, drop, arith, rules, vec_capacity}
 use Rattle.std.proofs.lemmas.List.{take_rest}
-use Rattle.std.proofs.lemmas.Bool.{true≢false, false≢true}
-use Rattle.ep_chunk.specs.declared.rec.RecOut.{RecOut}
+use Rattle.std.proofs.lemmas.Bool.{true≢false}
 use Rattle.ep_chunk.specs.Record.{size_of}
 use Rattle.ep_chunk.specs.Places.{Tells}
 use Rattle.ep_chunk.specs.Held.{HasRecord, record_in}

@@ -1,4 +1,4 @@
-use Rattle.std.proofs.Common.{◌≡◌, ◌∙◌, ◌≤◌, ℕ, List, ap, sym, subst, arith, vec_capacity}
+use Rattle.std.proofs.Common.{◌∙◌, ◌≤◌, ℕ, List, ap, sym, subst, arith, vec_capacity}
 use Rattle.ep_chunk.specs.Held.{IsHeld, records_in}
 use Rattle.ep_chunk.proofs.Holding.{records_in-nil, none-held}
 use Rattle.ep_chunk.proofs.chunk.Chunk.new.Goals as goal

@@ -1,4 +1,4 @@
-use Rattle.std.proofs.Common.{◌≡◌, ◌∙◌, ap, sym, rules}
+use Rattle.std.proofs.Common.{◌∙◌, ap, rules}
 use Rattle.ep_chunk.specs.Record.{total_size}
 use Rattle.ep_chunk.proofs.Holding.{used-is}
 use Rattle.ep_chunk.proofs.chunk.Chunk.used.Goals as goal
