@@ -1,10 +1,11 @@
 -- The tests of sameness tell texts and definitions apart.
 use Rattle.std.proofs.Common.{◌≡◌, ℕ, true, eqb, List, refl, ap, sym, ◌∙◌}
-use Rattle.std.specs.Prelude.{◌&&◌}
+use Rattle.std.specs.Prelude.{◌&&◌, Option, Some}
 use Rattle.std.specs.Cmp.Lexicographic.{pointwise, bytes_decides, pointwise_decides}
 use Rattle.std.proofs.lemmas.Bool.{and_parts, and_from, eqb-true, eq-eqb}
 use Rattle.ep_defs.specs.declared.event.EventDef.{EventDef}
 use Rattle.ep_defs.specs.declared.event.FieldDef.{FieldDef}
+use Rattle.ep_defs.specs.Definitions.{AreDistinct}
 use Rattle.ep_defs.specs.Event.{is_same_text, is_same_field, is_same_event}
 
 -- Texts that the test calls the same are the same.
@@ -80,3 +81,8 @@ event-itself a =
     (eq-eqb a.keywords a.keywords refl))
     (text-itself a.name))
     ((fields-decide a.fields a.fields).1 refl)
+
+-- Where no definition stands twice, those at two numbers that the test calls the same stand at one.
+pub distinct-same : (definitions : ℕ → Option EventDef) → AreDistinct definitions → (i j : ℕ) (a b : EventDef) → definitions i ≡ Some a → definitions j ≡ Some b → is_same_event a b ≡ true → i ≡ j
+distinct-same definitions distinct i j a b at-i at-j same =
+    distinct i j a at-i (at-j ∙ ap (λ (x : EventDef). Some x) (sym (event-means a b same)))

@@ -1,4 +1,4 @@
--- How many of a thread's events are missing, as the numbers in a stream tell it (the NetTrace format document of PerfView (version 4), on sequence numbers).
+-- How many of a thread's events are missing, as the numbers in a stream tell it (the NetTrace format document of PerfView, version 4, on sequence numbers). The entries of ordered items tell the same as the items.
 use Rattle.std.specs.Prelude.{ℕ, ◌+◌, ◌-◌, ◌%◌, ◌^◌, List, [], ◌∷◌, filter, map, ◌==◌, if◌then◌else◌}
 use Rattle.std.specs.List.{flat_map}
 use Rattle.ep_defs.specs.Entry.{Entry, Event, Point}
@@ -13,6 +13,7 @@ abbrev pub sightings_in : ℕ → Entry → List Sighting
 sightings_in thread (Event e) = if e.thread == thread then Seen e.number ∷ [] else []
 sightings_in thread (Point p) = map (λ t. Known t.1) (filter (λ t. t.0 == thread) p.threads)
 
+-- What the entries say of it, in order.
 abbrev pub sightings : ℕ → List Entry → List Sighting
 sightings thread entries = flat_map (sightings_in thread) entries
 
@@ -26,5 +27,15 @@ missing last [] = 0
 missing last (Seen number ∷ later) = distance (last + 1) number + missing number later
 missing last (Known number ∷ later) = distance last number + missing number later
 
+-- How many of the thread's events are missing in all.
 abbrev pub gaps : ℕ → List Entry → ℕ
 gaps thread entries = missing 0 (sightings thread entries)
+
+-- The last number of a thread, 0 where no event of it is there and no point names it.
+abbrev pub last_number : ℕ → List Sighting → ℕ
+last_number last [] = last
+last_number last (Seen number ∷ later) = last_number number later
+last_number last (Known number ∷ later) = last_number number later
+
+abbrev pub last_of : ℕ → List Entry → ℕ
+last_of thread entries = last_number 0 (sightings thread entries)

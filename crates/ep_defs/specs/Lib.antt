@@ -1,6 +1,9 @@
 pub mod Admits
+pub mod Definitions
 pub mod Entry
 pub mod Event
 pub mod Gaps
+pub mod Ranges
+pub mod Samples
 pub mod Session
 pub mod Text

@@ -1,19 +1,33 @@
+//! Definitions of events, and which of them a stream can hold.
 ghost use Rattle.std.specs.Prelude.{◌≡◌};
 ghost use Rattle.std.specs.List.{list_all};
 ghost use Rattle.std.specs.Int.{is_in_range};
-ghost use Rattle.std.specs.Cmp.Lexicographic.{pointwise};
+ghost use Rattle.ep_defs.specs.declared.event.TheConstants.{LAST_UNIT};
 ghost use Rattle.ep_defs.specs.Event as valid;
-ghost use Rattle.ep_defs.specs.Event.{is_valid_field, is_valid_event, is_same_field, is_same_event};
+ghost use Rattle.ep_defs.specs.Event.{is_valid_field, is_valid_event, is_same_event};
 
+use crate::limits::{FIELD_DEPTH, FIELD_NAME_UNITS, FIELDS, NAME_UNITS};
 use crate::list::{Duplicate, Items, Units};
 use std::alloc::{AllocError, Global};
 
+/// The type code of an object, whose fields stand after it (the NetTrace format document of PerfView, version 4).
+pub const OBJECT_CODE: u8 = 1;
+
+/// The type codes of the other fields run from this one, Boolean, on.
+pub const FIRST_CODE: u8 = 3;
+
+/// The last of them, String.
+pub const LAST_CODE: u8 = 18;
+
+/// The greatest unit of UTF-16.
+pub const LAST_UNIT: u16 = u16::MAX;
+
 /// A field of an event's payload, as the metadata of a NetTrace stream describes it.
-#[derive(Debug, Drop)]
+#[derive(Debug, PartialEq, Eq, Drop)]
 pub struct FieldDef {
-    /// How many objects the field stands inside, 0 for the outermost fields.
+    /// How many objects the field stands inside of, 0 for the outermost fields.
     pub depth: u32,
-    /// The type code of the NetTrace format: 1 for an object, 3 to 18 for the other types.
+    /// The type code of the NetTrace format.
     pub code: u8,
     pub name: Units,
 }
@@ -22,7 +36,7 @@ pub struct FieldDef {
 pub type FieldList = Items<FieldDef>;
 
 /// The definition of an event.
-#[derive(Debug, Drop)]
+#[derive(Debug, PartialEq, Eq, Drop)]
 pub struct EventDef {
     pub provider: Units,
     pub id: u32,
@@ -68,28 +82,22 @@ impl FieldDef {
     fn is_valid(&self) -> bool
         ensures { result ≡ is_valid_field self.now }
     {
-        is_type_code(self.code) && is_text(200, self.name.as_slice()) && self.depth <= 8
-    }
-
-    fn is_same(&self, other: &FieldDef) -> bool
-        ensures { result ≡ is_same_field self.now other.now }
-    {
-        self.depth == other.depth
-            && self.code == other.code
-            && self.name.as_slice() == other.name.as_slice()
+        is_type_code(self.code)
+            && is_text(FIELD_NAME_UNITS, self.name.as_slice())
+            && self.depth <= FIELD_DEPTH
     }
 }
 
 impl EventDef {
-    /// Whether the definition can be written: a provider, texts without a zero unit of at most 1,000 units, and at most
-    /// 100 fields that are nested at most 8 deep and have names of at most 200 units.
+    /// Whether the definition can be written: it has a provider, no text holds a zero unit, the fields stand in the order
+    /// of a payload, and nothing passes its bound in `limits`.
     pub fn is_valid(&self) -> bool
         ensures { result ≡ is_valid_event self.now }
     {
         let provider = self.provider.as_slice();
         !provider.is_empty()
-            && is_text(1000, provider)
-            && is_text(1000, self.name.as_slice())
+            && is_text(NAME_UNITS, provider)
+            && is_text(NAME_UNITS, self.name.as_slice())
             && are_valid_fields(self.fields.as_slice())
     }
 
@@ -97,20 +105,14 @@ impl EventDef {
     pub fn is_same(&self, other: &EventDef) -> bool
         ensures { result ≡ is_same_event self.now other.now }
     {
-        self.provider.as_slice() == other.provider.as_slice()
-            && self.id == other.id
-            && self.version == other.version
-            && self.level == other.level
-            && self.keywords == other.keywords
-            && self.name.as_slice() == other.name.as_slice()
-            && are_same_fields(self.fields.as_slice(), other.fields.as_slice())
+        self == other
     }
 }
 
 fn is_type_code(code: u8) -> bool
     ensures { result ≡ valid.is_type_code code }
 {
-    code == 1 || (3..=18).contains(&code)
+    code == OBJECT_CODE || (FIRST_CODE..=LAST_CODE).contains(&code)
 }
 
 fn is_text(most: usize, units: &[u16]) -> bool
@@ -120,15 +122,15 @@ fn is_text(most: usize, units: &[u16]) -> bool
 }
 
 fn has_no_zero(units: &[u16]) -> bool
-    ensures { result ≡ list_all (λ unit. is_in_range 1 65535 unit) units.now }
+    ensures { result ≡ list_all (λ unit. is_in_range 1 LAST_UNIT unit) units.now }
 {
-    units.iter().all(|unit| (1..=u16::MAX).contains(unit))
+    units.iter().all(|unit| (1..=LAST_UNIT).contains(unit))
 }
 
 fn are_valid_fields(fields: &[FieldDef]) -> bool
     ensures { result ≡ valid.are_valid_fields fields.now }
 {
-    fields.len() <= 100 && is_each_valid(fields) && are_nested(fields)
+    fields.len() <= FIELDS && is_each_valid(fields) && are_nested(fields)
 }
 
 fn is_each_valid(fields: &[FieldDef]) -> bool
@@ -147,21 +149,11 @@ fn are_nested(fields: &[FieldDef]) -> bool
         if depth > deepest {
             return false;
         }
-        deepest = if field.code == 1 { depth + 1 } else { depth };
-    }
-    true
-}
-
-fn are_same_fields(fields: &[FieldDef], others: &[FieldDef]) -> bool
-    ensures { result ≡ pointwise is_same_field fields.now others.now }
-{
-    if fields.len() != others.len() {
-        return false;
-    }
-    for (place, field) in fields.iter().enumerate() {
-        if !field.is_same(&others[place]) {
-            return false;
-        }
+        deepest = if field.code == OBJECT_CODE {
+            depth + 1
+        } else {
+            depth
+        };
     }
     true
 }

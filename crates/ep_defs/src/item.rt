@@ -1,3 +1,4 @@
+//! What a NetTrace stream holds, item by item.
 use crate::event::EventDef;
 use crate::list::{Bytes, Items};
 use crate::session::TraceInfo;
@@ -6,14 +7,14 @@ use crate::session::TraceInfo;
 pub type ThreadNumbers = Items<(u64, u32)>;
 
 /// One thing that a NetTrace stream holds, and where.
-#[derive(Debug, Drop)]
+#[derive(Debug, PartialEq, Eq, Drop)]
 pub struct Item {
     /// The offset of its first byte in the stream.
     pub at: u64,
     pub kind: ItemKind,
 }
 
-#[derive(Debug, Drop)]
+#[derive(Debug, PartialEq, Eq, Drop)]
 pub enum ItemKind {
     Trace {
         info: TraceInfo,

@@ -2,7 +2,9 @@
 //!
 //! It stands on byteorder alone, and every other crate speaks in these types. Contracts see each of them as a record of
 //! numbers and lists. Which values are valid, and which events a session gets, are the definitions of `specs/`:
-//! `Event`, `Session` and `Admits`. `Text` says what the units of bytes are.
+//! `Event`, `Session` and `Admits`. `Definitions` numbers a program's events, `Entry` and `Gaps` say what a stream
+//! tells, and `Ranges` what the types of the code say of each value, which the laws of `ranges` give. Every bound of
+//! this project's profile is a constant of `limits`.
 //!
 //! Its one contract: a list type is the list of its items, a copy equals what it was made of, and each test answers as
 //! its definition says.
@@ -10,14 +12,17 @@
 
 mod event;
 mod item;
+pub mod limits;
 mod list;
+pub mod ranges;
 mod session;
 
-pub use event::{EventDef, FieldDef, FieldList};
+pub use event::{EventDef, FIRST_CODE, FieldDef, FieldList, LAST_CODE, LAST_UNIT, OBJECT_CODE};
 pub use item::{Item, ItemKind, ThreadNumbers};
-pub use list::{Bytes, Duplicate, Frames, Items, Units, units_of};
+pub use list::{Bytes, Duplicate, Frames, Items, Units, copies, units_of};
 pub use session::{
-    Config, Facts, MarkList, Marks, Rule, RuleList, TraceInfo, Write, admits, standard_info,
+    CLOCK_FREQUENCY, Config, Facts, MarkList, Marks, POINTER_BYTES, Rule, RuleList, TraceInfo,
+    Write, admits, standard_info,
 };
 
 #[cfg(test)]

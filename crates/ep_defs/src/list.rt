@@ -1,4 +1,7 @@
+//! Lists that contracts see as lists, and copies of what they hold.
 ghost use Rattle.std.specs.Prelude.{◌≡◌, ◌<◌, ◌%◌, List, length, IfOk, slice_set};
+ghost use Rattle.std.specs.Cmp.{on_equiv, on_per};
+ghost use Rattle.std.specs.Cmp.Lexicographic.{pointwise, lists_equiv, lists_per};
 ghost use Rattle.ep_defs.specs.Text.{units_in};
 
 use byteorder::{ByteOrder, LittleEndian};
@@ -56,6 +59,20 @@ impl<I> Model for Items<I> {
     ghost view = { λ list. list.items.items };
 }
 
+impl<I: PartialEq> PartialEq for Items<I> {
+    ghost eq = { pointwise I.eq };
+
+    ghost laws = { lists_per I.laws };
+
+    fn eq(&self, other: &Self) -> bool {
+        self.items.as_slice() == other.items.as_slice()
+    }
+}
+
+impl<I: Eq> Eq for Items<I> {
+    ghost laws = { lists_equiv I.Eq.laws };
+}
+
 impl<I> Items<I> {
     /// The list of these items. It takes no memory.
     pub fn new(items: Vec<I>) -> Self
@@ -89,8 +106,8 @@ impl<I: Duplicate + Drop> Duplicate for Items<I> {
     }
 }
 
-// A copy of each item.
-fn copies<I: Duplicate + Drop>(alloc: Global, items: &[I]) -> Result<Vec<I>, AllocError>
+/// A copy of each item, in order.
+pub fn copies<I: Duplicate + Drop>(alloc: Global, items: &[I]) -> Result<Vec<I>, AllocError>
     ensures { IfOk result (λ copies. copies.items ≡ items.now) }
 {
     let mut copies = Vec::with_capacity(alloc, items.len())?;

@@ -1,3 +1,4 @@
+//! Sessions, the writes that they get, and what a program says of itself.
 ghost use Rattle.std.specs.Prelude.{◌≡◌, length, nat_lt};
 ghost use Rattle.std.specs.List.{list_all};
 ghost use Rattle.ep_defs.specs.Admits.{rule_admits, session_admits};
@@ -5,11 +6,18 @@ ghost use Rattle.ep_defs.specs.Session as valid;
 ghost use Rattle.ep_defs.specs.Session.{is_valid_config, is_valid_facts, standard_info_of};
 
 use crate::event::EventDef;
+use crate::limits::{CHUNKS, FACTS_UNITS, FRAMES, PAYLOAD_BYTES, RULES};
 use crate::list::{Bytes, Duplicate, Frames, Items, Units};
 use std::alloc::{AllocError, Global};
 
+/// Counts of the profile's clock in a second: it counts nanoseconds.
+pub const CLOCK_FREQUENCY: u64 = 1_000_000_000;
+
+/// The bytes of a pointer.
+pub const POINTER_BYTES: u32 = 8;
+
 /// Which events of a provider a session wants.
-#[derive(Debug, Drop)]
+#[derive(Debug, PartialEq, Eq, Drop)]
 pub struct Rule {
     /// The provider's name.
     pub name: Units,
@@ -22,15 +30,19 @@ pub struct Rule {
 pub type RuleList = Items<Rule>;
 
 /// What a session was asked for.
-#[derive(Debug, Drop)]
+#[derive(Debug, PartialEq, Eq, Drop)]
 pub struct Config {
     pub rules: RuleList,
-    /// The session's budget, in chunks of 65,536 bytes.
+    /// The session's budget, in chunks of `limits::CHUNK_BYTES`.
     pub chunks: u32,
+    /// Whether the stream has the stack of each event.
+    pub stackwalk: bool,
+    /// Whether the stream ends with a rundown of the program's methods.
+    pub rundown: bool,
 }
 
 /// One write of a thread.
-#[derive(Debug, Drop)]
+#[derive(Debug, PartialEq, Eq, Drop)]
 pub struct Write {
     /// The number of the event's definition, from 1.
     pub event: u32,
@@ -41,7 +53,7 @@ pub struct Write {
 }
 
 /// What the Trace object of a NetTrace stream says of the traced program.
-#[derive(Clone, Copy, Debug)]
+#[derive(Clone, Copy, Debug, PartialEq, Eq)]
 pub struct TraceInfo {
     /// Year, month, day of the week, day, hour, minute, second and millisecond.
     pub date: [u16; 8],
@@ -58,7 +70,7 @@ pub struct TraceInfo {
 }
 
 /// What the traced program says of itself.
-#[derive(Debug, Drop)]
+#[derive(Debug, PartialEq, Eq, Drop)]
 pub struct Facts {
     pub process_id: u64,
     /// It tells one run of the program from another.
@@ -73,7 +85,7 @@ pub struct Facts {
 }
 
 /// What a session had of one thread, from its opening there to its closing.
-#[derive(Clone, Copy, Debug)]
+#[derive(Clone, Copy, Debug, PartialEq, Eq)]
 pub struct Marks {
     pub thread: u64,
     /// How many writes the thread had made at the opening.
@@ -105,6 +117,8 @@ impl Duplicate for Config {
         Ok(Config {
             rules,
             chunks: self.chunks,
+            stackwalk: self.stackwalk,
+            rundown: self.rundown,
         })
     }
 }
@@ -141,34 +155,38 @@ impl Rule {
 }
 
 impl Config {
-    /// Whether a session can be asked for this: 1 to 1,000 rules, none of them without a provider's name, and 1 to
-    /// 16,384 chunks.
+    /// Whether a session can be asked for this: it has rules and chunks, no rule is without a provider's name, and
+    /// neither passes its bound in `limits`. Both flags may be anything.
     pub fn is_valid(&self) -> bool
         ensures { result ≡ is_valid_config self.now }
     {
         let rules = self.rules.as_slice();
-        (1..=1000).contains(&rules.len()) && have_names(rules) && (1..=16384).contains(&self.chunks)
+        (1..=RULES).contains(&rules.len())
+            && have_names(rules)
+            && (1..=CHUNKS).contains(&self.chunks)
     }
 }
 
 impl Write {
-    /// Whether a thread can make the write: at most 100 frames and 60,000 bytes of payload.
+    /// Whether a thread can make the write: neither its frames nor its payload pass their bounds in `limits`.
     pub fn fits(&self) -> bool
         ensures { result ≡ valid.fits self.now }
     {
-        self.frames.as_slice().len() <= 100 && self.payload.as_slice().len() <= 60_000
+        self.frames.as_slice().len() <= FRAMES && self.payload.as_slice().len() <= PAYLOAD_BYTES
     }
 }
 
 impl Facts {
-    /// Whether the three texts have at most 30,000 units together.
+    /// Whether the three texts have at most `limits::FACTS_UNITS` together.
     pub fn is_valid(&self) -> bool
         ensures { result ≡ is_valid_facts self.now }
     {
         let command_line = self.command_line.as_slice().len();
         let system = self.system.as_slice().len();
         let arch = self.arch.as_slice().len();
-        command_line <= 30_000 && system <= 30_000 && command_line + system + arch <= 30_000
+        command_line <= FACTS_UNITS
+            && system <= FACTS_UNITS
+            && command_line + system + arch <= FACTS_UNITS
     }
 }
 
@@ -194,8 +212,8 @@ pub fn standard_info(process_id: u32, processors: u32) -> TraceInfo
     TraceInfo {
         date: [1970, 1, 4, 1, 0, 0, 0, 0],
         sync: 0,
-        frequency: 1_000_000_000,
-        pointer_size: 8,
+        frequency: CLOCK_FREQUENCY,
+        pointer_size: POINTER_BYTES,
         process_id,
         processors,
         rate: 0,

@@ -39,6 +39,8 @@ fn config(
     Ok(Config {
         rules: Items::new(rules),
         chunks,
+        stackwalk: true,
+        rundown: false,
     })
 }
 
@@ -68,16 +70,14 @@ fn numbers_are_copied(rt: HostRuntime) -> Result<(), Fail> {
     Ok(())
 }
 
-#[test]
-fn a_definition_is_copied_with_its_fields(rt: HostRuntime) -> Result<(), Fail> {
-    let alloc = rt.alloc();
+fn definition_with_a_field(alloc: Global, code: u8) -> Result<EventDef, AllocError> {
     let mut fields = Vec::new(alloc);
     fields.push(FieldDef {
         depth: 0,
-        code: 9,
+        code,
         name: units(alloc, &[105])?,
     })?;
-    let def = EventDef {
+    Ok(EventDef {
         provider: units(alloc, &[80])?,
         id: 1,
         version: 2,
@@ -85,40 +85,39 @@ fn a_definition_is_copied_with_its_fields(rt: HostRuntime) -> Result<(), Fail> {
         keywords: 4,
         name: units(alloc, &[69])?,
         fields: Items::new(fields),
-    };
-    let copy = def.copy(alloc)?;
-    assert_eq!(rt; copy.provider.as_slice(), [80].as_slice());
-    assert_eq!(rt;
-        (copy.id, copy.version, copy.level, copy.keywords),
-        (1, 2, 3, 4)
-    );
-    assert_eq!(rt; copy.name.as_slice(), [69].as_slice());
+    })
+}
+
+#[test]
+fn a_definition_is_copied_with_its_fields(rt: HostRuntime) -> Result<(), Fail> {
+    let alloc = rt.alloc();
+    let copy = definition_with_a_field(alloc, 9)?.copy(alloc)?;
+    assert_eq!(rt; copy, definition_with_a_field(alloc, 9)?);
     assert_eq!(rt; copy.fields.as_slice().len(), 1);
-    let field = &copy.fields.as_slice()[0];
-    assert_eq!(rt; (field.depth, field.code), (0, 9));
-    assert_eq!(rt; field.name.as_slice(), [105].as_slice());
     Ok(())
 }
 
 #[test]
-fn a_configuration_is_copied_with_its_rules(rt: HostRuntime) -> Result<(), Fail> {
+fn a_list_of_definitions_is_copied_in_order(rt: HostRuntime) -> Result<(), Fail> {
     let alloc = rt.alloc();
-    let mut rules = Vec::new(alloc);
-    rules.push(Rule {
-        name: units(alloc, &[80])?,
-        keywords: 1,
-        level: 4,
-    })?;
-    let config = Config {
-        rules: Items::new(rules),
-        chunks: 16,
-    };
-    let copy = config.copy(alloc)?;
-    assert_eq!(rt; copy.chunks, 16);
+    let mut definitions = Vec::new(alloc);
+    definitions.push(definition_with_a_field(alloc, 9)?)?;
+    definitions.push(definition(alloc, &[80], 4, 0)?)?;
+    let copies = copies(alloc, &definitions)?;
+    assert_eq!(rt; copies.as_slice(), definitions.as_slice());
+    assert_eq!(rt; copies.len(), 2);
+    Ok(())
+}
+
+#[test]
+fn a_configuration_is_copied_with_its_flags(rt: HostRuntime) -> Result<(), Fail> {
+    let alloc = rt.alloc();
+    let mut asked = config(alloc, &[80], 1, 4, 16)?;
+    asked.rundown = true;
+    let copy = asked.copy(alloc)?;
+    assert_eq!(rt; copy, asked);
+    assert!(rt; copy.stackwalk && copy.rundown);
     assert_eq!(rt; copy.rules.as_slice().len(), 1);
-    let rule = &copy.rules.as_slice()[0];
-    assert_eq!(rt; rule.name.as_slice(), [80].as_slice());
-    assert_eq!(rt; (rule.keywords, rule.level), (1, 4));
     Ok(())
 }
 
@@ -133,8 +132,7 @@ fn a_write_is_copied(rt: HostRuntime) -> Result<(), Fail> {
         payload: Items::new([5u8, 6].to_vec(alloc)?),
     };
     let copy = write.copy(alloc)?;
-    assert_eq!(rt; (copy.event, copy.activity[15], copy.related[0]), (1, 2, 3));
-    assert_eq!(rt; copy.frames.as_slice(), [4096].as_slice());
+    assert_eq!(rt; copy, write);
     assert_eq!(rt; copy.payload.as_slice(), [5, 6].as_slice());
     Ok(())
 }
@@ -148,11 +146,7 @@ fn marks_are_copied(rt: HostRuntime) -> Result<(), Fail> {
         taken: 1,
         refused: 0,
     };
-    let copy = marks.copy(rt.alloc())?;
-    assert_eq!(rt;
-        (copy.thread, copy.from, copy.to, copy.taken, copy.refused),
-        (1, 2, 3, 1, 0)
-    );
+    assert_eq!(rt; marks.copy(rt.alloc())?, marks);
     Ok(())
 }
 
@@ -212,18 +206,10 @@ fn a_definition_without_a_provider_is_not_valid(rt: HostRuntime) -> Result<(), F
 #[test]
 fn definitions_differ_by_one_field(rt: HostRuntime) -> Result<(), Fail> {
     let alloc = rt.alloc();
-    let def = definition(alloc, &[80], 4, 0)?;
-    let mut other = def.copy(alloc)?;
-    assert!(rt; def.is_same(&other));
-    let mut fields = Vec::new(alloc);
-    fields.push(FieldDef {
-        depth: 0,
-        code: 9,
-        name: units(alloc, &[105])?,
-    })?;
-    other.fields = Items::new(fields);
-    assert!(rt; !def.is_same(&other));
-    assert!(rt; !def.is_same(&definition(alloc, &[80], 5, 0)?));
+    let def = definition_with_a_field(alloc, 9)?;
+    assert!(rt; def.is_same(&definition_with_a_field(alloc, 9)?));
+    assert!(rt; !def.is_same(&definition_with_a_field(alloc, 10)?));
+    assert!(rt; !def.is_same(&definition(alloc, &[80], 3, 4)?));
     Ok(())
 }
 
@@ -231,10 +217,10 @@ fn definitions_differ_by_one_field(rt: HostRuntime) -> Result<(), Fail> {
 fn a_configuration_needs_names_and_chunks(rt: HostRuntime) -> Result<(), Fail> {
     let alloc = rt.alloc();
     assert!(rt; config(alloc, &[80], 1, 4, 1)?.is_valid());
-    assert!(rt; config(alloc, &[80], 1, 4, 16_384)?.is_valid());
+    assert!(rt; config(alloc, &[80], 1, 4, limits::CHUNKS)?.is_valid());
     assert!(rt; !config(alloc, &[], 1, 4, 1)?.is_valid());
     assert!(rt; !config(alloc, &[80], 1, 4, 0)?.is_valid());
-    assert!(rt; !config(alloc, &[80], 1, 4, 16_385)?.is_valid());
+    assert!(rt; !config(alloc, &[80], 1, 4, limits::CHUNKS + 1)?.is_valid());
     Ok(())
 }
 
