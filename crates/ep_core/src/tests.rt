@@ -49,6 +49,8 @@ fn config(alloc: Global, keywords: u64, level: u32) -> Result<Config, AllocError
     Ok(Config {
         rules: Items::new(rules),
         chunks: 16,
+        stackwalk: true,
+        rundown: false,
     })
 }
 
@@ -77,6 +79,8 @@ fn step(alloc: Global, act: Act) -> Result<Step, AllocError>
             config: Config {
                 rules: Items::new(Vec::new(alloc)),
                 chunks: 16,
+                stackwalk: true,
+                rundown: false,
             },
         },
         Act::Open(session, thread) => Step::Open { session, thread },

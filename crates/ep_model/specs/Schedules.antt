@@ -1,5 +1,5 @@
 -- Small schedules, of which it is computed what they come to.
-use Rattle.std.specs.Prelude.{ℕ, List, [], ◌∷◌, ◌++◌, map, replicate, codes}
+use Rattle.std.specs.Prelude.{ℕ, true, false, List, [], ◌∷◌, ◌++◌, map, replicate, codes}
 use Rattle.std.specs.List.{flat_map}
 use Rattle.ep_defs.specs.declared.event.EventDef.{EventDef}
 use Rattle.ep_defs.specs.declared.session.Config.{Config}
@@ -17,7 +17,7 @@ event_e level keywords = record { provider = codes "P"; id = 1; version = 0; lev
 
 -- 16 chunks, and one rule for P with these keywords, up to level 4.
 abbrev pub config_p : ℕ → Config
-config_p keywords = record { rules = record { name = codes "P"; keywords = keywords; level = 4 } ∷ []; chunks = 16 }
+config_p keywords = record { rules = record { name = codes "P"; keywords = keywords; level = 4 } ∷ []; chunks = 16; stackwalk = true; rundown = false }
 
 -- A write of the event with this number, without a payload.
 abbrev pub write_e : ℕ → Write

@@ -47,10 +47,9 @@ leads words (step.Point s stamp) h = ap lead h.2
 leads words (step.Close s t) h = ap lead h.2
 leads words (step.Finish s stamp) h = ap lead h.2
 
-same-config : (a b : Config) → a.rules ≡ b.rules → a.chunks ≡ b.chunks → a ≡ b
-same-config a b rules chunks =
-    let make : List Rule → ℕ → Config = λ r n. record { rules = r; chunks = n } in
-    ap (λ r. make r a.chunks) rules ∙ ap (make b.rules) chunks
+same-config : (a b : Config) → a.rules ≡ b.rules → a.chunks ≡ b.chunks → a.stackwalk ≡ b.stackwalk → a.rundown ≡ b.rundown → a ≡ b
+same-config a b rules chunks stackwalk rundown =
+    λ i. record { rules = rules i; chunks = chunks i; stackwalk = stackwalk i; rundown = rundown i }
 
 -- The words of a line spell one step at most.
 same-step : (words : List (List ℕ)) (a b : Step) → Spells words a → Spells words b → a ≡ b
@@ -58,7 +57,9 @@ unfolding Spells
 same-step words (step.Accept s config) (step.Accept s' config') h k =
     let rules : config.rules ≡ config'.rules = cc in
     let chunks : config.chunks ≡ config'.chunks = cc in
-    let same = same-config config config' rules chunks in
+    let stackwalk : config.stackwalk ≡ config'.stackwalk = cc in
+    let rundown : config.rundown ≡ config'.rundown = cc in
+    let same = same-config config config' rules chunks stackwalk rundown in
     cc
 same-step words (step.Open s t) (step.Open s' t') h k = cc
 same-step words (step.Begin t stamp write) (step.Begin t' stamp' write') h k = cc

@@ -1,8 +1,8 @@
 -- The line that is written for a step is read as that step.
-use Rattle.std.proofs.Common.{◌≡◌, ℕ, zero, suc, ◌+◌, ◌-◌, ◌^◌, ◌<◌, ◌≤◌, Bool, true, false, nat_le, List, [], ◌∷◌, length, map, codes, Some, None, IsTrue, refl, sym, ap, ◌∙◌, subst, arith}
+use Rattle.std.proofs.Common.{◌≡◌, ◌&&◌, not, ℕ, zero, suc, ◌+◌, ◌-◌, ◌^◌, ◌<◌, ◌≤◌, Bool, true, false, nat_le, List, [], ◌∷◌, length, map, codes, Some, None, IsTrue, refl, sym, ap, ◌∙◌, subst, arith}
 use Rattle.std.specs.List.{list_all, join_with_byte, AllByRecursion}
 use Rattle.std.specs.Int.{is_in_range}
-use Rattle.std.proofs.lemmas.Bool.{and_parts, and_from}
+use Rattle.std.proofs.lemmas.Bool.{and_parts, and_from, not-true}
 use Rattle.std.proofs.lemmas.Bool.Decides.{nat_tests}
 use Rattle.ep_defs.specs.declared.event.EventDef.{EventDef}
 use Rattle.ep_defs.specs.declared.session.Rule.{Rule as RuleValue}
@@ -14,7 +14,7 @@ use Rattle.ep_plan.specs.declared.line.Line.TheVariants as line
 use Rattle.ep_plan.specs.declared.line.LineKind.TheVariants as kind
 use Rattle.ep_plan.specs.Words.{words_of, is_name, rule_in, all_in, with_first, number_text, id_text, frames_text, payload_text, rule_text}
 use Rattle.ep_plan.specs.Lines.{Part, Number, Stamp, Id, Frames, Payload, Rule, Form, form, accept_form, begin_parts, unless, number_of, stamp_of, write_of, first_bad, fault_of, spelling_fault, form_bad, step_bad, is_blank, Spells, Means, IsLine}
-use Rattle.ep_plan.specs.Printing.{step_words, step_text, can_print, has_parts, RuleFits, WriteFits, StepFits}
+use Rattle.ep_plan.specs.Printing.{step_words, step_text, can_print, has_rules, has_parts, RuleFits, WriteFits, StepFits}
 use Rattle.ep_plan.proofs.Lacks.{lacks, all_lack}
 use Rattle.ep_plan.proofs.NumberTexts.{number_in-number_text}
 use Rattle.ep_plan.proofs.ReadBack.{id_in-id_text, payload_in-payload_text, frames_in-frames_text, rule_in-rule_text}
@@ -158,12 +158,14 @@ pub read-again : (events : List EventDef) (stepped : Bool) (made : Step) → Ste
 unfolding Spells can_print
 read-again events stepped (step.Accept session config) fits can =
     let parts = and_parts (has_parts (step.Accept session config)) (nat_le (length (step_text (step.Accept session config))) 262144) can in
-    let rules = and_parts (is_in_range 1 1000 (length config.rules)) (list_all (λ rule. is_name rule.name) config.rules) parts.0 in
+    let last = and_parts (has_rules config.rules && config.stackwalk) (not config.rundown) parts.0 in
+    let first = and_parts (has_rules config.rules) config.stackwalk last.0 in
+    let rules = and_parts (is_in_range 1 1000 (length config.rules)) (list_all (λ rule. is_name rule.name) config.rules) first.0 in
     line-of events stepped (step.Accept session config) (codes "accept") (number_text session ∷ number_text config.chunks ∷ map rule_text config.rules) accept_form can refl
     (lack-more (number_text session) (number_text config.chunks ∷ map rule_text config.rules) (is-word session fits.0) (lack-more (number_text config.chunks) (map rule_text config.rules) (is-word config.chunks fits.1) (rules-lack config.rules rules.1 fits.2)))
     refl refl refl
     (good-number session fits.0, (good-number config.chunks fits.1, accept-good config.rules rules.0 rules.1 fits.2))
-    (number_text session, number_text config.chunks, map rule_text config.rules, refl, reads session fits.0, reads config.chunks fits.1, rules-read config.rules rules.1 fits.2)
+    (number_text session, number_text config.chunks, map rule_text config.rules, refl, reads session fits.0, reads config.chunks fits.1, rules-read config.rules rules.1 fits.2, first.1, not-true config.rundown last.1)
 read-again events stepped (step.Open session thread) fits can =
     line-of events stepped (step.Open session thread) (codes "open") (number_text session ∷ number_text thread ∷ []) (form (codes "open") (Number ∷ Number ∷ [])) can refl
     (lack-two _ _ (is-word session fits.0) (is-word thread fits.1)) refl refl refl

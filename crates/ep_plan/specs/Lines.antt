@@ -231,6 +231,7 @@ unfoldable pub Spells : List (List ℕ) → Step → Type 0
 Spells words (step.Accept session config) =
     (a : List ℕ) × (b : List ℕ) × (rules : List (List ℕ)) × (words ≡ codes "accept" ∷ a ∷ b ∷ rules)
     × (number_of a ≡ Some session) × (number_of b ≡ Some config.chunks) × (all_in rule_in rules ≡ Some config.rules)
+    × (config.stackwalk ≡ true) × (config.rundown ≡ false)
 Spells words (step.Open session thread) = SpellNumbers (codes "open") words session thread
 Spells words (step.Begin thread stamp write) =
     (a : List ℕ) × (b : List ℕ) × (rest : List (List ℕ)) × (words ≡ codes "begin" ∷ a ∷ b ∷ rest)

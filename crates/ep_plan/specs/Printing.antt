@@ -1,5 +1,5 @@
 -- The line that is written for a step.
-use Rattle.std.specs.Prelude.{◌≡◌, ℕ, ◌^◌, ◌<◌, Bool, true, ◌&&◌, List, [], ◌∷◌, length, map, codes, nat_le, slice_index}
+use Rattle.std.specs.Prelude.{◌≡◌, ℕ, ◌^◌, ◌<◌, Bool, true, not, ◌&&◌, List, [], ◌∷◌, length, map, codes, nat_le, slice_index}
 use Rattle.std.specs.List.{list_all, join_with_byte, flat_map, AllByRecursion}
 use Rattle.std.specs.Int.{is_in_range}
 use Rattle.hex.specs.Hex.{IsBytes}
@@ -42,7 +42,7 @@ abbrev pub has_rules : List Rule → Bool
 has_rules rules = is_in_range 1 1000 (length rules) && list_all (λ rule. is_name rule.name) rules
 
 abbrev pub has_parts : Step → Bool
-has_parts (step.Accept session config) = has_rules config.rules
+has_parts (step.Accept session config) = has_rules config.rules && config.stackwalk && not config.rundown
 has_parts _ = true
 
 -- A line can hold the step.

@@ -143,7 +143,12 @@ fn read_accept(alloc: Global, words: &mut Cursor) -> Result<Step, LineFault>
     let rules = read_rules(alloc, words)?;
     Ok(Step::Accept {
         session,
-        config: Config { rules, chunks },
+        config: Config {
+            rules,
+            chunks,
+            stackwalk: true,
+            rundown: false,
+        },
     })
 }
 
