@@ -1,6 +1,6 @@
 -- What is valid fits its types.
 use Rattle.std.proofs.Common.{◌≡◌, ℕ, ◌^◌, ◌<◌, ◌≤◌, refl, Bool, true, leb, List, length, get_or, arith, inl, inr}
-use Rattle.std.specs.Prelude.{All, IsTrue, nat_lt, nat_le, ◌==◌, ◌&&◌, ◌||◌}
+use Rattle.std.specs.Prelude.{All, IsTrue, nat_lt, nat_le, ◌==◌, ◌&&◌}
 use Rattle.std.specs.List.{list_all}
 use Rattle.std.specs.Int.{is_in_range}
 use Rattle.std.proofs.lemmas.Bool.{and_parts, leb-true, lt-ltb, or_cases, eqb-true}
