@@ -1,0 +1,17 @@
+//! Pools of chunks: a session's budget, all of whose chunks are reserved when it is made.
+//!
+//! Who keeps a write takes a chunk where its last one lacks the room, and gives chunks back once their records are in
+//! the session's stream. It does so through a purse, whatever pool stands behind it. It stands on the chunks.
+//!
+//! Its one contract: of a pool, the free chunks and those that are out make its total; a chunk that is taken is empty;
+//! none is given where none is free, and no chunk is lost. Only `new` takes memory. `specs/Counts` says what a pool is.
+#![tactic(auto)]
+
+mod own_pool;
+mod purse;
+
+pub use own_pool::OwnPool;
+pub use purse::Purse;
+
+#[cfg(test)]
+mod tests;
