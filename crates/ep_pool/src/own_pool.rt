@@ -91,6 +91,10 @@ impl Purse for OwnPool {
     {
         self.total
     }
+
+    ghost use Rattle.std.proofs.Common.{ap};
+
+    ghost none_is_taken = { λ old new h. ap (λ (p : PoolCounts). p.total - p.free) h.1 };
 }
 
 // The chunk of a chain of one, without its records.

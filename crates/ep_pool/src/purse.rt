@@ -36,4 +36,7 @@ pub trait Purse {
     /// How many chunks the pool has, free ones and others.
     fn total(&self) -> u32
         ensures { result ≡ total self.now };
+
+    // Where no chunk was found none was taken.
+    ghost none_is_taken: { (old new : Self) → found_none old new → taken new ≡ taken old };
 }
