@@ -1,0 +1,159 @@
+-- A valid definition of an event fits the payload of a metadata blob.
+use Rattle.std.proofs.Common.{◌≡◌, ℕ, zero, suc, ◌+◌, ◌*◌, ◌^◌, ◌<◌, ◌≤◌, Bool, true, false, cond, eqb, leb, List, [], ◌∷◌, ◌++◌, length, take, drop, refl, sym, ap, arith, length-append, length-take, length-drop}
+use Rattle.std.proofs.lemmas.Bool.{and_parts, and_from, leb-true, le-leb}
+use Rattle.std.proofs.lemmas.List.Sums.{count_by-le-length}
+use Rattle.std.specs.Prelude.{◌&&◌, IsTrue, nat_lt}
+use Rattle.std.specs.List.{AllByRecursion, list_all, prefix_len}
+use Rattle.std.specs.Int.{w16, w32, w64}
+use Rattle.ep_defs.specs.declared.event.FieldDef.{FieldDef}
+use Rattle.ep_defs.specs.declared.event.EventDef.{EventDef}
+use Rattle.ep_defs.specs.Event.{is_type_code, is_text, are_nested, is_valid_field, are_valid_fields, is_valid_event}
+use Rattle.pt_num.specs.Numbers.{fixed}
+use Rattle.pt_num.specs.Texts.{units_bytes, text_z, are_units}
+use Rattle.nt_meta.specs.Meta.{inside, after, inside_count, inside_counts, fields_bytes, outermost_count, meta_payload, is_readable_field}
+use Rattle.ep_defs.specs.Ranges.{EventFits}
+use Rattle.nt_meta.specs.Meta.{FitsPayload, IsMeta}
+use Rattle.nt_meta.specs.declared.limits.TheConstants.{LAST_ID}
+use Rattle.std.proofs.lemmas.List.{append-nil}
+use Rattle.std.proofs.lemmas.List.Elements.{All-nil}
+use Rattle.nt_meta.proofs.Lengths.{fixed_len-16, fixed_len-32, fixed_len-64}
+
+-- Each unit takes two bytes.
+units-len : (units : List ℕ) → length (units_bytes units) ≡ 2 * length units
+units-len [] = refl
+units-len (unit ∷ units) = omega (arith, length-append (fixed w16 unit) (units_bytes units), fixed_len-16 unit, units-len units)
+
+-- So does the zero unit behind them.
+text-len : (units : List ℕ) → length (text_z units) ≡ 2 * length units + 2
+text-len units = omega (arith, length-append (units_bytes units) (fixed w16 0), units-len units, fixed_len-16 0)
+
+-- The name of a field that is written.
+abbrev HasShortName : FieldDef → Type 0
+HasShortName field = length field.name ≤ 200
+
+-- What holds of all fields holds of the first ones.
+all-take : {A : Type 0} (P : A → Type 0) (n : ℕ) (xs : List A) → AllByRecursion P xs → AllByRecursion P (take n xs)
+all-take P zero xs h = tt
+all-take P (suc n) [] h = tt
+all-take P (suc n) (x ∷ xs) h = (h.0, all-take P n xs h.1)
+
+-- And of those behind them.
+all-drop : {A : Type 0} (P : A → Type 0) (n : ℕ) (xs : List A) → AllByRecursion P xs → AllByRecursion P (drop n xs)
+all-drop P zero xs h = h
+all-drop P (suc n) [] h = tt
+all-drop P (suc n) (x ∷ xs) h = all-drop P n xs h.1
+
+-- The fields inside one and those after it are no more than all.
+parts-len : (field : FieldDef) (fields : List FieldDef) → length (inside field fields) + length (after field fields) ≤ length fields
+parts-len field fields = counted (inside field fields) (prefix_len (λ f. nat_lt field.depth f.depth) fields) refl
+  where
+    counted : (front : List FieldDef) (n : ℕ) → front ≡ take n fields → length front + length (drop (length front) fields) ≤ length fields
+    counted front n e = omega (arith, length-drop (length front) fields, length-take n fields, ap (λ (fs : List FieldDef). length fs) e)
+
+-- One field with what is inside it and after it.
+field-len : (is_object : Bool) (code count within name behind : List ℕ) (n m all : ℕ) → length code ≡ 4 → length count ≡ 4 → length within ≤ 410 * n → length name ≤ 402 → length behind ≤ 410 * m → n + m ≤ all → length (code ++ cond is_object (count ++ within) [] ++ name ++ behind) ≤ 410 * suc all
+field-len true code count within name behind n m all a b c d e f =
+    omega (arith, length-append (code ++ (count ++ within) ++ name) behind, length-append (code ++ (count ++ within)) name, length-append code (count ++ within), length-append count within)
+field-len false code count within name behind n m all a b c d e f =
+    omega (arith, length-append (code ++ [] ++ name) behind, length-append (code ++ []) name, length-append code [])
+
+-- Each field takes at most 410 bytes.
+fields-len : (more : ℕ) (fields : List FieldDef) → AllByRecursion HasShortName fields → length (fields_bytes more fields) ≤ 410 * length fields
+fields-len zero fields h = omega arith
+fields-len (suc more) [] h = omega arith
+fields-len (suc more) (field ∷ fields) h =
+    field-len (eqb field.code 1) (fixed w32 field.code) (fixed w32 (inside_count field fields)) (fields_bytes more (inside field fields)) (text_z field.name) (fields_bytes more (after field fields)) (length (inside field fields)) (length (after field fields)) (length fields)
+    (fixed_len-32 field.code) (fixed_len-32 (inside_count field fields))
+    (fields-len more (inside field fields) (all-take HasShortName (prefix_len (λ f. nat_lt field.depth f.depth) fields) fields h.1))
+    (omega (arith, text-len field.name, h.0))
+    (fields-len more (after field fields) (all-drop HasShortName (length (inside field fields)) fields h.1))
+    (parts-len field fields)
+
+-- A payload with few fields and short texts.
+payload-len : (id : ℕ) (def : EventDef) → length def.provider ≤ 1000 → length def.name ≤ 1000 → length def.fields ≤ 100 → AllByRecursion HasShortName def.fields → length (meta_payload id def) ≤ 60000
+payload-len id def p n f h =
+    nine (fixed w32 id) (text_z def.provider) (fixed w32 def.id) (text_z def.name) (fixed w64 def.keywords) (fixed w32 def.version) (fixed w32 def.level) (fixed w32 (outermost_count def.fields)) (fields_bytes (length def.fields) def.fields)
+    (fixed_len-32 id) (omega (arith, text-len def.provider, p)) (fixed_len-32 def.id) (omega (arith, text-len def.name, n)) (fixed_len-64 def.keywords) (fixed_len-32 def.version) (fixed_len-32 def.level) (fixed_len-32 (outermost_count def.fields))
+    (omega (arith, fields-len (length def.fields) def.fields h, f))
+  where
+    nine : (a b c d e f g h i : List ℕ) → length a ≡ 4 → length b ≤ 2002 → length c ≡ 4 → length d ≤ 2002 → length e ≡ 8 → length f ≡ 4 → length g ≡ 4 → length h ≡ 4 → length i ≤ 41000 → length (a ++ b ++ c ++ d ++ e ++ f ++ g ++ h ++ i) ≤ 60000
+    nine a b c d e f g h i la lb lc ld le lf lg lh li =
+        omega (arith, length-append (a ++ b ++ c ++ d ++ e ++ f ++ g ++ h) i, length-append (a ++ b ++ c ++ d ++ e ++ f ++ g) h, length-append (a ++ b ++ c ++ d ++ e ++ f) g, length-append (a ++ b ++ c ++ d ++ e) f, length-append (a ++ b ++ c ++ d) e, length-append (a ++ b ++ c) d, length-append (a ++ b) c, length-append a b)
+
+-- No field holds more fields than there are.
+counts-fit : (fields : List FieldDef) → length fields < 2 ^ 32 → AllByRecursion (λ count. count < 2 ^ 32) (inside_counts fields)
+counts-fit [] h = tt
+counts-fit (field ∷ fields) h =
+    (omega (arith, count_by-le-length (λ (f : FieldDef). eqb f.depth (field.depth + 1)) (inside field fields), parts-len field fields), counts-fit fields (omega arith))
+
+-- What a valid field says of itself.
+record IsGoodField (field : FieldDef) : Type 0 where
+  pub short : HasShortName field
+  pub readable : is_readable_field field ≡ true
+
+good-field : (field : FieldDef) → is_valid_field field ≡ true → IsGoodField field
+good-field field h =
+    let outer = and_parts (is_type_code field.code && is_text 200 field.name) (leb field.depth 8) h in
+    let inner = and_parts (is_type_code field.code) (is_text 200 field.name) outer.0 in
+    let name = and_parts (leb (length field.name) 200) (are_units field.name) inner.1 in
+    let deep = leb-true field.depth 8 outer.1 in
+    record {
+      short = leb-true (length field.name) 200 name.0;
+      readable = and_from (is_type_code field.code && are_units field.name) (leb field.depth 32) (and_from (is_type_code field.code) (are_units field.name) inner.0 name.1) (le-leb field.depth 32 (omega arith));
+    }
+
+-- Valid fields are readable.
+good-fields : (fields : List FieldDef) → list_all is_valid_field fields ≡ true → AllByRecursion HasShortName fields × (list_all is_readable_field fields ≡ true)
+good-fields [] h = (tt, refl)
+good-fields (field ∷ fields) h =
+    let parts = and_parts (is_valid_field field) (list_all is_valid_field fields) h in
+    let first = good-field field parts.0 in
+    let rest = good-fields fields parts.1 in
+    ((first.short, rest.0), and_from (is_readable_field field) (list_all is_readable_field fields) first.readable rest.1)
+
+-- A valid definition fits the places that a payload has for its parts.
+pub fits-payload : (def : EventDef) → IsTrue (is_valid_event def) → EventFits def → FitsPayload def
+fits-payload def valid ranges =
+    let p3 = and_parts (nat_lt 0 (length def.provider) && is_text 1000 def.provider && is_text 1000 def.name) (are_valid_fields def.fields) valid in
+    let p2 = and_parts (nat_lt 0 (length def.provider) && is_text 1000 def.provider) (is_text 1000 def.name) p3.0 in
+    let p1 = and_parts (nat_lt 0 (length def.provider)) (is_text 1000 def.provider) p2.0 in
+    let provider = and_parts (leb (length def.provider) 1000) (are_units def.provider) p1.1 in
+    let name = and_parts (leb (length def.name) 1000) (are_units def.name) p2.1 in
+    let f2 = and_parts (leb (length def.fields) 100 && list_all is_valid_field def.fields) (are_nested 0 def.fields) p3.1 in
+    let f1 = and_parts (leb (length def.fields) 100) (list_all is_valid_field def.fields) f2.0 in
+    let good = good-fields def.fields f1.1 in
+    let few = leb-true (length def.fields) 100 f1.0 in
+    record {
+      id = ranges.id;
+      version = ranges.version;
+      level = ranges.level;
+      keywords = ranges.keywords;
+      provider = provider.1;
+      name = name.1;
+      counts = (omega (arith, count_by-le-length (λ (f : FieldDef). eqb f.depth 0) def.fields), counts-fit def.fields (omega arith));
+      fields = and_from (list_all is_readable_field def.fields) (are_nested 0 def.fields) good.1 f2.1;
+    }
+
+-- The payload of a valid definition is short, whatever its numbers.
+pub short-payload : (id : ℕ) (def : EventDef) → IsTrue (is_valid_event def) → length (meta_payload id def) ≤ 60000
+short-payload id def valid =
+    let p3 = and_parts (nat_lt 0 (length def.provider) && is_text 1000 def.provider && is_text 1000 def.name) (are_valid_fields def.fields) valid in
+    let p2 = and_parts (nat_lt 0 (length def.provider) && is_text 1000 def.provider) (is_text 1000 def.name) p3.0 in
+    let p1 = and_parts (nat_lt 0 (length def.provider)) (is_text 1000 def.provider) p2.0 in
+    let provider = and_parts (leb (length def.provider) 1000) (are_units def.provider) p1.1 in
+    let name = and_parts (leb (length def.name) 1000) (are_units def.name) p2.1 in
+    let f2 = and_parts (leb (length def.fields) 100 && list_all is_valid_field def.fields) (are_nested 0 def.fields) p3.1 in
+    let f1 = and_parts (leb (length def.fields) 100) (list_all is_valid_field def.fields) f2.0 in
+    payload-len id def (leb-true (length def.provider) 1000 provider.0) (leb-true (length def.name) 1000 name.0) (leb-true (length def.fields) 100 f1.0) (good-fields def.fields f1.1).0
+
+-- What is put of a valid definition is a payload of it.
+pub is-payload : (id : ℕ) (def : EventDef) → IsTrue (is_valid_event def) → EventFits def → 0 < id → id ≤ LAST_ID → IsMeta id def (meta_payload id def)
+is-payload id def valid ranges some fits =
+    record {
+      more = [];
+      spelled = sym (append-nil (meta_payload id def));
+      not_zero = some;
+      id_fits = fits;
+      def_fits = fits-payload def valid ranges;
+      more_bytes = All-nil (λ byte. byte < 2 ^ 8);
+    }

@@ -1,0 +1,4 @@
+pub mod Meta
+pub mod Reading
+pub mod Taking
+pub mod state

@@ -1,0 +1,19 @@
+//! The payload of a metadata blob, which defines an event under an id: put and taken.
+//!
+//! It stands on pt_num, for numbers and texts, and on ep_defs, for the definitions of events. What the payload of a
+//! definition is stands in `specs/Meta`; what stands in the bytes of a payload, or that nothing may stand there, in
+//! `specs/Reading`; the laws of `laws` join the two. `cursor` reads, `put` writes, `limits` has the bounds.
+//!
+//! Its one contract: what is put is the one payload of the definition, and what is taken is a payload of what is
+//! answered; bytes that are none are refused, and no others.
+#![tactic(auto)]
+
+mod cursor;
+pub mod limits;
+mod put;
+mod take;
+#[cfg(test)]
+mod tests;
+
+pub use put::put_meta;
+pub use take::{TakenMeta, take_meta};
