@@ -183,3 +183,13 @@ short_var-64 n h =
       var = record { groups = short.groups; few = short.few; sum = short.sum; fits = h };
       short = short_or_zero 10 n (short_var w64 n) short;
     }
+
+-- A short form has at most so many bytes.
+pub short_len : (more n : ℕ) → length (short_groups more n) ≤ more
+unfolding short_groups
+short_len zero n = omega arith
+short_len (suc more) n =
+    elim (few_or_many n) [
+      | inl few ↦ omega (arith, ap length (short_groups-last (suc more) n (omega arith) few))
+      | inr many ↦ omega (arith, short_len more (n / 128), ap length (short_groups-next (suc more) more n (omega arith) many))
+    ]

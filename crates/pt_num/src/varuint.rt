@@ -30,7 +30,7 @@ pub fn put_var32(out: &mut Vec<u8>, value: u32) -> Result<(), AllocError>
     ensures capacity { vec_capacity out.old ≤ vec_capacity out.new }
 {
     out.reserve(VAR32_BYTES)?;
-    push_groups(out, u64::from(value));
+    push_var32(out, value);
     Ok(())
 }
 
@@ -44,8 +44,30 @@ pub fn put_var64(out: &mut Vec<u8>, value: u64) -> Result<(), AllocError>
     ensures capacity { vec_capacity out.old ≤ vec_capacity out.new }
 {
     out.reserve(VAR64_BYTES)?;
-    push_groups(out, value);
+    push_var64(out, value);
     Ok(())
+}
+
+/// Appends a varuint of 32 bits in its shortest form, for which there is room. It takes no memory.
+pub fn push_var32(out: &mut Vec<u8>, value: u32)
+    requires { vec_len out.old + VAR32_BYTES ≤ vec_capacity out.old }
+    ensures items { out.new.items ≡ out.old.items ++ short_var w32 value }
+    ensures len { vec_len out.new ≡ vec_len out.old + length (short_var w32 value) }
+    ensures few { vec_len out.new ≤ vec_len out.old + VAR32_BYTES }
+    ensures capacity { vec_capacity out.new ≡ vec_capacity out.old }
+{
+    push_groups(out, u64::from(value));
+}
+
+/// Appends a varuint of 64 bits in its shortest form, for which there is room. It takes no memory.
+pub fn push_var64(out: &mut Vec<u8>, value: u64)
+    requires { vec_len out.old + VAR64_BYTES ≤ vec_capacity out.old }
+    ensures items { out.new.items ≡ out.old.items ++ short_var w64 value }
+    ensures len { vec_len out.new ≡ vec_len out.old + length (short_var w64 value) }
+    ensures few { vec_len out.new ≤ vec_len out.old + VAR64_BYTES }
+    ensures capacity { vec_capacity out.new ≡ vec_capacity out.old }
+{
+    push_groups(out, value);
 }
 
 /// The varuint of 32 bits at the front, in any form whose value fits.

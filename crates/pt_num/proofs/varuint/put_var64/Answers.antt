@@ -2,11 +2,6 @@ use Rattle.std.proofs.Common.{arith}
 use Rattle.pt_num.proofs.Groups.{short_var-64}
 use Rattle.pt_num.proofs.varuint.put_var64.Goals as goal
 
-pub push_groups-requires : goal.push_groups-requires
-push_groups-requires c =
-    let few = (short_var-64 c.args.value (omega arith)).var.few in
-    omega (arith, few, c.in_ok-reserve.ensures.ok)
-
 pub returns-clause-form : goal.returns-clause-form
 returns-clause-form c = short_var-64 c.args.value (omega arith)
 

@@ -1,0 +1,3 @@
+pub mod Heads
+pub mod PutHeads
+pub mod Steps

@@ -1,0 +1,4 @@
+pub mod Fewest
+pub mod Head
+pub mod Places
+pub mod Reading

@@ -1,0 +1,154 @@
+//! Writing a header.
+ghost use Rattle.std.specs.Prelude.{◌≡◌, ◌+◌, ◌≤◌, ◌++◌, length, nat_eq, IsOk, IfOk, OnOk, OnErr, vec_len, vec_capacity};
+ghost use Rattle.std.specs.Int.{w32, w64};
+ghost use Rattle.std.specs.Bool.{then_some};
+ghost use Rattle.std.specs.Cmp.Lexicographic.{pointwise};
+ghost use Rattle.pt_num.specs.Numbers.{short_var};
+ghost use Rattle.nt_head.specs.Fewest.{has_sequence, head_bytes, if_there, sequence_bytes, sequence_of, KeepsSequence};
+ghost use Rattle.nt_head.specs.Head.{IsHead};
+ghost use Rattle.nt_head.specs.Head.{flag as worth_of};
+
+use crate::head::{HeadState, state_fits};
+use crate::limits::{HEAD_BYTES, ID_BYTES};
+use pt_num::{push_var32, push_var64};
+use std::alloc::AllocError;
+
+/// Appends the header that says `now` after `previous`, with the fewest fields and each number in its shortest form,
+/// at most 88 bytes, and answers how many.
+///
+/// With 88 bytes of reserved room it takes no memory. Under the metadata id 0 a header can't change the sequence
+/// number, the capture thread or the processor.
+pub fn put_head(
+    out: &mut Vec<u8>,
+    previous: &HeadState,
+    now: &HeadState,
+) -> Result<usize, AllocError>
+    requires { now.now.metadata ≡ 0 → KeepsSequence previous.now now.now }
+    ensures ok { OnOk result (out.new.items ≡ out.old.items ++ head_bytes previous.now now.now) }
+    ensures count { IfOk result (λ count. count ≡ length (head_bytes previous.now now.now)) }
+    ensures few { length (head_bytes previous.now now.now) ≤ HEAD_BYTES }
+    ensures form { IsHead previous.now now.now (head_bytes previous.now now.now) }
+    ensures err { OnErr result (out.new.items ≡ out.old.items) }
+    ensures len { IfOk result (λ count. vec_len out.new ≡ vec_len out.old + count) }
+    ensures room { vec_len out.old + HEAD_BYTES ≤ vec_capacity out.old → IsOk result }
+    ensures capacity { vec_capacity out.old ≤ vec_capacity out.new }
+{
+    state_fits(previous);
+    state_fits(now);
+    out.reserve(HEAD_BYTES)?;
+    let start = out.as_slice().len();
+    push_head(out, previous, now);
+    Ok(out.as_slice().len() - start)
+}
+
+// Appends the header, for which there is room.
+fn push_head(out: &mut Vec<u8>, previous: &HeadState, now: &HeadState)
+    requires { vec_len out.old + HEAD_BYTES ≤ vec_capacity out.old }
+    ensures items { out.new.items ≡ out.old.items ++ head_bytes previous.now now.now }
+    ensures capacity { vec_capacity out.new ≡ vec_capacity out.old }
+{
+    let metadata = previous.metadata != now.metadata;
+    let sequence = has_sequence(previous, now);
+    let thread = previous.thread != now.thread;
+    let stack = previous.stack != now.stack;
+    let activity = !is_same_id(&previous.activity, &now.activity);
+    let related = !is_same_id(&previous.related, &now.related);
+    let size = previous.size != now.size;
+    out.push_reserved(
+        flag(1, metadata)
+            + flag(2, sequence)
+            + flag(4, thread)
+            + flag(8, stack)
+            + flag(16, activity)
+            + flag(32, related)
+            + flag(64, now.sorted)
+            + flag(128, size),
+    );
+    push_new32(out, metadata, now.metadata);
+    push_sequence(out, sequence, previous, now);
+    push_new64(out, thread, now.thread);
+    push_new32(out, stack, now.stack);
+    push_var64(out, now.stamp.wrapping_sub(previous.stamp));
+    push_new_id(out, activity, &now.activity);
+    push_new_id(out, related, &now.related);
+    push_new32(out, size, now.size);
+}
+
+// Whether the number, the capture thread or the processor has to be said after the previous header.
+#[inline(always)]
+fn has_sequence(previous: &HeadState, now: &HeadState) -> bool
+    ensures { result ≡ has_sequence previous.now now.now }
+{
+    now.metadata != 0 && now.number != previous.number.wrapping_add(1)
+        || now.capture != previous.capture
+        || now.processor != previous.processor
+}
+
+#[inline(always)]
+fn is_same_id(previous: &[u8; 16], now: &[u8; 16]) -> bool
+    ensures { result ≡ pointwise nat_eq previous.now now.now }
+{
+    previous == now
+}
+
+#[inline(always)]
+fn flag(worth: u8, set: bool) -> u8
+    ensures value { result ≡ worth_of worth set }
+    ensures bound { result ≤ worth }
+{
+    if set { worth } else { 0 }
+}
+
+#[inline(always)]
+fn push_new32(out: &mut Vec<u8>, there: bool, value: u32)
+    requires { vec_len out.old + 5 ≤ vec_capacity out.old }
+    ensures items { out.new.items ≡ out.old.items ++ if_there (short_var w32) (then_some there value) }
+    ensures len { vec_len out.new ≤ vec_len out.old + 5 }
+    ensures capacity { vec_capacity out.new ≡ vec_capacity out.old }
+{
+    if there {
+        push_var32(out, value);
+    }
+}
+
+#[inline(always)]
+fn push_new64(out: &mut Vec<u8>, there: bool, value: u64)
+    requires { vec_len out.old + 10 ≤ vec_capacity out.old }
+    ensures items { out.new.items ≡ out.old.items ++ if_there (short_var w64) (then_some there value) }
+    ensures len { vec_len out.new ≤ vec_len out.old + 10 }
+    ensures capacity { vec_capacity out.new ≡ vec_capacity out.old }
+{
+    if there {
+        push_var64(out, value);
+    }
+}
+
+#[inline(always)]
+fn push_new_id(out: &mut Vec<u8>, there: bool, id: &[u8; 16])
+    requires { vec_len out.old + ID_BYTES ≤ vec_capacity out.old }
+    ensures items { out.new.items ≡ out.old.items ++ if_there (λ id. id) (then_some there id.now) }
+    ensures len { vec_len out.new ≤ vec_len out.old + ID_BYTES }
+    ensures capacity { vec_capacity out.new ≡ vec_capacity out.old }
+{
+    if there {
+        for byte in id {
+            out.push_reserved(*byte);
+        }
+    }
+}
+
+#[inline(always)]
+fn push_sequence(out: &mut Vec<u8>, there: bool, previous: &HeadState, now: &HeadState)
+    requires { vec_len out.old + 20 ≤ vec_capacity out.old }
+    ensures items { out.new.items
+        ≡ out.old.items ++ if_there sequence_bytes (then_some there (sequence_of previous.now now.now)) }
+    ensures len { vec_len out.new ≤ vec_len out.old + 20 }
+    ensures capacity { vec_capacity out.new ≡ vec_capacity out.old }
+{
+    if there {
+        let increment = now.number.wrapping_sub(previous.number).wrapping_sub(1);
+        push_var32(out, increment);
+        push_var64(out, now.capture);
+        push_var32(out, now.processor);
+    }
+}
