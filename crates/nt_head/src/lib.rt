@@ -13,6 +13,8 @@ mod head;
 pub mod limits;
 mod put;
 mod take;
+#[cfg(test)]
+mod tests;
 
 pub use head::{HeadState, state_fits};
 pub use put::put_head;

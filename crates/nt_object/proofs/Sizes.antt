@@ -1,0 +1,32 @@
+-- Sizes of what is put.
+use Rattle.std.proofs.Common.{◌≡◌, ◌+◌, ◌*◌, ℕ, List, [], ◌∷◌, ◌++◌, length, refl, arith}
+use Rattle.std.specs.List.{flat_map}
+use Rattle.std.specs.Prelude.{IsTrue, nat_eq, nat_lt, ◌&&◌}
+use Rattle.std.specs.Int.{Width, w16, w32, w64, byte_len}
+use Rattle.std.proofs.lemmas.List.{length-append}
+use Rattle.std.proofs.lemmas.Bool.{and_parts, eqb-true}
+use Rattle.ep_defs.specs.declared.session.TraceInfo.{TraceInfo}
+use Rattle.ep_defs.specs.Session.{is_info}
+use Rattle.pt_num.specs.Numbers.{fixed}
+use Rattle.nt_object.specs.Object.{trace_payload}
+use Rattle.nt_object.specs.Stream.{stream_start}
+
+-- A unit takes two bytes.
+dates : (date : List ℕ) → length (flat_map (fixed w16) date) ≡ 2 * length date
+unfolding fixed
+dates [] = refl
+dates (part ∷ date) = omega (arith, dates date)
+
+-- A date has eight parts.
+date_8 : (info : TraceInfo) → IsTrue (is_info info) → length info.date ≡ 8
+date_8 info h = eqb-true (length info.date) 8 (and_parts _ _ (and_parts _ _ (and_parts _ _ (and_parts _ _ h).0).0).0).0
+
+-- The payload of the Trace object takes 48 bytes.
+payload_size : (info : TraceInfo) → length info.date ≡ 8 → length (trace_payload info) ≡ 48
+unfolding fixed
+payload_size info date = simp (length-append, dates) (omega (arith, date))
+
+-- The start of a stream takes 102 bytes.
+pub start_size : (info : TraceInfo) → IsTrue (is_info info) → length (stream_start info) ≡ 102
+unfolding fixed
+start_size info h = omega (arith, length-append (trace_payload info) (6 ∷ []), payload_size info (date_8 info h))

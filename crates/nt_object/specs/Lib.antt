@@ -1,0 +1,4 @@
+pub mod Making
+pub mod Object
+pub mod Reading
+pub mod Stream
