@@ -16,9 +16,7 @@ mod varuint;
 
 pub use fixed::{put_u16, put_u32, put_u64, take_u16, take_u32, take_u64};
 pub use text::{TakenText, put_counted, put_utf16z, take_counted, take_utf16z};
-pub use varuint::{
-    Taken, push_var32, push_var64, put_var32, put_var64, take_var32, take_var64,
-};
+pub use varuint::{Taken, push_var32, push_var64, put_var32, put_var64, take_var32, take_var64};
 
 #[cfg(test)]
 mod tests;
