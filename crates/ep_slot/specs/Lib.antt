@@ -1,0 +1,4 @@
+pub mod Chain
+pub mod Slot
+pub mod Hand
+pub mod Held
