@@ -1,11 +1,11 @@
 -- A record more in a chain of chunks.
-use Rattle.std.proofs.Common.{◌≡◌, ℕ, ◌+◌, ◌-◌, ◌<◌, ◌≤◌, Bool, true, false, List, [], ◌∷◌, ◌++◌, length, refl, ap, sym, ◌∙◌, subst, append_assoc, arith, rules, length-append}
+use Rattle.std.proofs.Common.{◌≡◌, ℕ, ◌+◌, ◌-◌, ◌<◌, ◌≤◌, Bool, true, false, List, [], ◌∷◌, ◌++◌, length, refl, ap, sym, ◌∙◌, subst, append_assoc, arith, length-append}
 use Rattle.std.specs.Prelude.{nat_lt, ◌==◌, ◌||◌, ◌↔◌, not, if◌then◌else◌, slice_set, slice_index_or, IsTrue}
-use Rattle.std.specs.List.{All, flat_map}
+use Rattle.std.specs.List.{All}
 use Rattle.std.proofs.lemmas.List.{append-nil, set_at, get_or_at}
 use Rattle.std.proofs.lemmas.List.Concat.{flat_map-append}
 use Rattle.std.proofs.lemmas.List.Elements.{All-nil, All-cons, All-head, All-tail, All-push}
-use Rattle.std.proofs.lemmas.Bool.{true≢false, false≢true, or_parts, eqb-true, eqb-false, ltb-true, ltb-false, ne_eqb}
+use Rattle.std.proofs.lemmas.Bool.{true≢false, false≢true, or_parts, eqb-false, ltb-true, ltb-false, ne_eqb}
 use Rattle.ep_chunk.specs.Record.{Record, size_of, total_size}
 use Rattle.ep_model.specs.Budget.{Pending, needs_chunk, pending_with}
 use Rattle.ep_slot.specs.Chain.{records_of, last_size, pending_of, with_last, HasRecords}

@@ -1,11 +1,11 @@
 -- What holds of a slot after each call.
-use Rattle.std.proofs.Common.{◌≡◌, ℕ, ◌+◌, ◌<◌, ◌≤◌, List, [], ◌∷◌, ◌++◌, length, refl, ap, sym, ◌∙◌, subst, arith, rules, length-append}
+use Rattle.std.proofs.Common.{◌≡◌, ℕ, ◌+◌, ◌<◌, ◌≤◌, List, [], ◌∷◌, ◌++◌, length, refl, ap, sym, subst, arith, length-append}
 use Rattle.std.specs.List.{All}
 use Rattle.std.proofs.lemmas.List.Elements.{All-nil, All-push}
 use Rattle.ep_chunk.specs.Record.{Record}
 use Rattle.ep_model.specs.Budget.{Pending}
-use Rattle.ep_slot.specs.Chain.{records_of, pending_of, HasRecords}
-use Rattle.ep_slot.specs.Slot.{SlotState, AreRising, IsKept}
+use Rattle.ep_slot.specs.Chain.{records_of, HasRecords}
+use Rattle.ep_slot.specs.Slot.{SlotState, AreRising}
 use Rattle.ep_slot.specs.Held.{IsHeld}
 use Rattle.ep_slot.proofs.Chains.{few-chunks}
 

@@ -1,5 +1,5 @@
 -- What a slot keeps of itself and its chain. Callers see `IsKept` alone.
-use Rattle.std.specs.Prelude.{◌≡◌, ◌<◌, ◌≤◌, ℕ, List, length, All}
+use Rattle.std.specs.Prelude.{◌≡◌, ◌≤◌, ℕ, List, length, All}
 use Rattle.ep_defs.specs.declared.limits.TheConstants.{WRITES}
 use Rattle.ep_chunk.specs.Record.{Record}
 use Rattle.ep_slot.specs.Chain.{HasRecords}

@@ -1,3 +1,6 @@
+ghost use Rattle.std.specs.Prelude.{◌≡◌};
+ghost use Rattle.ep_slot.specs.Hand.{hand_of};
+
 use super::*;
 use ep_chunk::Chain;
 use ep_defs::{Bytes, Frames, Write};
@@ -24,6 +27,7 @@ fn show<P: Purse>(
     write: &Write,
 ) -> Shown
     requires { P.can_take pool.old }
+    ensures { hand_of slot.new ≡ hand_of slot.old }
 {
     assert!(rt; write.fits());
     assert!(rt; slot.counts().used < 2_000);

@@ -1,4 +1,4 @@
-use Rattle.std.proofs.Common.{◌≡◌, ◌<◌, ◌≤◌, ◌+◌, refl, ap, arith}
+use Rattle.std.proofs.Common.{◌<◌, refl, ap, arith}
 use Rattle.ep_slot.specs.contracts.slot.Slot.{the_view}
 use Rattle.ep_slot.specs.Slot.{SlotState}
 use Rattle.ep_slot.specs.Chain.{pending_of}

@@ -1,4 +1,4 @@
-use Rattle.std.proofs.Common.{◌≡◌, ◌∙◌, ◌≤◌, ◌+◌, refl, arith}
+use Rattle.std.proofs.Common.{refl, arith}
 use Rattle.ep_slot.specs.contracts.slot.Slot.{the_view}
 use Rattle.ep_slot.specs.Chain.{pending_of}
 use Rattle.ep_slot.proofs.Slots.{held-steal, few-held}
