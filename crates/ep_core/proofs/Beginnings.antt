@@ -10,8 +10,8 @@ use Rattle.ep_defs.specs.Entry.{Entry}
 use Rattle.ep_model.specs.declared.step.Step.{Step}
 use Rattle.ep_model.specs.declared.step.Step.TheVariants as step
 use Rattle.ep_model.specs.History.{Past, accepted, is_present, opened}
-use Rattle.ep_model.specs.Lawful.{IsLawful, is_next_session, is_hand_full}
-use Rattle.ep_model.specs.Entries.{entries}
+use Rattle.ep_model.specs.today.Lawful.{IsLawful, is_next_session, is_hand_full}
+use Rattle.ep_model.specs.today.Entries.{entries}
 use Rattle.ep_core.specs.declared.buffer.Buffer.{Buffer}
 use Rattle.ep_core.specs.declared.live.Live.{Live}
 use Rattle.ep_core.specs.declared.machine.Machine.{Machine}
@@ -35,6 +35,8 @@ absent_other past session s here none =
 not_of : (past : Past) (session : ℕ) (s : Step) → NeedsPresent past s → list_any (λ n. n == session) (accepted (s ∷ past)) ≡ false → is_of session s ≡ false
 not_of past session (step.Accept s config) need none = (or_parts (s == session) _ none).0
 not_of past session (step.Open s t) need none = absent_other past session s need none
+not_of past session (step.Enter t) need none = refl
+not_of past session (step.Leave t) need none = refl
 not_of past session (step.Begin t stamp write) need none = refl
 not_of past session (step.Show t s) need none = absent_other past session s need none
 not_of past session (step.End t) need none = refl
@@ -47,6 +49,8 @@ not_of past session (step.Finish s stamp) need none = absent_other past session 
 none_before : (past : Past) (session : ℕ) (s : Step) → list_any (λ n. n == session) (accepted (s ∷ past)) ≡ false → list_any (λ n. n == session) (accepted past) ≡ false
 none_before past session (step.Accept s config) none = (or_parts (s == session) _ none).1
 none_before past session (step.Open s t) none = none
+none_before past session (step.Enter t) none = none
+none_before past session (step.Leave t) none = none
 none_before past session (step.Begin t stamp write) none = none
 none_before past session (step.Show t s) none = none
 none_before past session (step.End t) none = none

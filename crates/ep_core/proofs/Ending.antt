@@ -5,8 +5,8 @@ use Rattle.ep_defs.specs.declared.session.TraceInfo.{TraceInfo}
 use Rattle.nt_write.specs.Ordered.{kinds_of}
 use Rattle.nt_write.specs.Canonical.{IsCanonical}
 use Rattle.ep_model.specs.History.{Past}
-use Rattle.ep_model.specs.Entries.{entries}
-use Rattle.ep_model.specs.Faithful.{AreFaithful, shares_of, no_refusals, totals}
+use Rattle.ep_model.specs.today.Entries.{entries}
+use Rattle.ep_model.specs.today.Faithful.{AreFaithful, shares_of, no_refusals, totals}
 use Rattle.ep_core.specs.declared.ended.Ended.{Ended}
 use Rattle.ep_core.specs.Machine.{EndedAt, EndedFollows}
 use Rattle.ep_core.specs.Streams.{IsStreamOf}

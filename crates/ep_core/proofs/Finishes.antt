@@ -10,7 +10,7 @@ use Rattle.ep_defs.specs.declared.event.EventDef.{EventDef}
 use Rattle.ep_defs.specs.declared.session.TraceInfo.{TraceInfo}
 use Rattle.ep_model.specs.declared.step.Step.TheVariants as step
 use Rattle.ep_model.specs.History.{Past, accepted, is_present}
-use Rattle.ep_model.specs.Lawful.{IsLawful}
+use Rattle.ep_model.specs.today.Lawful.{IsLawful}
 use Rattle.ep_core.specs.declared.live.Live.{Live}
 use Rattle.ep_core.specs.declared.ended.Ended.{Ended}
 use Rattle.ep_core.specs.declared.machine.Machine.{Machine}

@@ -8,7 +8,7 @@ use Rattle.std.proofs.lemmas.List.Quantifiers.{position-Some}
 use Rattle.ep_defs.specs.declared.event.EventDef.{EventDef}
 use Rattle.ep_defs.specs.declared.session.TraceInfo.{TraceInfo}
 use Rattle.ep_model.specs.History.{Past, is_present}
-use Rattle.ep_model.specs.Lawful.{is_thread}
+use Rattle.ep_model.specs.today.Lawful.{is_thread}
 use Rattle.ep_core.specs.declared.live.Live.{Live}
 use Rattle.ep_core.specs.declared.thread.Thread.{Thread}
 use Rattle.ep_core.specs.declared.machine.Machine.{Machine}

@@ -11,7 +11,7 @@ use Rattle.ep_model.specs.declared.step.Step.TheVariants as step
 use Rattle.ep_model.specs.declared.step.Kind.{Kind}
 use Rattle.ep_model.specs.declared.step.Kind.TheVariants.{NoSession, NoThread, NotInWrite, NotOpen, InWrite, HandFull, ShowsDue, StillOpen}
 use Rattle.ep_model.specs.History.{Past, config_of, admits_write, is_present, present, opened, is_open, in_write, is_due}
-use Rattle.ep_model.specs.Lawful.{IsLawful, kind_of, is_thread, was_opened, has_due, is_open_somewhere, is_hand_full}
+use Rattle.ep_model.specs.today.Lawful.{IsLawful, kind_of, is_thread, was_opened, has_due, is_open_somewhere, is_hand_full}
 use Rattle.ep_core.specs.declared.buffer.Buffer.{Buffer}
 use Rattle.ep_core.specs.declared.live.Live.{Live}
 use Rattle.ep_core.specs.declared.machine.Machine.{Machine}
@@ -96,6 +96,8 @@ open_present events session thread (step.Begin t stamp write ∷ past) lawful is
 open_present events session thread (step.Show t s ∷ past) lawful is = open_present events session thread past lawful.0 is
 open_present events session thread (step.End t ∷ past) lawful is = open_present events session thread past lawful.0 is
 open_present events session thread (step.Steal s t ∷ past) lawful is = open_present events session thread past lawful.0 is
+open_present events session thread (step.Enter t ∷ past) lawful is = open_present events session thread past lawful.0 is
+open_present events session thread (step.Leave t ∷ past) lawful is = open_present events session thread past lawful.0 is
 open_present events session thread (step.Give s ∷ past) lawful is = open_present events session thread past lawful.0 is
 open_present events session thread (step.Point s stamp ∷ past) lawful is = open_present events session thread past lawful.0 is
 open_present events session thread (step.Close s t ∷ past) lawful is =
@@ -131,6 +133,8 @@ due_open events session thread (step.End t ∷ past) lawful is =
       | false ↦ λ _. before
     ] refl
 due_open events session thread (step.Steal s t ∷ past) lawful is = due_open events session thread past lawful.0 is
+due_open events session thread (step.Enter t ∷ past) lawful is = due_open events session thread past lawful.0 is
+due_open events session thread (step.Leave t ∷ past) lawful is = due_open events session thread past lawful.0 is
 due_open events session thread (step.Give s ∷ past) lawful is = due_open events session thread past lawful.0 is
 due_open events session thread (step.Point s stamp ∷ past) lawful is = due_open events session thread past lawful.0 is
 due_open events session thread (step.Close s t ∷ past) lawful is =

@@ -8,7 +8,7 @@ use Rattle.ep_defs.specs.declared.session.TraceInfo.{TraceInfo}
 use Rattle.ep_model.specs.declared.step.Step.{Step}
 use Rattle.ep_model.specs.declared.step.Step.TheVariants as step
 use Rattle.ep_model.specs.History.{Past, present, is_present, writes_of}
-use Rattle.ep_model.specs.Lawful.{IsLawful, kind_of, is_thread}
+use Rattle.ep_model.specs.today.Lawful.{IsLawful, kind_of, is_thread}
 use Rattle.ep_core.specs.declared.live.Live.{Live}
 use Rattle.ep_core.specs.declared.thread.Thread.{Thread}
 use Rattle.ep_core.specs.declared.machine.Machine.{Machine}
@@ -28,6 +28,8 @@ IsTurn session (step.Begin t stamp write) = ⊥
 IsTurn session (step.Show t s) = ⊥
 IsTurn session (step.End t) = ⊥
 IsTurn session (step.Steal s t) = s ≡ session
+IsTurn session (step.Enter t) = ⊥
+IsTurn session (step.Leave t) = ⊥
 IsTurn session (step.Give s) = s ≡ session
 IsTurn session (step.Point s stamp) = s ≡ session
 IsTurn session (step.Close s t) = s ≡ session
@@ -69,6 +71,8 @@ stands_turn events info past m (step.Open s t) session place old new present ite
       live = subst All (sym items) (lives_after events info past (step.Open s t) session m.present.items place old new distinct at same (λ other off. other_turn session other s turn off) (makes lawful) h.live);
       ended = λ number. ended_at_on events info number past (step.Open s t) _ lawful.1 refl (h.ended number);
     }
+stands_turn events info past m (step.Enter t) session place old new present items turn lawful at same kept makes h = absurd turn
+stands_turn events info past m (step.Leave t) session place old new present items turn lawful at same kept makes h = absurd turn
 stands_turn events info past m (step.Begin t stamp write) session place old new present items turn lawful at same kept makes h = absurd turn
 stands_turn events info past m (step.Show t s) session place old new present items turn lawful at same kept makes h = absurd turn
 stands_turn events info past m (step.End t) session place old new present items turn lawful at same kept makes h = absurd turn
@@ -148,6 +152,8 @@ stands_turn_at events info past m turn_of session place old new is reads turn la
 pub turn_present : (events : List EventDef) (past : Past) (session : ℕ) (s : Step) → IsTurn session s → kind_of events past s ≡ None → is_present session past ≡ true
 turn_present events past session (step.Accept s config) turn is = absurd turn
 turn_present events past session (step.Open s t) turn is = let P : ℕ → Type 0 = λ n. is_present n past ≡ true in subst P turn (needs_present events past (step.Open s t) is)
+turn_present events past session (step.Enter t) turn is = absurd turn
+turn_present events past session (step.Leave t) turn is = absurd turn
 turn_present events past session (step.Begin t stamp write) turn is = absurd turn
 turn_present events past session (step.Show t s) turn is = absurd turn
 turn_present events past session (step.End t) turn is = absurd turn

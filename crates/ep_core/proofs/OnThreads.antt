@@ -9,10 +9,10 @@ use Rattle.ep_defs.specs.declared.session.Marks.{Marks}
 use Rattle.nt_write.specs.Canonical.{IsCanonical}
 use Rattle.ep_model.specs.declared.step.Step.TheVariants as step
 use Rattle.ep_model.specs.History.{Past, insert_ascending, is_open, opened_at, closed_at, to_of, writes_of, shows}
-use Rattle.ep_model.specs.Lawful.{IsLawful}
-use Rattle.ep_model.specs.Entries.{entries}
-use Rattle.ep_model.specs.Faithful.{no_refusals}
-use Rattle.ep_model.specs.Marks.{marks_on}
+use Rattle.ep_model.specs.today.Lawful.{IsLawful}
+use Rattle.ep_model.specs.today.Entries.{entries}
+use Rattle.ep_model.specs.today.Faithful.{no_refusals}
+use Rattle.ep_model.specs.today.Marks.{marks_on}
 use Rattle.ep_core.specs.declared.buffer.Buffer.{Buffer}
 use Rattle.ep_core.specs.declared.buffer.Shown.{Shown}
 use Rattle.ep_core.specs.declared.live.Live.{Live}

@@ -9,8 +9,8 @@ use Rattle.ep_model.specs.declared.step.Step.TheVariants as step
 use Rattle.ep_model.specs.declared.step.Kind.{Kind}
 use Rattle.ep_model.specs.declared.step.Kind.TheVariants.{SessionNumber, BadConfig, Full, NoSession, NoThread, AlreadyOpen, InWrite, NotInWrite, NoEvent, TooLarge, TooMany, NotDue, NotOpen, HandFull, StillOpen}
 use Rattle.ep_model.specs.History.{Past, config_of, accepted, is_present, present, insert_ascending, opened, is_open, closed_at, in_write, is_due, shows, event_at, admits_write}
-use Rattle.ep_model.specs.Lawful.{Objection, against, first_kind, kind_of, IsLawful, begins, is_thread, is_next_session, was_opened, is_open_somewhere, pending_count, is_hand_full}
-use Rattle.ep_model.specs.Entries.{pending, told_number}
+use Rattle.ep_model.specs.today.Lawful.{Objection, against, first_kind, kind_of, IsLawful, begins, is_thread, is_next_session, was_opened, is_open_somewhere, pending_count, is_hand_full}
+use Rattle.ep_model.specs.today.Entries.{pending, told_number}
 use Rattle.ep_defs.specs.declared.session.Write.{Write}
 use Rattle.ep_defs.specs.Session.{fits, is_valid_config}
 use Rattle.ep_core.proofs.Lists.{any-filter}
@@ -49,6 +49,8 @@ present_accepted session (step.Begin t stamp write ∷ past) is = present_accept
 present_accepted session (step.Show t s ∷ past) is = present_accepted session past is
 present_accepted session (step.End t ∷ past) is = present_accepted session past is
 present_accepted session (step.Steal s t ∷ past) is = present_accepted session past is
+present_accepted session (step.Enter t ∷ past) is = present_accepted session past is
+present_accepted session (step.Leave t ∷ past) is = present_accepted session past is
 present_accepted session (step.Give s ∷ past) is = present_accepted session past is
 present_accepted session (step.Point s stamp ∷ past) is = present_accepted session past is
 present_accepted session (step.Close s t ∷ past) is = present_accepted session past is
@@ -77,6 +79,8 @@ in_write_thread events thread (step.Begin t stamp write ∷ past) lawful is =
 in_write_thread events thread (step.Show t s ∷ past) lawful is = in_write_thread events thread past lawful.0 is
 in_write_thread events thread (step.End t ∷ past) lawful is = in_write_thread events thread past lawful.0 (and_parts (not (t == thread)) _ is).1
 in_write_thread events thread (step.Steal s t ∷ past) lawful is = in_write_thread events thread past lawful.0 is
+in_write_thread events thread (step.Enter t ∷ past) lawful is = in_write_thread events thread past lawful.0 is
+in_write_thread events thread (step.Leave t ∷ past) lawful is = in_write_thread events thread past lawful.0 is
 in_write_thread events thread (step.Give s ∷ past) lawful is = in_write_thread events thread past lawful.0 is
 in_write_thread events thread (step.Point s stamp ∷ past) lawful is = in_write_thread events thread past lawful.0 is
 in_write_thread events thread (step.Close s t ∷ past) lawful is = in_write_thread events thread past lawful.0 is
@@ -116,6 +120,8 @@ open_opened session thread (step.Begin t stamp write ∷ past) is = open_opened 
 open_opened session thread (step.Show t s ∷ past) is = open_opened session thread past is
 open_opened session thread (step.End t ∷ past) is = open_opened session thread past is
 open_opened session thread (step.Steal s t ∷ past) is = open_opened session thread past is
+open_opened session thread (step.Enter t ∷ past) is = open_opened session thread past is
+open_opened session thread (step.Leave t ∷ past) is = open_opened session thread past is
 open_opened session thread (step.Give s ∷ past) is = open_opened session thread past is
 open_opened session thread (step.Point s stamp ∷ past) is = open_opened session thread past is
 open_opened session thread (step.Close s t ∷ past) is = open_opened session thread past (and_parts (not ((s == session) && (t == thread))) _ is).1
@@ -131,6 +137,8 @@ NeedsPresent past (step.Begin t stamp write) = Unit {0}
 NeedsPresent past (step.Show t s) = is_present s past ≡ true
 NeedsPresent past (step.End t) = Unit {0}
 NeedsPresent past (step.Steal s t) = is_present s past ≡ true
+NeedsPresent past (step.Enter t) = Unit {0}
+NeedsPresent past (step.Leave t) = Unit {0}
 NeedsPresent past (step.Give s) = is_present s past ≡ true
 NeedsPresent past (step.Point s stamp) = is_present s past ≡ true
 NeedsPresent past (step.Close s t) = is_present s past ≡ true
@@ -149,6 +157,8 @@ needs_present events past (step.Begin t stamp write) is = tt
 needs_present events past (step.Show t s) is = needs (is_present s past) NoSession (against (not (in_write t past)) NotInWrite ∷ against (not (is_due events s t past)) NotDue ∷ []) (none_later (not (is_thread t)) NoThread (against (not (is_present s past)) NoSession ∷ against (not (in_write t past)) NotInWrite ∷ against (not (is_due events s t past)) NotDue ∷ []) is)
 needs_present events past (step.End t) is = tt
 needs_present events past (step.Steal s t) is = needs (is_present s past) NoSession (taking s t past) is
+needs_present events past (step.Enter t) is = tt
+needs_present events past (step.Leave t) is = tt
 needs_present events past (step.Give s) is = needs (is_present s past) NoSession [] is
 needs_present events past (step.Point s stamp) is = needs (is_present s past) NoSession [] is
 needs_present events past (step.Close s t) is = needs (is_present s past) NoSession (taking s t past) is
@@ -212,6 +222,8 @@ accepted_distinct events (step.Begin t stamp write ∷ past) lawful = accepted_d
 accepted_distinct events (step.Show t s ∷ past) lawful = accepted_distinct events past lawful.0
 accepted_distinct events (step.End t ∷ past) lawful = accepted_distinct events past lawful.0
 accepted_distinct events (step.Steal s t ∷ past) lawful = accepted_distinct events past lawful.0
+accepted_distinct events (step.Enter t ∷ past) lawful = accepted_distinct events past lawful.0
+accepted_distinct events (step.Leave t ∷ past) lawful = accepted_distinct events past lawful.0
 accepted_distinct events (step.Give s ∷ past) lawful = accepted_distinct events past lawful.0
 accepted_distinct events (step.Point s stamp ∷ past) lawful = accepted_distinct events past lawful.0
 accepted_distinct events (step.Close s t ∷ past) lawful = accepted_distinct events past lawful.0
@@ -232,6 +244,8 @@ opened_distinct events session (step.Begin t stamp write ∷ past) lawful = open
 opened_distinct events session (step.Show t s ∷ past) lawful = opened_distinct events session past lawful.0
 opened_distinct events session (step.End t ∷ past) lawful = opened_distinct events session past lawful.0
 opened_distinct events session (step.Steal s t ∷ past) lawful = opened_distinct events session past lawful.0
+opened_distinct events session (step.Enter t ∷ past) lawful = opened_distinct events session past lawful.0
+opened_distinct events session (step.Leave t ∷ past) lawful = opened_distinct events session past lawful.0
 opened_distinct events session (step.Give s ∷ past) lawful = opened_distinct events session past lawful.0
 opened_distinct events session (step.Point s stamp ∷ past) lawful = opened_distinct events session past lawful.0
 opened_distinct events session (step.Close s t ∷ past) lawful = opened_distinct events session past lawful.0
@@ -255,6 +269,8 @@ begins_few events (step.Begin t stamp write ∷ past) lawful = let below : begin
 begins_few events (step.Show t s ∷ past) lawful = begins_few events past lawful.0
 begins_few events (step.End t ∷ past) lawful = begins_few events past lawful.0
 begins_few events (step.Steal s t ∷ past) lawful = begins_few events past lawful.0
+begins_few events (step.Enter t ∷ past) lawful = begins_few events past lawful.0
+begins_few events (step.Leave t ∷ past) lawful = begins_few events past lawful.0
 begins_few events (step.Give s ∷ past) lawful = begins_few events past lawful.0
 begins_few events (step.Point s stamp ∷ past) lawful = begins_few events past lawful.0
 begins_few events (step.Close s t ∷ past) lawful = begins_few events past lawful.0
@@ -291,6 +307,8 @@ shows_few events session thread (step.Show t s ∷ past) lawful =
     ] refl
 shows_few events session thread (step.End t ∷ past) lawful = shows_few events session thread past lawful.0
 shows_few events session thread (step.Steal s t ∷ past) lawful = shows_few events session thread past lawful.0
+shows_few events session thread (step.Enter t ∷ past) lawful = shows_few events session thread past lawful.0
+shows_few events session thread (step.Leave t ∷ past) lawful = shows_few events session thread past lawful.0
 shows_few events session thread (step.Give s ∷ past) lawful = shows_few events session thread past lawful.0
 shows_few events session thread (step.Point s stamp ∷ past) lawful = shows_few events session thread past lawful.0
 shows_few events session thread (step.Close s t ∷ past) lawful = shows_few events session thread past lawful.0
@@ -314,6 +332,8 @@ due_opened events session thread (step.Begin t stamp write ∷ past) is =
 due_opened events session thread (step.Show t s ∷ past) is = due_opened events session thread past (and_parts (not ((s == session) && (t == thread))) _ is).1
 due_opened events session thread (step.End t ∷ past) is = due_opened events session thread past is
 due_opened events session thread (step.Steal s t ∷ past) is = due_opened events session thread past is
+due_opened events session thread (step.Enter t ∷ past) is = due_opened events session thread past is
+due_opened events session thread (step.Leave t ∷ past) is = due_opened events session thread past is
 due_opened events session thread (step.Give s ∷ past) is = due_opened events session thread past is
 due_opened events session thread (step.Point s stamp ∷ past) is = due_opened events session thread past is
 due_opened events session thread (step.Close s t ∷ past) is = due_opened events session thread past is
@@ -359,6 +379,8 @@ untouched events session thread (step.Steal s t ∷ past) lawful none =
     let h = untouched events session thread past lawful.0 none in
     let off : ((s == session) && (t == thread)) ≡ false = off_pair (s == session) (t == thread) (was_opened session thread past) (λ same_s same_t. at_pair (λ n m. was_opened n m past ≡ true) s t session thread (open_opened s t past (steal_open events past s t lawful.1)) same_s same_t) none in
     record { closed = h.closed; shown = h.shown; told = rw off h.told; kept = rw off h.kept; count = rw off h.count }
+untouched events session thread (step.Enter t ∷ past) lawful none = let h = untouched events session thread past lawful.0 none in record { closed = h.closed; shown = h.shown; told = h.told; kept = h.kept; count = h.count }
+untouched events session thread (step.Leave t ∷ past) lawful none = let h = untouched events session thread past lawful.0 none in record { closed = h.closed; shown = h.shown; told = h.told; kept = h.kept; count = h.count }
 untouched events session thread (step.Give s ∷ past) lawful none = let h = untouched events session thread past lawful.0 none in record { closed = h.closed; shown = h.shown; told = h.told; kept = h.kept; count = h.count }
 untouched events session thread (step.Point s stamp ∷ past) lawful none = let h = untouched events session thread past lawful.0 none in record { closed = h.closed; shown = h.shown; told = h.told; kept = h.kept; count = h.count }
 untouched events session thread (step.Close s t ∷ past) lawful none =

@@ -9,9 +9,9 @@ use Rattle.ep_defs.specs.declared.session.Marks.{Marks}
 use Rattle.ep_model.specs.declared.step.Step.{Step}
 use Rattle.ep_model.specs.declared.step.Step.TheVariants as step
 use Rattle.ep_model.specs.History.{Past, accepted, is_present, is_finished, opened, opened_at, closed_at, to_of, shows}
-use Rattle.ep_model.specs.Lawful.{kind_of}
-use Rattle.ep_model.specs.Faithful.{no_refusals}
-use Rattle.ep_model.specs.Marks.{marks_on}
+use Rattle.ep_model.specs.today.Lawful.{kind_of}
+use Rattle.ep_model.specs.today.Faithful.{no_refusals}
+use Rattle.ep_model.specs.today.Marks.{marks_on}
 use Rattle.ep_core.specs.declared.ended.Ended.{Ended}
 use Rattle.ep_core.specs.Machine.{EndedFollows, EndedAt}
 use Rattle.ep_core.proofs.Lists.{All-each}
@@ -26,6 +26,8 @@ of_absent events past session (step.Begin t stamp write) need absent once = refl
 of_absent events past session (step.Show t s) need absent once = false_from_ne_true (s == session) (λ same. let P : ℕ → Type 0 = λ n. is_present n past ≡ true in let no = subst P (eqb-true s session same) need in cc)
 of_absent events past session (step.End t) need absent once = refl
 of_absent events past session (step.Steal s t) need absent once = false_from_ne_true (s == session) (λ same. let P : ℕ → Type 0 = λ n. is_present n past ≡ true in let no = subst P (eqb-true s session same) need in cc)
+of_absent events past session (step.Enter t) need absent once = refl
+of_absent events past session (step.Leave t) need absent once = refl
 of_absent events past session (step.Give s) need absent once = false_from_ne_true (s == session) (λ same. let P : ℕ → Type 0 = λ n. is_present n past ≡ true in let no = subst P (eqb-true s session same) need in cc)
 of_absent events past session (step.Point s stamp) need absent once = false_from_ne_true (s == session) (λ same. let P : ℕ → Type 0 = λ n. is_present n past ≡ true in let no = subst P (eqb-true s session same) need in cc)
 of_absent events past session (step.Close s t) need absent once = false_from_ne_true (s == session) (λ same. let P : ℕ → Type 0 = λ n. is_present n past ≡ true in let no = subst P (eqb-true s session same) need in cc)
@@ -38,6 +40,8 @@ finished_stays session (step.Begin t stamp write) past off = refl
 finished_stays session (step.Show t s) past off = refl
 finished_stays session (step.End t) past off = refl
 finished_stays session (step.Steal s t) past off = refl
+finished_stays session (step.Enter t) past off = refl
+finished_stays session (step.Leave t) past off = refl
 finished_stays session (step.Give s) past off = refl
 finished_stays session (step.Point s stamp) past off = refl
 finished_stays session (step.Close s t) past off = refl
@@ -50,6 +54,8 @@ present_stays session (step.Begin t stamp write) past off = refl
 present_stays session (step.Show t s) past off = refl
 present_stays session (step.End t) past off = refl
 present_stays session (step.Steal s t) past off = refl
+present_stays session (step.Enter t) past off = refl
+present_stays session (step.Leave t) past off = refl
 present_stays session (step.Give s) past off = refl
 present_stays session (step.Point s stamp) past off = refl
 present_stays session (step.Close s t) past off = refl
@@ -62,6 +68,8 @@ accepted_stays session (step.Begin t stamp write) past off = refl
 accepted_stays session (step.Show t s) past off = refl
 accepted_stays session (step.End t) past off = refl
 accepted_stays session (step.Steal s t) past off = refl
+accepted_stays session (step.Enter t) past off = refl
+accepted_stays session (step.Leave t) past off = refl
 accepted_stays session (step.Give s) past off = refl
 accepted_stays session (step.Point s stamp) past off = refl
 accepted_stays session (step.Close s t) past off = refl
@@ -74,6 +82,8 @@ opened_at_stays session thread (step.Begin t stamp write) past off = refl
 opened_at_stays session thread (step.Show t s) past off = refl
 opened_at_stays session thread (step.End t) past off = refl
 opened_at_stays session thread (step.Steal s t) past off = refl
+opened_at_stays session thread (step.Enter t) past off = refl
+opened_at_stays session thread (step.Leave t) past off = refl
 opened_at_stays session thread (step.Give s) past off = refl
 opened_at_stays session thread (step.Point s stamp) past off = refl
 opened_at_stays session thread (step.Close s t) past off = refl
@@ -86,6 +96,8 @@ closed_at_stays session thread (step.Begin t stamp write) past off = refl
 closed_at_stays session thread (step.Show t s) past off = refl
 closed_at_stays session thread (step.End t) past off = refl
 closed_at_stays session thread (step.Steal s t) past off = refl
+closed_at_stays session thread (step.Enter t) past off = refl
+closed_at_stays session thread (step.Leave t) past off = refl
 closed_at_stays session thread (step.Give s) past off = refl
 closed_at_stays session thread (step.Point s stamp) past off = refl
 closed_at_stays session thread (step.Close s t) past off = rw off refl
@@ -101,6 +113,8 @@ shows_stay session thread (step.Begin t stamp write) past off = refl
 shows_stay session thread (step.Show t s) past off = rw off (zero_more (shows session thread past))
 shows_stay session thread (step.End t) past off = refl
 shows_stay session thread (step.Steal s t) past off = refl
+shows_stay session thread (step.Enter t) past off = refl
+shows_stay session thread (step.Leave t) past off = refl
 shows_stay session thread (step.Give s) past off = refl
 shows_stay session thread (step.Point s stamp) past off = refl
 shows_stay session thread (step.Close s t) past off = refl
@@ -151,6 +165,8 @@ going_on_stays session (step.Begin t stamp write) past on = refl
 going_on_stays session (step.Show t s) past on = refl
 going_on_stays session (step.End t) past on = refl
 going_on_stays session (step.Steal s t) past on = refl
+going_on_stays session (step.Enter t) past on = refl
+going_on_stays session (step.Leave t) past on = refl
 going_on_stays session (step.Give s) past on = refl
 going_on_stays session (step.Point s stamp) past on = refl
 going_on_stays session (step.Close s t) past on = refl

@@ -7,7 +7,7 @@ use Rattle.ep_defs.specs.declared.session.TraceInfo.{TraceInfo}
 use Rattle.ep_model.specs.declared.step.Step.{Step}
 use Rattle.ep_model.specs.declared.step.Unlawful.{Unlawful}
 use Rattle.ep_model.specs.History.{Past}
-use Rattle.ep_model.specs.Lawful.{first_unlawful, unlawful, kind_of}
+use Rattle.ep_model.specs.today.Lawful.{first_unlawful, unlawful, kind_of}
 use Rattle.ep_core.specs.declared.machine.Machine.{Machine}
 use Rattle.ep_core.specs.Machine.{Follows, steps_of}
 

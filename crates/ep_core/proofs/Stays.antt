@@ -7,8 +7,8 @@ use Rattle.ep_defs.specs.declared.session.TraceInfo.{TraceInfo}
 use Rattle.ep_model.specs.declared.step.Step.{Step}
 use Rattle.ep_model.specs.declared.step.Step.TheVariants as step
 use Rattle.ep_model.specs.History.{Past, config_of, opened, shows}
-use Rattle.ep_model.specs.Lawful.{is_hand_full}
-use Rattle.ep_model.specs.Entries.{entries}
+use Rattle.ep_model.specs.today.Lawful.{is_hand_full}
+use Rattle.ep_model.specs.today.Entries.{entries}
 use Rattle.ep_core.specs.declared.buffer.Buffer.{Buffer}
 use Rattle.ep_core.specs.declared.live.Live.{Live}
 use Rattle.ep_core.specs.declared.thread.Thread.{Thread}
@@ -31,6 +31,8 @@ is_of session (step.Begin t stamp write) = false
 is_of session (step.Show t s) = s == session
 is_of session (step.End t) = false
 is_of session (step.Steal s t) = s == session
+is_of session (step.Enter t) = false
+is_of session (step.Leave t) = false
 is_of session (step.Give s) = s == session
 is_of session (step.Point s stamp) = s == session
 is_of session (step.Close s t) = s == session
@@ -54,6 +56,8 @@ buffer_stays events past session (step.Begin t stamp write) buffer off h = recor
 buffer_stays events past session (step.Show t s) buffer off h = record { open_is = h.open_is; from_is = h.from_is; closed_is = h.closed_is; shows_are = rw off (zero_more (shows session buffer.thread past) ∙ h.shows_are); told_is = h.told_is; pending_are = rw off h.pending_are; count_is = rw off h.count_is }
 buffer_stays events past session (step.End t) buffer off h = record { open_is = h.open_is; from_is = h.from_is; closed_is = h.closed_is; shows_are = h.shows_are; told_is = h.told_is; pending_are = h.pending_are; count_is = h.count_is }
 buffer_stays events past session (step.Steal s t) buffer off h = record { open_is = h.open_is; from_is = h.from_is; closed_is = h.closed_is; shows_are = h.shows_are; told_is = rw off h.told_is; pending_are = rw off h.pending_are; count_is = rw off h.count_is }
+buffer_stays events past session (step.Enter t) buffer off h = record { open_is = h.open_is; from_is = h.from_is; closed_is = h.closed_is; shows_are = h.shows_are; told_is = h.told_is; pending_are = h.pending_are; count_is = h.count_is }
+buffer_stays events past session (step.Leave t) buffer off h = record { open_is = h.open_is; from_is = h.from_is; closed_is = h.closed_is; shows_are = h.shows_are; told_is = h.told_is; pending_are = h.pending_are; count_is = h.count_is }
 buffer_stays events past session (step.Give s) buffer off h = record { open_is = h.open_is; from_is = h.from_is; closed_is = h.closed_is; shows_are = h.shows_are; told_is = h.told_is; pending_are = h.pending_are; count_is = h.count_is }
 buffer_stays events past session (step.Point s stamp) buffer off h = record { open_is = h.open_is; from_is = h.from_is; closed_is = h.closed_is; shows_are = h.shows_are; told_is = h.told_is; pending_are = h.pending_are; count_is = h.count_is }
 buffer_stays events past session (step.Close s t) buffer off h = record { open_is = rw off h.open_is; from_is = h.from_is; closed_is = rw off h.closed_is; shows_are = h.shows_are; told_is = rw off h.told_is; pending_are = rw off h.pending_are; count_is = h.count_is }
@@ -68,6 +72,8 @@ of_on session thread (step.Close s t) off = and_left _ _ off
 of_on session thread (step.Accept s config) off = refl
 of_on session thread (step.Begin t stamp write) off = refl
 of_on session thread (step.End t) off = refl
+of_on session thread (step.Enter t) off = refl
+of_on session thread (step.Leave t) off = refl
 of_on session thread (step.Give s) off = refl
 of_on session thread (step.Point s stamp) off = refl
 of_on session thread (step.Finish s stamp) off = refl
@@ -79,6 +85,8 @@ config_stays session (step.Begin t stamp write) past off = refl
 config_stays session (step.Show t s) past off = refl
 config_stays session (step.End t) past off = refl
 config_stays session (step.Steal s t) past off = refl
+config_stays session (step.Enter t) past off = refl
+config_stays session (step.Leave t) past off = refl
 config_stays session (step.Give s) past off = refl
 config_stays session (step.Point s stamp) past off = refl
 config_stays session (step.Close s t) past off = refl
@@ -91,6 +99,8 @@ hand_stays session (step.Begin t stamp write) past off = refl
 hand_stays session (step.Show t s) past off = refl
 hand_stays session (step.End t) past off = refl
 hand_stays session (step.Steal s t) past off = rw off refl
+hand_stays session (step.Enter t) past off = refl
+hand_stays session (step.Leave t) past off = refl
 hand_stays session (step.Give s) past off = rw off refl
 hand_stays session (step.Point s stamp) past off = refl
 hand_stays session (step.Close s t) past off = rw off refl
@@ -103,6 +113,8 @@ entries_stay events session (step.Begin t stamp write) past off = refl
 entries_stay events session (step.Show t s) past off = refl
 entries_stay events session (step.End t) past off = refl
 entries_stay events session (step.Steal s t) past off = rw off refl
+entries_stay events session (step.Enter t) past off = refl
+entries_stay events session (step.Leave t) past off = refl
 entries_stay events session (step.Give s) past off = refl
 entries_stay events session (step.Point s stamp) past off = rw off refl
 entries_stay events session (step.Close s t) past off = rw off refl
@@ -115,6 +127,8 @@ opened_stays session (step.Begin t stamp write) past off = refl
 opened_stays session (step.Show t s) past off = refl
 opened_stays session (step.End t) past off = refl
 opened_stays session (step.Steal s t) past off = refl
+opened_stays session (step.Enter t) past off = refl
+opened_stays session (step.Leave t) past off = refl
 opened_stays session (step.Give s) past off = refl
 opened_stays session (step.Point s stamp) past off = refl
 opened_stays session (step.Close s t) past off = refl
@@ -140,6 +154,8 @@ thread_stays events past number (step.Show t s) thread off h =
     record { writes_are = h.writes_are; in_write_is = h.in_write_is; begun_is = h.begun_is; due_are = λ session. rw (and_right (s == session) (t == number) off) (h.due_are session) }
 thread_stays events past number (step.End t) thread off h = record { writes_are = h.writes_are; in_write_is = rw off h.in_write_is; begun_is = h.begun_is; due_are = h.due_are }
 thread_stays events past number (step.Steal s t) thread off h = record { writes_are = h.writes_are; in_write_is = h.in_write_is; begun_is = h.begun_is; due_are = h.due_are }
+thread_stays events past number (step.Enter t) thread off h = record { writes_are = h.writes_are; in_write_is = h.in_write_is; begun_is = h.begun_is; due_are = h.due_are }
+thread_stays events past number (step.Leave t) thread off h = record { writes_are = h.writes_are; in_write_is = h.in_write_is; begun_is = h.begun_is; due_are = h.due_are }
 thread_stays events past number (step.Give s) thread off h = record { writes_are = h.writes_are; in_write_is = h.in_write_is; begun_is = h.begun_is; due_are = h.due_are }
 thread_stays events past number (step.Point s stamp) thread off h = record { writes_are = h.writes_are; in_write_is = h.in_write_is; begun_is = h.begun_is; due_are = h.due_are }
 thread_stays events past number (step.Close s t) thread off h = record { writes_are = h.writes_are; in_write_is = h.in_write_is; begun_is = h.begun_is; due_are = h.due_are }

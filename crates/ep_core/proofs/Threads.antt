@@ -17,7 +17,7 @@ use Rattle.ep_model.specs.declared.step.Step.TheVariants as step
 use Rattle.ep_model.specs.History.{Past, Begun, config_of, is_present, is_open, writes_of, in_write, event_at, admits_write}
 use Rattle.ep_model.specs.declared.step.Kind.{Kind}
 use Rattle.ep_model.specs.declared.step.Kind.TheVariants.{NoThread, InWrite, NotInWrite, NoEvent, TooLarge, TooMany, ShowsDue}
-use Rattle.ep_model.specs.Lawful.{Objection, against, first_kind, IsLawful, kind_of, is_thread, was_opened, has_due, begins}
+use Rattle.ep_model.specs.today.Lawful.{Objection, against, first_kind, IsLawful, kind_of, is_thread, was_opened, has_due, begins}
 use Rattle.ep_core.specs.declared.buffer.Buffer.{Buffer}
 use Rattle.ep_core.specs.declared.live.Live.{Live}
 use Rattle.ep_core.specs.declared.thread.Begun.{Begun as BegunWrite}
@@ -107,6 +107,8 @@ writes_few number (step.Begin t stamp write ∷ past) =
 writes_few number (step.Show t s ∷ past) = writes_few number past
 writes_few number (step.End t ∷ past) = writes_few number past
 writes_few number (step.Steal s t ∷ past) = writes_few number past
+writes_few number (step.Enter t ∷ past) = writes_few number past
+writes_few number (step.Leave t ∷ past) = writes_few number past
 writes_few number (step.Give s ∷ past) = writes_few number past
 writes_few number (step.Point s stamp ∷ past) = writes_few number past
 writes_few number (step.Close s t ∷ past) = writes_few number past

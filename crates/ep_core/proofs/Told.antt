@@ -7,7 +7,7 @@ use Rattle.ep_defs.specs.declared.session.Write.{Write}
 use Rattle.ep_defs.specs.Entry.{EventEntry, Event}
 use Rattle.nt_write.specs.Writing.{AreDistinct, definition_at}
 use Rattle.ep_model.specs.History.{Past, Begun, event_at}
-use Rattle.ep_model.specs.Entries.{event_entry, entry_if, told_number}
+use Rattle.ep_model.specs.today.Entries.{event_entry, entry_if, told_number}
 use Rattle.ep_core.specs.Bounds.{AreDifferent}
 use Rattle.ep_core.specs.declared.buffer.Shown.{Shown}
 use Rattle.ep_core.specs.declared.buffer.Buffer.{Buffer}

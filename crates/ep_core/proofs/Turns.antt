@@ -16,8 +16,8 @@ use Rattle.nt_write.specs.declared.writer.TraceWriter.{TraceWriter}
 use Rattle.nt_write.specs.Writer.{point_of}
 use Rattle.ep_model.specs.declared.step.Step.TheVariants as step
 use Rattle.ep_model.specs.History.{Past, last_begun, writes_of, is_due, shows}
-use Rattle.ep_model.specs.Lawful.{IsLawful, was_opened, pending_count, is_hand_full}
-use Rattle.ep_model.specs.Entries.{entries, entry_of, told_number, point_entry}
+use Rattle.ep_model.specs.today.Lawful.{IsLawful, was_opened, pending_count, is_hand_full}
+use Rattle.ep_model.specs.today.Entries.{entries, entry_of, told_number, point_entry}
 use Rattle.ep_core.specs.declared.buffer.Buffer.{Buffer}
 use Rattle.ep_core.specs.declared.buffer.Shown.{Shown}
 use Rattle.ep_core.specs.declared.thread.Begun.{Begun as BegunWrite}

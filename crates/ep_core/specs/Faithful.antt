@@ -8,7 +8,7 @@ use Rattle.ep_defs.specs.declared.item.ItemKind.TheVariants as item
 use Rattle.ep_defs.specs.Entry.{Entry}
 use Rattle.nt_write.specs.Ordered.{kinds_of, Tell}
 use Rattle.nt_write.specs.Canonical.{is_trace, is_plain}
-use Rattle.ep_model.specs.Faithful.{Share, totals, AreFaithful}
+use Rattle.ep_model.specs.today.Faithful.{Share, totals, AreFaithful}
 
 -- A stream's items tell the shares of the threads.
 pub record Faithful (shares : List Share) (items : List Item) : Type 0 where

@@ -4,7 +4,7 @@ use Rattle.ep_defs.specs.Session.{fits}
 use Rattle.ep_model.specs.declared.step.Step.{Step}
 use Rattle.ep_model.specs.declared.step.Step.TheVariants as step
 use Rattle.ep_model.specs.declared.step.Kind.{Kind}
-use Rattle.ep_model.specs.Lawful.{Objection, against}
+use Rattle.ep_model.specs.today.Lawful.{Objection, against}
 
 abbrev pub objection_of : Bool × Kind → Objection
 objection_of judged = against judged.0 judged.1

@@ -15,10 +15,10 @@ use Rattle.nt_write.specs.Writer.{IsWriting}
 use Rattle.nt_write.specs.Canonical.{IsCanonical}
 use Rattle.ep_model.specs.declared.step.Step.{Step}
 use Rattle.ep_model.specs.History.{Past, Begun, event_at, config_of, accepted, is_present, is_finished, present, opened, is_open, writes_of, opened_at, closed_at, in_write, last_begun, is_due, shows}
-use Rattle.ep_model.specs.Lawful.{begins, pending_count, is_hand_full, IsLawful}
-use Rattle.ep_model.specs.Entries.{entry_of, pending, told_number, entries}
-use Rattle.ep_model.specs.Faithful.{no_refusals}
-use Rattle.ep_model.specs.Marks.{marks_of}
+use Rattle.ep_model.specs.today.Lawful.{begins, pending_count, is_hand_full, IsLawful}
+use Rattle.ep_model.specs.today.Entries.{entry_of, pending, told_number, entries}
+use Rattle.ep_model.specs.today.Faithful.{no_refusals}
+use Rattle.ep_model.specs.today.Marks.{marks_of}
 use Rattle.ep_core.specs.declared.thread.Begun.{Begun as BegunWrite}
 use Rattle.ep_core.specs.declared.thread.Thread.{Thread}
 use Rattle.ep_core.specs.declared.buffer.Shown.{Shown}

@@ -4,8 +4,8 @@ use Rattle.ep_defs.specs.declared.event.EventDef.{EventDef}
 use Rattle.ep_defs.specs.declared.session.TraceInfo.{TraceInfo}
 use Rattle.nt_write.specs.Canonical.{IsCanonical}
 use Rattle.ep_model.specs.History.{Past}
-use Rattle.ep_model.specs.Entries.{entries}
-use Rattle.ep_model.specs.Faithful.{shares_of, no_refusals}
+use Rattle.ep_model.specs.today.Entries.{entries}
+use Rattle.ep_model.specs.today.Faithful.{shares_of, no_refusals}
 use Rattle.ep_core.specs.Faithful.{Faithful}
 
 -- The bytes are the one stream of the session's entries, and their items tell of each thread exactly the writes that

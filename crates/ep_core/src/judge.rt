@@ -5,7 +5,7 @@ ghost use Rattle.ep_defs.specs.declared.session.TraceInfo.{TraceInfo};
 ghost use Rattle.ep_defs.specs.Session.{fits};
 ghost use Rattle.ep_model.specs.declared.step.Step.TheVariants.{Accept, Open, Begin, Show, End, Steal, Give, Point, Close, Finish};
 ghost use Rattle.ep_model.specs.History.{Past};
-ghost use Rattle.ep_model.specs.Lawful.{kind_of, first_kind};
+ghost use Rattle.ep_model.specs.today.Lawful.{kind_of, first_kind};
 ghost use Rattle.ep_core.specs.Machine.{Stands};
 ghost use Rattle.ep_core.specs.Judge.{objection_of, IsFitting};
 
@@ -27,6 +27,8 @@ pub(crate) fn objection(machine: &Machine, step: &Step) -> Option<Kind>
     match step {
         Step::Accept { session, config } => to_accept(machine, *session, config),
         Step::Open { session, thread } => to_open(machine, *session, *thread),
+        // No thread comes or goes yet.
+        Step::Enter { .. } | Step::Leave { .. } => Some(Kind::NoThread),
         Step::Begin { thread, write, .. } => to_begin(machine, *thread, write),
         Step::Show { thread, session } => to_show(machine, *thread, *session),
         Step::End { thread } => to_end(machine, *thread),

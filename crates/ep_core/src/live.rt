@@ -6,7 +6,7 @@ ghost use Rattle.ep_defs.specs.declared.session.TraceInfo.{TraceInfo};
 ghost use Rattle.ep_defs.specs.Entry.{Entry, Event};
 ghost use Rattle.ep_model.specs.declared.step.Step.TheVariants.{Accept, Open, Begin, Show, End, Steal, Give, Point, Close, Finish};
 ghost use Rattle.ep_model.specs.History.{Past, last_begun, writes_of};
-ghost use Rattle.ep_model.specs.Lawful.{IsLawful};
+ghost use Rattle.ep_model.specs.today.Lawful.{IsLawful};
 ghost use Rattle.ep_core.specs.Machine.{IsTelling, begun_of, thread_of, told_of, mark_of, shown_entries, LiveFollows, LiveMakes, EndedFollows, is_open_on};
 
 use crate::buffer::{Buffer, Shown};

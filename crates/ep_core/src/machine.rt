@@ -16,9 +16,8 @@ use crate::judge::objection;
 use crate::live::Live;
 use crate::thread::{Begun, Thread};
 use ep_defs::{Config, EventDef, Marks, TraceInfo, Write, admits};
-use ep_model::{
-    Step, Unlawful, finished_sessions_are_faithful, other_sessions_steps_do_not_matter,
-};
+use ep_model::today::{finished_sessions_are_faithful, other_sessions_steps_do_not_matter};
+use ep_model::{Step, Unlawful};
 use std::alloc::{AllocError, Global};
 use std::collections::BTreeMap;
 
@@ -55,10 +54,10 @@ impl Machine {
     ghost use Rattle.ep_model.specs.declared.step.Step.{Step};
     ghost use Rattle.ep_model.specs.declared.step.Unlawful.{Unlawful};
     ghost use Rattle.ep_model.specs.History.{is_finished};
-    ghost use Rattle.ep_model.specs.Lawful.{kind_of, first_unlawful};
-    ghost use Rattle.ep_model.specs.Entries.{entries};
-    ghost use Rattle.ep_model.specs.Faithful.{no_refusals};
-    ghost use Rattle.ep_model.specs.Marks.{marks_of};
+    ghost use Rattle.ep_model.specs.today.Lawful.{kind_of, first_unlawful};
+    ghost use Rattle.ep_model.specs.today.Entries.{entries};
+    ghost use Rattle.ep_model.specs.today.Faithful.{no_refusals};
+    ghost use Rattle.ep_model.specs.today.Marks.{marks_of};
     ghost use Rattle.ep_model.specs.Only.{only};
     ghost use Rattle.ep_core.specs.declared.machine.StepFault.TheVariants.{Unlawful as Refused, OutOfMemory};
     ghost use Rattle.ep_core.specs.Machine.{Follows, steps_of, has_failed};
@@ -66,7 +65,7 @@ impl Machine {
     ghost use Rattle.ep_core.specs.declared.thread.Thread.{Thread};
     ghost use Rattle.ep_model.specs.declared.step.Step.TheVariants.{Accept, Open, Begin, End, Steal, Give, Point, Close, Finish};
     ghost use Rattle.ep_model.specs.History.{is_present, is_open, in_write, is_due, event_at};
-    ghost use Rattle.ep_model.specs.Lawful.{IsLawful, is_thread, was_opened, has_due, is_open_somewhere, is_hand_full};
+    ghost use Rattle.ep_model.specs.today.Lawful.{IsLawful, is_thread, was_opened, has_due, is_open_somewhere, is_hand_full};
     ghost use Rattle.ep_core.specs.Judge.{IsFitting};
     ghost use Rattle.ep_core.specs.Machine.{Stands, thread_at};
 
@@ -185,6 +184,8 @@ impl Machine {
     {
         match step {
             Step::Accept { session, config } => self.accept(alloc, session, config),
+            // No thread comes or goes yet: neither step can be made.
+            Step::Enter { .. } | Step::Leave { .. } => Ok(()),
             Step::Begin {
                 thread,
                 stamp,

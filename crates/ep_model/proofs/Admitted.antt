@@ -95,6 +95,12 @@ never-closed from to stands_open writes none (Never a b c) = b
 never-closed from to stands_open writes none (Standing first a b c d) = b
 never-closed from to stands_open writes none (Closed first last a b c d) = cc
 
+-- It is not open where it was never opened.
+pub never-open : (from to : Option ℕ) (stands_open : Bool) (writes : ℕ) → from ≡ None → Stands from to stands_open writes → stands_open ≡ false
+never-open from to stands_open writes none (Never a b c) = c
+never-open from to stands_open writes none (Standing first a b c d) = cc
+never-open from to stands_open writes none (Closed first last a b c d) = c
+
 pub open-not_closed : (from to : Option ℕ) (stands_open : Bool) (writes : ℕ) → stands_open ≡ true → Stands from to stands_open writes → to ≡ None
 open-not_closed from to stands_open writes inside (Never a b c) = b
 open-not_closed from to stands_open writes inside (Standing first a b c d) = b
@@ -127,12 +133,12 @@ open-admitted events config writes = rw (take-length writes, drop-length writes)
 -- ---- the contents of admitted writes
 
 -- The numbers go on where they ended.
-pub numbered-append : (events : List EventDef) (number : ℕ) (writes more : List Write) → numbered events number (writes ++ more) ≡ numbered events number writes ++ numbered events (number + length writes) more
-numbered-append events number [] more = ap (λ n. numbered events n more) (omega arith)
-numbered-append events number (write ∷ writes) more =
-    let later = numbered-append events (number + 1) writes more in
+pub numbered-append : (events : List EventDef) (stacks : Bool) (number : ℕ) (writes more : List Write) → numbered events stacks number (writes ++ more) ≡ numbered events stacks number writes ++ numbered events stacks (number + length writes) more
+numbered-append events stacks number [] more = ap (λ n. numbered events stacks n more) (omega arith)
+numbered-append events stacks number (write ∷ writes) more =
+    let later = numbered-append events stacks (number + 1) writes more in
     let next : number + 1 + length writes ≡ number + length (write ∷ writes) = omega arith in
-    rw (later, next) (sym (append_assoc (contents_if number write (event_at events write.event)) (numbered events (number + 1) writes) _))
+    rw (later, next) (sym (append_assoc (contents_if stacks number write (event_at events write.event)) (numbered events stacks (number + 1) writes) _))
 
 -- A write that is admitted has a definition.
 pub admits-defined : (config : Option Config) (o : Option EventDef) → option_map_or (λ c. option_map_or (λ def. session_admits c def) o false) config false ≡ true → (def : EventDef) × (o ≡ Some def)
@@ -141,19 +147,19 @@ admits-defined (Some config) None h = cc
 admits-defined (Some config) (Some def) h = (def, refl)
 
 -- So each admitted write has contents.
-numbered-long : (events : List EventDef) (config : Option Config) (number : ℕ) (writes : List Write) → length (numbered events number (filter (λ write. admits_write events config write) writes)) ≡ length (filter (λ write. admits_write events config write) writes)
-numbered-long events config number [] = refl
-numbered-long events config number (write ∷ writes) =
+numbered-long : (events : List EventDef) (stacks : Bool) (config : Option Config) (number : ℕ) (writes : List Write) → length (numbered events stacks number (filter (λ write. admits_write events config write) writes)) ≡ length (filter (λ write. admits_write events config write) writes)
+numbered-long events stacks config number [] = refl
+numbered-long events stacks config number (write ∷ writes) =
     elim (cases_Bool (admits_write events config write)) [
       | inl admits ↦
           let def = admits-defined config (event_at events write.event) admits in
-          rw (admits, def.1) (ap suc (numbered-long events config (number + 1) writes))
-      | inr refused ↦ rw refused (numbered-long events config number writes)
+          rw (admits, def.1) (ap suc (numbered-long events stacks config (number + 1) writes))
+      | inr refused ↦ rw refused (numbered-long events stacks config number writes)
     ]
 
-pub contents-long : (events : List EventDef) (config : Option Config) (from to : Option ℕ) (writes : List Write) → length (numbered events 1 (admitted_within events config from to writes)) ≡ length (admitted_within events config from to writes)
-contents-long events config None to writes = refl
-contents-long events config (Some first) to writes = numbered-long events config 1 (drop first (take (unwrap_or to (length writes)) writes))
+pub contents-long : (events : List EventDef) (stacks : Bool) (config : Option Config) (from to : Option ℕ) (writes : List Write) → length (numbered events stacks 1 (admitted_within events config from to writes)) ≡ length (admitted_within events config from to writes)
+contents-long events stacks config None to writes = refl
+contents-long events stacks config (Some first) to writes = numbered-long events stacks config 1 (drop first (take (unwrap_or to (length writes)) writes))
 
 -- No more writes are admitted than were begun.
 filter-shorter : {A : Type 0} (p : A → Bool) (xs : List A) → length (filter p xs) ≤ length xs

@@ -8,7 +8,7 @@ use Rattle.ep_model.specs.declared.step.Step.{Step}
 use Rattle.ep_model.specs.declared.step.Kind.{Kind}
 use Rattle.ep_model.specs.declared.step.Unlawful.{Unlawful}
 use Rattle.ep_model.specs.History.{Past}
-use Rattle.ep_model.specs.Lawful.{IsLawful, kind_of, unlawful, first_unlawful}
+use Rattle.ep_model.specs.Lawful.{IsLawful, objection_to, unlawful, first_unlawful}
 
 -- The first step is the oldest.
 reverse-first : (step : Step) (steps : List Step) (past : Past) → reverse (step ∷ steps) ++ past ≡ reverse steps ++ step ∷ past
@@ -28,7 +28,7 @@ unlawful-none number (Some kind) later h = cc
 pub lawful_from_none : (events : List EventDef) (number : ℕ) (past : Past) (steps : List Step) → IsLawful events past → first_unlawful events number past steps ≡ None → IsLawful events (reverse steps ++ past)
 lawful_from_none events number past [] lawful none = lawful
 lawful_from_none events number past (step ∷ steps) lawful none =
-    let parts = unlawful-none number (kind_of events past step) (first_unlawful events (number + 1) (step ∷ past) steps) none in
+    let parts = unlawful-none number (objection_to events past step) (first_unlawful events (number + 1) (step ∷ past) steps) none in
     rw (reverse-first step steps past) (lawful_from_none events (number + 1) (step ∷ past) steps (lawful, parts.0) parts.1)
 
 pub none_from_lawful : (events : List EventDef) (number : ℕ) (past : Past) (steps : List Step) → IsLawful events (reverse steps ++ past) → first_unlawful events number past steps ≡ None

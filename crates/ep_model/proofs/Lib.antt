@@ -1,7 +1,16 @@
 mod Admitted
+mod Counted
 mod Finished
 mod InOrder
+mod Numbers
 mod Others
 mod Sessions
 mod Tally
+mod TodayAdmitted
+mod TodayFinished
+mod TodayInOrder
+mod TodayOthers
+mod TodaySessions
+mod TodayTally
+mod TodayTold
 mod Told

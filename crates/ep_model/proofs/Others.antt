@@ -1,15 +1,19 @@
 -- What other sessions do, does not matter to a session.
-use Rattle.std.proofs.Common.{◌≡◌, ℕ, ◌+◌, Bool, true, false, cond, inl, inr, List, [], ◌∷◌, map, filter, None, eqb, leb, refl, ap, sym, ◌∙◌, arith}
+use Rattle.std.proofs.Common.{◌≡◌, ℕ, ◌+◌, ◌≤◌, Bool, true, false, cond, inl, inr, List, [], ◌∷◌, ◌++◌, length, map, filter, None, eqb, leb, refl, ap, sym, ◌∙◌, arith}
 use Rattle.std.specs.Prelude.{not, ◌&&◌, ◌||◌, nat_lt}
-use Rattle.std.specs.List.{list_any, AllByRecursion}
-use Rattle.std.proofs.lemmas.Bool.{and_parts, or_cases, or_parts, not-false, eq-eqb, ne_eqb, leb-false, cases_Bool, cases_eq, false_from_ne_true}
+use Rattle.std.specs.List.{list_any, range_with_len, AllByRecursion}
+use Rattle.std.specs.Option.{option_map_or}
+use Rattle.std.proofs.lemmas.Bool.{and_parts, or_cases, or_parts, or_left, or_right, not-false, eq-eqb, ne_eqb, leb-false, lt-leb, cases_Bool, cases_eq, false_from_ne_true}
+use Rattle.ep_defs.specs.declared.limits.TheConstants.{THREADS}
 use Rattle.ep_defs.specs.declared.event.EventDef.{EventDef}
 use Rattle.ep_defs.specs.Session.{is_valid_config}
 use Rattle.ep_model.specs.declared.step.Step.{Step}
 use Rattle.ep_model.specs.declared.step.Step.TheVariants as step
-use Rattle.ep_model.specs.History.{Past, config_of, accepted, is_present, opened, insert_ascending, is_open, in_write, last_begun, is_due, shows}
-use Rattle.ep_model.specs.Lawful.{IsLawful, kind_of, objections, is_next_session, begins, has_due, is_open_somewhere, pending_count, is_hand_full}
-use Rattle.ep_model.specs.Entries.{entries, pending, told_number, point_entry}
+use Rattle.ep_model.specs.History.{Past, config_of, accepted, is_present, present, entered, has_left, was_there, is_there, takes_row, rows, opened, insert_ascending, is_open, in_write, last_begun, is_due, shows}
+use Rattle.ep_model.specs.Budget.{record_size}
+use Rattle.ep_model.specs.Chunks.{in_hand, shown_size, turns, is_refused, is_hand_full, refused}
+use Rattle.ep_model.specs.Lawful.{IsLawful, objection_to, objections, is_next_session, begins, has_due, is_open_somewhere}
+use Rattle.ep_model.specs.Entries.{awaits_point, is_named, entries, pending, told_number, point_entry}
 use Rattle.ep_model.specs.Only.{concerns, only}
 use Rattle.ep_model.proofs.Sessions.{none_there, present-accepted, accept-unreached, was_reached}
 use Rattle.ep_model.proofs.Told.{any_kept}
@@ -90,11 +94,44 @@ told-only session thread (step.Close s t ∷ past) =
     elim (cases_Bool (eqb s session)) [ inl same ↦ rw same (rw (same, shows-only session thread past, told-only session thread past) refl) | inr other ↦ rw other (told-only session thread past) ]
 told-only session thread (other ∷ past) = passes_over (λ p. told_number session thread p) (concerns session other) other (only session past) refl ∙ told-only session thread past
 
+size-only : (session thread : ℕ) (past : Past) → shown_size thread (only session past) ≡ shown_size thread past
+size-only session thread past = ap (λ last. option_map_or (λ begun. record_size begun.write) last 0) (last-only session thread past)
+
+turns-only : (session : ℕ) (past : Past) → turns session (only session past) ≡ turns session past
+turns-only session [] = refl
+turns-only session (step.Show t s ∷ past) =
+    elim (cases_Bool (eqb s session)) [
+      | inl same ↦ rw same (rw (same, turns-only session past, config-only session past, last-only session t past) refl)
+      | inr other ↦ rw other (turns-only session past)
+    ]
+turns-only session (step.Steal s t ∷ past) =
+    elim (cases_Bool (eqb s session)) [ inl same ↦ rw same (rw (same, turns-only session past) refl) | inr other ↦ rw other (turns-only session past) ]
+turns-only session (step.Close s t ∷ past) =
+    elim (cases_Bool (eqb s session)) [ inl same ↦ rw same (rw (same, turns-only session past) refl) | inr other ↦ rw other (turns-only session past) ]
+turns-only session (step.Give s ∷ past) =
+    elim (cases_Bool (eqb s session)) [ inl same ↦ rw same (rw (same, turns-only session past) refl) | inr other ↦ rw other (turns-only session past) ]
+turns-only session (other ∷ past) = passes_over (λ p. turns session p) (concerns session other) other (only session past) refl ∙ turns-only session past
+
+is_refused-only : (session thread : ℕ) (past : Past) → is_refused session thread (only session past) ≡ is_refused session thread past
+is_refused-only session thread past = rw (turns-only session past, config-only session past, last-only session thread past) refl
+
+hand-only : (session : ℕ) (past : Past) → is_hand_full session (only session past) ≡ is_hand_full session past
+hand-only session past = ap (λ made. nat_lt 0 (in_hand made)) (turns-only session past)
+
+pub refused-only : (session thread : ℕ) (past : Past) → refused session thread (only session past) ≡ refused session thread past
+refused-only session thread [] = refl
+refused-only session thread (step.Show t s ∷ past) =
+    elim (cases_Bool (eqb s session)) [
+      | inl same ↦ rw same (rw (same, is_refused-only session thread past, shows-only session thread past, refused-only session thread past) refl)
+      | inr other ↦ rw other (refused-only session thread past)
+    ]
+refused-only session thread (other ∷ past) = passes_over (λ p. refused session thread p) (concerns session other) other (only session past) refl ∙ refused-only session thread past
+
 pending-only : (events : List EventDef) (session thread : ℕ) (past : Past) → pending events session thread (only session past) ≡ pending events session thread past
 pending-only events session thread [] = refl
 pending-only events session thread (step.Show t s ∷ past) =
     elim (cases_Bool (eqb s session)) [
-      | inl same ↦ rw same (rw (same, shows-only session thread past, last-only session thread past, pending-only events session thread past) refl)
+      | inl same ↦ rw same (rw (same, is_refused-only session thread past, config-only session past, shows-only session thread past, last-only session thread past, pending-only events session thread past) refl)
       | inr other ↦ rw other (pending-only events session thread past)
     ]
 pending-only events session thread (step.Steal s t ∷ past) =
@@ -103,23 +140,33 @@ pending-only events session thread (step.Close s t ∷ past) =
     elim (cases_Bool (eqb s session)) [ inl same ↦ rw same (rw (same, pending-only events session thread past) refl) | inr other ↦ rw other (pending-only events session thread past) ]
 pending-only events session thread (other ∷ past) = passes_over (λ p. pending events session thread p) (concerns session other) other (only session past) refl ∙ pending-only events session thread past
 
-count-only : (session thread : ℕ) (past : Past) → pending_count session thread (only session past) ≡ pending_count session thread past
-count-only session thread [] = refl
-count-only session thread (step.Show t s ∷ past) =
-    elim (cases_Bool (eqb s session)) [ inl same ↦ rw same (rw (same, count-only session thread past) refl) | inr other ↦ rw other (count-only session thread past) ]
-count-only session thread (step.Steal s t ∷ past) =
-    elim (cases_Bool (eqb s session)) [ inl same ↦ rw same (rw (same, count-only session thread past) refl) | inr other ↦ rw other (count-only session thread past) ]
-count-only session thread (other ∷ past) = passes_over (λ p. pending_count session thread p) (concerns session other) other (only session past) refl ∙ count-only session thread past
+awaits-only : (session thread : ℕ) (past : Past) → awaits_point session thread (only session past) ≡ awaits_point session thread past
+awaits-only session thread [] = refl
+awaits-only session thread (step.Close s t ∷ past) =
+    elim (cases_Bool (eqb s session)) [ inl same ↦ rw same (rw (same, awaits-only session thread past) refl) | inr other ↦ rw other (awaits-only session thread past) ]
+awaits-only session thread (step.Point s stamp ∷ past) =
+    elim (cases_Bool (eqb s session)) [ inl same ↦ rw same (rw same refl) | inr other ↦ rw other (awaits-only session thread past) ]
+awaits-only session thread (step.Finish s stamp ∷ past) =
+    elim (cases_Bool (eqb s session)) [ inl same ↦ rw same (rw same refl) | inr other ↦ rw other (awaits-only session thread past) ]
+awaits-only session thread (other ∷ past) = passes_over (λ p. awaits_point session thread p) (concerns session other) other (only session past) refl ∙ awaits-only session thread past
 
-hand-only : (session : ℕ) (past : Past) → is_hand_full session (only session past) ≡ is_hand_full session past
-hand-only session [] = refl
-hand-only session (step.Steal s t ∷ past) =
-    elim (cases_Bool (eqb s session)) [ inl same ↦ rw same (rw (same, count-only session t past, hand-only session past) refl) | inr other ↦ rw other (hand-only session past) ]
-hand-only session (step.Close s t ∷ past) =
-    elim (cases_Bool (eqb s session)) [ inl same ↦ rw same (rw (same, count-only session t past, hand-only session past) refl) | inr other ↦ rw other (hand-only session past) ]
-hand-only session (step.Give s ∷ past) =
-    elim (cases_Bool (eqb s session)) [ inl same ↦ rw same (rw same refl) | inr other ↦ rw other (hand-only session past) ]
-hand-only session (other ∷ past) = passes_over (λ p. is_hand_full session p) (concerns session other) other (only session past) refl ∙ hand-only session past
+-- ---- threads
+
+entered-only : (session : ℕ) (past : Past) → entered (only session past) ≡ entered past
+entered-only session [] = refl
+entered-only session (step.Enter t ∷ past) = ap (λ ts. t ∷ ts) (entered-only session past)
+entered-only session (other ∷ past) = passes_over entered (concerns session other) other (only session past) refl ∙ entered-only session past
+
+left-only : (session thread : ℕ) (past : Past) → has_left thread (only session past) ≡ has_left thread past
+left-only session thread [] = refl
+left-only session thread (step.Leave t ∷ past) = ap (λ b. eqb t thread || b) (left-only session thread past)
+left-only session thread (other ∷ past) = passes_over (λ p. has_left thread p) (concerns session other) other (only session past) refl ∙ left-only session thread past
+
+was_there-only : (session thread : ℕ) (past : Past) → was_there thread (only session past) ≡ was_there thread past
+was_there-only session thread past = rw (entered-only session past) refl
+
+is_there-only : (session thread : ℕ) (past : Past) → is_there thread (only session past) ≡ is_there thread past
+is_there-only session thread past = rw (entered-only session past, left-only session thread past) refl
 
 -- ---- entries
 
@@ -127,12 +174,22 @@ map_same : {A B : Type 0} (f g : A → B) → ((x : A) → f x ≡ g x) → (xs 
 map_same f g same [] = refl
 map_same f g same (x ∷ xs) = rw (same x, map_same f g same xs) refl
 
+filter_same : (p q : ℕ → Bool) → ((x : ℕ) → p x ≡ q x) → (xs : List ℕ) → filter p xs ≡ filter q xs
+filter_same p q same [] = refl
+filter_same p q same (x ∷ xs) = rw (same x, filter_same p q same xs) refl
+
+named-only : (session thread : ℕ) (past : Past) → is_named session thread (only session past) ≡ is_named session thread past
+named-only session thread past = rw (open-only session thread past, awaits-only session thread past) refl
+
 point-only : (session stamp : ℕ) (past : Past) → point_entry session stamp (only session past) ≡ point_entry session stamp past
 point-only session stamp past =
+    let named =
+    filter_same (λ t. is_named session t (only session past)) (λ t. is_named session t past) (λ t. named-only session t past) (opened session (only session past))
+    ∙ ap (λ ts. filter (λ t. is_named session t past) ts) (opened-only session past) in
     let threads =
     map_same (λ (t : ℕ). (t, told_number session t (only session past))) (λ (t : ℕ). (t, told_number session t past))
-    (λ t. ap (λ (n : ℕ). (t, n)) (told-only session t past)) (opened session (only session past))
-    ∙ ap (λ ts. map (λ (t : ℕ). (t, told_number session t past)) ts) (opened-only session past) in
+    (λ t. ap (λ (n : ℕ). (t, n)) (told-only session t past)) (filter (λ t. is_named session t (only session past)) (opened session (only session past)))
+    ∙ ap (λ ts. map (λ (t : ℕ). (t, told_number session t past)) ts) named in
     λ i. record { stamp = stamp; threads = threads i }
 
 pub entries-only : (events : List EventDef) (session : ℕ) (past : Past) → entries events session (only session past) ≡ entries events session past
@@ -199,7 +256,7 @@ has_due-only events session thread past none =
     let some_before : has_due events thread past ≡ true = any_kept (λ s. is_present s past) (λ s. is_due events s thread past) session there due (accepted past) (present-accepted session past there) in
     cc)
 
-accept-only : (events : List EventDef) (session : ℕ) (config : _) (past : Past) → kind_of events past (step.Accept session config) ≡ None → kind_of events (only session past) (step.Accept session config) ≡ None
+accept-only : (events : List EventDef) (session : ℕ) (config : _) (past : Past) → objection_to events past (step.Accept session config) ≡ None → objection_to events (only session past) (step.Accept session config) ≡ None
 accept-only events session config past h =
     let known = none_there (objections events past (step.Accept session config)) h in
     let none = unreached-only session past (accept-unreached events session past config h) in
@@ -207,47 +264,88 @@ accept-only events session config past h =
     let valid = not-false (is_valid_config config) known.1.0 in
     rw (none, positive, valid) refl
 
-end-only : (events : List EventDef) (session thread : ℕ) (past : Past) → kind_of events past (step.End thread) ≡ None → kind_of events (only session past) (step.End thread) ≡ None
+end-only : (events : List EventDef) (session thread : ℕ) (past : Past) → objection_to events past (step.End thread) ≡ None → objection_to events (only session past) (step.End thread) ≡ None
 end-only events session thread past h =
     let none = (none_there (objections events past (step.End thread)) h).1.1.0 in
     let none_here = has_due-only events session thread past none in
-    rw (none_here, in_write-only session thread past) (rw none at h)
+    rw (none_here, is_there-only session thread past, in_write-only session thread past) (rw none at h)
 
 -- A session's own step can be made without the steps of the others.
-own-lawful : (events : List EventDef) (session s : ℕ) (past : Past) (step : ℕ → Step) → IsLawful events (only session past) → concerns session (step s) ≡ eqb s session → (kind_of events past (step session) ≡ None → kind_of events (only session past) (step session) ≡ None) → kind_of events past (step s) ≡ None → IsLawful events (only session (step s ∷ past))
+own-lawful : (events : List EventDef) (session s : ℕ) (past : Past) (step : ℕ → Step) → IsLawful events (only session past) → concerns session (step s) ≡ eqb s session → (objection_to events past (step session) ≡ None → objection_to events (only session past) (step session) ≡ None) → objection_to events past (step s) ≡ None → IsLawful events (only session (step s ∷ past))
 own-lawful events session s past step lawful own only_own h =
     elim (cases_eq s session) [
       | inl same ↦
-          let here : kind_of events past (step session) ≡ None = rw same at h in
-          let there : kind_of events (only session past) (step s) ≡ None = rw same (only_own here) in
+          let here : objection_to events past (step session) ≡ None = rw same at h in
+          let there : objection_to events (only session past) (step s) ≡ None = rw same (only_own here) in
           rw (own, eq-eqb s session same) (lawful, there)
       | inr other ↦ rw (own, ne_eqb s session other) lawful
     ]
+
+-- A row that is taken without the steps of the others is taken with them.
+row-only : (session thread : ℕ) (past : Past) → takes_row thread (only session past) ≡ true → takes_row thread past ≡ true
+row-only session thread past h =
+    elim (or_cases (is_there thread (only session past)) (list_any (λ s. is_open s thread (only session past)) (present (only session past))) h) [
+      | inl there ↦ or_left (is_there thread past) _ (sym (is_there-only session thread past) ∙ there)
+      | inr some ↦
+          let parts = any_equal (λ s. is_present s (only session past)) (λ s. is_open s thread (only session past)) session (accepted (only session past)) (accepted-only session past) some in
+          let there = sym (present-only session past) ∙ parts.0 in
+          let inside = sym (open-only session thread past) ∙ parts.1 in
+          or_right (is_there thread past) _ (any_kept (λ s. is_present s past) (λ s. is_open s thread past) session there inside (accepted past) (present-accepted session past there))
+    ]
+
+filter_fewer : (p q : ℕ → Bool) → ((x : ℕ) → p x ≡ true → q x ≡ true) → (xs : List ℕ) → length (filter p xs) ≤ length (filter q xs)
+filter_fewer p q more [] = omega arith
+filter_fewer p q more (x ∷ xs) =
+    let rest = filter_fewer p q more xs in
+    elim (cases_Bool (p x)) [
+      | inl passes ↦ rw (passes, more x passes) (omega arith)
+      | inr fails ↦ elim (cases_Bool (q x)) [ inl kept ↦ rw (fails, kept) (omega arith) | inr out ↦ rw (fails, out) rest ]
+    ]
+
+rows-only : (session : ℕ) (past : Past) → length (rows (only session past)) ≤ length (rows past)
+rows-only session past =
+    let taken = λ (t : ℕ). takes_row t past in
+    let fewer = filter_fewer (λ t. takes_row t (only session past)) taken (λ t. row-only session t past) (entered (only session past) ++ range_with_len 1 THREADS) in
+    let same = ap (λ ts. length (filter taken (ts ++ range_with_len 1 THREADS))) (entered-only session past) in
+    omega (arith, fewer, same)
+
+enter-only : (events : List EventDef) (session thread : ℕ) (past : Past) → objection_to events past (step.Enter thread) ≡ None → objection_to events (only session past) (step.Enter thread) ≡ None
+enter-only events session thread past h =
+    let known = none_there (objections events past (step.Enter thread)) h in
+    let fewer = rows-only session past in
+    let below = leb-false THREADS (length (rows past)) known.1.0 in
+    let room : leb THREADS (length (rows (only session past))) ≡ false = lt-leb THREADS (length (rows (only session past))) (omega arith) in
+    rw (room, entered-only session past) (rw known.1.0 at h)
+
+leave-only : (events : List EventDef) (session thread : ℕ) (past : Past) → objection_to events past (step.Leave thread) ≡ None → objection_to events (only session past) (step.Leave thread) ≡ None
+leave-only events session thread past h = rw (is_there-only session thread past, in_write-only session thread past) h
 
 pub only-lawful : (events : List EventDef) (session : ℕ) (past : Past) → IsLawful events past → IsLawful events (only session past)
 only-lawful events session [] lawful = tt
 only-lawful events session (step.Accept s config ∷ past) lawful =
     own-lawful events session s past (λ n. step.Accept n config) (only-lawful events session past lawful.0) refl (accept-only events session config past) lawful.1
+only-lawful events session (step.Enter t ∷ past) lawful = (only-lawful events session past lawful.0, enter-only events session t past lawful.1)
+only-lawful events session (step.Leave t ∷ past) lawful = (only-lawful events session past lawful.0, leave-only events session t past lawful.1)
 only-lawful events session (step.Open s t ∷ past) lawful =
     own-lawful events session s past (λ n. step.Open n t) (only-lawful events session past lawful.0) refl
-    (λ h. rw (present-only session past, opened-only session past, in_write-only session t past) h) lawful.1
+    (λ h. rw (present-only session past, is_there-only session t past, opened-only session past, in_write-only session t past) h) lawful.1
 only-lawful events session (step.Begin t stamp write ∷ past) lawful =
-    (only-lawful events session past lawful.0, rw (in_write-only session t past, begins-only session past) lawful.1)
+    (only-lawful events session past lawful.0, rw (is_there-only session t past, in_write-only session t past, begins-only session past) lawful.1)
 only-lawful events session (step.Show t s ∷ past) lawful =
     own-lawful events session s past (λ n. step.Show t n) (only-lawful events session past lawful.0) refl
-    (λ h. rw (present-only session past, in_write-only session t past, due-only events session t past) h) lawful.1
+    (λ h. rw (is_there-only session t past, present-only session past, in_write-only session t past, due-only events session t past) h) lawful.1
 only-lawful events session (step.End t ∷ past) lawful =
     (only-lawful events session past lawful.0, end-only events session t past lawful.1)
 only-lawful events session (step.Steal s t ∷ past) lawful =
     own-lawful events session s past (λ n. step.Steal n t) (only-lawful events session past lawful.0) refl
-    (λ h. rw (present-only session past, open-only session t past, in_write-only session t past, hand-only session past) h) lawful.1
+    (λ h. rw (present-only session past, was_there-only session t past, open-only session t past, hand-only session past) h) lawful.1
 only-lawful events session (step.Give s ∷ past) lawful =
     own-lawful events session s past (λ n. step.Give n) (only-lawful events session past lawful.0) refl (λ h. rw (present-only session past) h) lawful.1
 only-lawful events session (step.Point s stamp ∷ past) lawful =
     own-lawful events session s past (λ n. step.Point n stamp) (only-lawful events session past lawful.0) refl (λ h. rw (present-only session past) h) lawful.1
 only-lawful events session (step.Close s t ∷ past) lawful =
     own-lawful events session s past (λ n. step.Close n t) (only-lawful events session past lawful.0) refl
-    (λ h. rw (present-only session past, open-only session t past, in_write-only session t past, hand-only session past) h) lawful.1
+    (λ h. rw (present-only session past, was_there-only session t past, open-only session t past, in_write-only session t past, hand-only session past) h) lawful.1
 only-lawful events session (step.Finish s stamp ∷ past) lawful =
     own-lawful events session s past (λ n. step.Finish n stamp) (only-lawful events session past lawful.0) refl
     (λ h. rw (present-only session past, somewhere-only session past, hand-only session past) h) lawful.1

@@ -1,14 +1,15 @@
 -- What is known of a session after a lawful past.
-use Rattle.std.proofs.Common.{◌≡◌, ℕ, ◌≤◌, Bool, true, false, cond, inl, inr, List, [], ◌∷◌, length, Option, Some, None, eqb, leb, refl, ap, sym, ◌∙◌, arith}
+use Rattle.std.proofs.Common.{◌≡◌, ℕ, ◌+◌, ◌≤◌, Bool, true, false, cond, inl, inr, List, [], ◌∷◌, length, Option, Some, None, eqb, leb, refl, ap, sym, ◌∙◌, arith}
 use Rattle.std.specs.Prelude.{not, ◌&&◌, ◌||◌, nat_lt}
 use Rattle.std.specs.List.{list_any, AllByRecursion}
-use Rattle.std.proofs.lemmas.Bool.{and_parts, or_cases, or_parts, or_left, or_right, not-false, not-true, eqb-true, ne_eqb, leb-false, le-leb, cases_Bool, cases_eq}
+use Rattle.std.proofs.lemmas.Bool.{and_parts, or_cases, or_parts, or_left, or_right, not-false, not-true, eqb-true, eq-eqb, ne_eqb, leb-false, le-leb, cases_Bool, cases_eq}
 use Rattle.std.proofs.lemmas.List.{length_push}
+use Rattle.ep_defs.specs.declared.limits.TheConstants.{SCHEDULE_WRITES, SESSION_THREADS}
 use Rattle.ep_defs.specs.declared.event.EventDef.{EventDef}
 use Rattle.ep_model.specs.declared.step.Step.TheVariants as step
 use Rattle.ep_model.specs.declared.step.Kind.{Kind}
 use Rattle.ep_model.specs.History.{Past, accepted, is_present, is_finished, opened, insert_ascending, is_open, opened_at, writes_of}
-use Rattle.ep_model.specs.Lawful.{IsLawful, Objection, first_kind, objections, kind_of, was_opened, is_next_session, is_open_somewhere, begins}
+use Rattle.ep_model.specs.Lawful.{IsLawful, Objection, first_kind, objections, objection_to, was_opened, is_next_session, is_open_somewhere, begins}
 
 -- ---- steps that can be made
 
@@ -67,7 +68,7 @@ present-reached session past h =
 
 -- ---- opened sessions
 
-opens_more : (thread t : ℕ) (ts : List ℕ) (same_session same_thread still : Bool) → eqb t thread ≡ same_thread → (still ≡ true → list_any (λ x. eqb x thread) ts ≡ true) → ((same_session && same_thread) || still) ≡ true → list_any (λ x. eqb x thread) (cond same_session (insert_ascending t ts) ts) ≡ true
+pub opens_more : (thread t : ℕ) (ts : List ℕ) (same_session same_thread still : Bool) → eqb t thread ≡ same_thread → (still ≡ true → list_any (λ x. eqb x thread) ts ≡ true) → ((same_session && same_thread) || still) ≡ true → list_any (λ x. eqb x thread) (cond same_session (insert_ascending t ts) ts) ≡ true
 opens_more thread t ts false same_thread still e more h = more h
 opens_more thread t ts true true still e more h = any_inserted (λ x. eqb x thread) t ts ∙ or_left (eqb t thread) _ e
 opens_more thread t ts true false still e more h = any_inserted (λ x. eqb x thread) t ts ∙ or_right (eqb t thread) _ (more h)
@@ -105,6 +106,8 @@ open-present events session thread (step.Finish s stamp ∷ past) lawful h =
           cc
       | inr other ↦ rw (ne_eqb s session other) (open-present events session thread past lawful.0 h)
     ]
+open-present events session thread (step.Enter t ∷ past) lawful h = open-present events session thread past lawful.0 h
+open-present events session thread (step.Leave t ∷ past) lawful h = open-present events session thread past lawful.0 h
 open-present events session thread (step.Begin t stamp write ∷ past) lawful h = open-present events session thread past lawful.0 h
 open-present events session thread (step.Show t s ∷ past) lawful h = open-present events session thread past lawful.0 h
 open-present events session thread (step.End t ∷ past) lawful h = open-present events session thread past lawful.0 h
@@ -127,7 +130,7 @@ finished-reached events session (step.Finish s stamp ∷ past) lawful h =
 finished-reached events session (_ ∷ past) lawful h = finished-reached events session past lawful.0 h
 
 -- A session that is accepted was not reached before.
-pub accept-unreached : (events : List EventDef) (s : ℕ) (past : Past) → (config : _) → kind_of events past (step.Accept s config) ≡ None → was_reached s past ≡ false
+pub accept-unreached : (events : List EventDef) (s : ℕ) (past : Past) → (config : _) → objection_to events past (step.Accept s config) ≡ None → was_reached s past ≡ false
 accept-unreached events s past config h =
     let next = not-false (is_next_session s past) (none_there (objections events past (step.Accept s config)) h).0 in
     not-true (was_reached s past) (and_parts (nat_lt 0 s) (not (was_reached s past)) next).1
@@ -179,11 +182,11 @@ unreached-none events session thread (_ ∷ past) lawful h = unreached-none even
 
 -- ---- counts
 
-pub begins-few : (events : List EventDef) (past : Past) → IsLawful events past → begins past ≤ 2147483646
+pub begins-few : (events : List EventDef) (past : Past) → IsLawful events past → begins past ≤ SCHEDULE_WRITES
 begins-few events [] lawful = omega arith
 begins-few events (step.Begin t stamp write ∷ past) lawful =
     let few = (none_there (objections events past (step.Begin t stamp write)) lawful.1).1.1.1.1.0 in
-    let below = leb-false 2147483646 (begins past) few in omega arith
+    let below = leb-false SCHEDULE_WRITES (begins past) few in omega arith
 begins-few events (_ ∷ past) lawful = begins-few events past lawful.0
 
 pub writes-begins : (thread : ℕ) (past : Past) → length (writes_of thread past) ≤ begins past
@@ -193,3 +196,23 @@ writes-begins thread (step.Begin t stamp write ∷ past) =
     let one = length_push (writes_of thread past) write in
     elim (cases_Bool (eqb t thread)) [ inl same ↦ rw same (omega arith) | inr other ↦ rw other (omega arith) ]
 writes-begins thread (_ ∷ past) = writes-begins thread past
+
+inserted-long : (n : ℕ) (ms : List ℕ) → length (insert_ascending n ms) ≡ length ms + 1
+inserted-long n [] = refl
+inserted-long n (m ∷ ms) =
+    let more = inserted-long n ms in
+    elim (nat_lt n m) as (λ b. length (cond b (n ∷ m ∷ ms) (m ∷ insert_ascending n ms)) ≡ length (m ∷ ms) + 1) [ true ↦ omega arith | false ↦ omega arith ]
+
+-- A session is opened on no more threads than its limit.
+pub opened-few : (events : List EventDef) (session : ℕ) (past : Past) → IsLawful events past → length (opened session past) ≤ SESSION_THREADS
+opened-few events session [] lawful = omega arith
+opened-few events session (step.Open s t ∷ past) lawful =
+    elim (cases_eq s session) [
+      | inl same ↦
+          let few = (none_there (objections events past (step.Open s t)) lawful.1).1.1.1.0 in
+          let few_here : leb SESSION_THREADS (length (opened session past)) ≡ false = rw same at few in
+          let below = leb-false SESSION_THREADS (length (opened session past)) few_here in
+          rw (eq-eqb s session same) (omega (arith, inserted-long t (opened session past), below))
+      | inr other ↦ rw (ne_eqb s session other) (opened-few events session past lawful.0)
+    ]
+opened-few events session (_ ∷ past) lawful = opened-few events session past lawful.0

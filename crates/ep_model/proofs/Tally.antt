@@ -1,67 +1,46 @@
 -- What a session's entries tell of one thread, and what they still have to tell.
-use Rattle.std.proofs.Common.{◌≡◌, ℕ, ◌+◌, ◌-◌, ◌%◌, ◌^◌, ◌<◌, ◌≤◌, Bool, true, false, cond, inl, inr, List, [], ◌∷◌, ◌++◌, length, map, filter, Option, Some, None, eqb, refl, ap, ◌∙◌, arith, zero-add}
-use Rattle.std.specs.Prelude.{◌&&◌}
+use Rattle.std.proofs.Common.{◌≡◌, ℕ, ◌+◌, ◌^◌, ◌<◌, ◌≤◌, Bool, true, false, cond, List, [], ◌∷◌, ◌++◌, length, map, filter, Option, Some, None, eqb, refl, ap, sym, ◌∙◌, arith, zero-add}
+use Rattle.std.specs.Prelude.{not, ◌&&◌, ◌||◌}
 use Rattle.std.specs.Option.{is_none}
-use Rattle.std.specs.List.{AllByRecursion}
-use Rattle.std.proofs.lemmas.Bool.{cases_eq, eq-eqb, ne_eqb}
+use Rattle.std.specs.List.{list_any, last_or, AllByRecursion}
+use Rattle.std.proofs.lemmas.Bool.{eq-eqb, ne_eqb, or_right}
 use Rattle.std.proofs.lemmas.List.{length_push, append-nil, append_assoc, map-append}
+use Rattle.std.proofs.lemmas.List.Elements.{filter-append}
 use Rattle.std.proofs.lemmas.Grind.{flat_map-append}
-use Rattle.std.proofs.Math.Nat.{mod-eq_of_lt}
 use Rattle.ep_defs.specs.declared.event.EventDef.{EventDef}
 use Rattle.ep_defs.specs.declared.session.Write.{Write}
-use Rattle.ep_defs.specs.Entry.{EventEntry, Entry, Event}
-use Rattle.ep_defs.specs.Gaps.{Sighting, Known, sightings_in, sightings, distance, missing}
+use Rattle.ep_defs.specs.Entry.{EventEntry, PointEntry, Entry, Event, Point}
+use Rattle.ep_defs.specs.Gaps.{Sighting, Known, sightings_in, sightings, missing}
 use Rattle.ep_model.specs.declared.step.Step.TheVariants as step
+use Rattle.ep_model.specs.Chunks.{is_refused}
 use Rattle.ep_model.specs.History.{Past, Begun, event_at, last_begun, shows}
-use Rattle.ep_model.specs.Entries.{event_entry, entry_if, entry_of, pending}
-use Rattle.ep_model.specs.Faithful.{Contents, contents_of, events_in, events_of, numbered}
+use Rattle.ep_model.specs.Entries.{has_stacks, event_entry, entry_if, entry_shown, pending}
+use Rattle.ep_model.specs.Faithful.{Contents, contents_of, events_in, events_of, is_kept, last_sighting, numbered}
 use Rattle.ep_model.proofs.Admitted.{numbered-append}
-
--- ---- numbers that follow one another
-
--- The numbers of these events of a thread go from after the first up to the last.
-abbrev pub Runs : ℕ → List EventEntry → ℕ → Type 0
-Runs first [] last = first ≡ last
-Runs first (event ∷ events) last = (event.number ≡ first + 1) × Runs (first + 1) events last
-
-runs-push : (first last : ℕ) (events : List EventEntry) (event : EventEntry) → Runs first events last → event.number ≡ last + 1 → Runs first (events ++ event ∷ []) (1 + last)
-runs-push first last [] event runs next = (rw (← runs) at next, omega (arith, runs))
-runs-push first last (e ∷ events) event runs next = (runs.0, runs-push (first + 1) last events event runs.1 next)
-
-pub runs-up : (first last : ℕ) (events : List EventEntry) → Runs first events last → first ≤ last
-runs-up first last [] runs = omega (arith, runs)
-runs-up first last (event ∷ events) runs = let up = runs-up (first + 1) last events runs.1 in omega arith
-
--- A number below 2 ^ 32 is where it is.
-distance-none : (n : ℕ) → n < 2 ^ 32 → distance n n ≡ 0
-distance-none n few =
-    let stays : n % 2 ^ 32 ≡ n = mod-eq_of_lt few in
-    let back : n + 2 ^ 32 - n ≡ 2 ^ 32 = omega arith in rw (stays, back) refl
+use Rattle.ep_model.proofs.Numbers.{Runs, runs-push, runs-skip, runs-earlier, AreOwn, Sees, runs-sees, last-append}
 
 -- ---- the thread's own events
-
-abbrev pub AreOwn : ℕ → List EventEntry → Type 0
-AreOwn thread events = AllByRecursion (λ event. event.thread ≡ thread) events
 
 own-append : (thread : ℕ) (events more : List EventEntry) → AreOwn thread events → AreOwn thread more → AreOwn thread (events ++ more)
 own-append thread [] more own others = others
 own-append thread (event ∷ events) more own others = (own.0, own-append thread events more own.1 others)
 
-own-entry : (thread number : ℕ) (begun : Begun) (def : Option EventDef) → AreOwn thread (entry_if thread number begun def)
-own-entry thread number begun None = tt
-own-entry thread number begun (Some def) = (refl, tt)
+own-entry : (stacks : Bool) (thread number : ℕ) (begun : Begun) (def : Option EventDef) → AreOwn thread (entry_if stacks thread number begun def)
+own-entry stacks thread number begun None = tt
+own-entry stacks thread number begun (Some def) = (refl, tt)
 
-own-entries : (events : List EventDef) (thread number : ℕ) (last : Option Begun) → AreOwn thread (entry_of events thread number last)
-own-entries events thread number None = tt
-own-entries events thread number (Some begun) = own-entry thread number begun (event_at events begun.write.event)
+own-entries : (events : List EventDef) (stacks : Bool) (thread number : ℕ) (last : Option Begun) → AreOwn thread (entry_shown events stacks thread number last)
+own-entries events stacks thread number None = tt
+own-entries events stacks thread number (Some begun) = own-entry stacks thread number begun (event_at events begun.write.event)
 
 -- What waits for a Steal from a thread is the thread's own.
 pub pending-own : (events : List EventDef) (session thread : ℕ) (past : Past) → AreOwn thread (pending events session thread past)
 pending-own events session thread [] = tt
 pending-own events session thread (step.Show t s ∷ past) =
     let before = pending-own events session thread past in
-    elim (eqb s session && eqb t thread) as (λ b. AreOwn thread (cond b (pending events session thread past ++ entry_of events thread (shows session thread past + 1) (last_begun thread past)) (pending events session thread past))) [
-      | true ↦ own-append thread (pending events session thread past) _ before (own-entries events thread (shows session thread past + 1) (last_begun thread past))
+    let shown = entry_shown events (has_stacks session past) thread (shows session thread past + 1) (last_begun thread past) in
+    elim (eqb s session && eqb t thread && not (is_refused session thread past)) as (λ b. AreOwn thread (cond b (pending events session thread past ++ shown) (pending events session thread past))) [
+      | true ↦ own-append thread (pending events session thread past) _ before (own-entries events (has_stacks session past) thread (shows session thread past + 1) (last_begun thread past))
       | false ↦ before
     ]
 pending-own events session thread (step.Steal s t ∷ past) =
@@ -80,74 +59,160 @@ events_of-own thread (event ∷ events) own = rw (eq-eqb event.thread thread own
 -- Those of another thread tell nothing of this one.
 pub events_of-other : (thread other : ℕ) (events : List EventEntry) → eqb other thread ≡ false → AreOwn other events → events_of thread (map Event events) ≡ []
 events_of-other thread other [] differ own = refl
-events_of-other thread other (event ∷ events) differ own =
-    rw (own.0, differ) (events_of-other thread other events differ own.1)
+events_of-other thread other (event ∷ events) differ own = rw (own.0, differ) (events_of-other thread other events differ own.1)
 
 pub sightings-other : (thread other : ℕ) (events : List EventEntry) → eqb other thread ≡ false → AreOwn other events → sightings thread (map Event events) ≡ []
 sightings-other thread other [] differ own = refl
-sightings-other thread other (event ∷ events) differ own =
-    rw (own.0, differ) (sightings-other thread other events differ own.1)
+sightings-other thread other (event ∷ events) differ own = rw (own.0, differ) (sightings-other thread other events differ own.1)
 
--- Numbers that follow one another leave nothing out.
-runs-steady : (thread first last : ℕ) (events : List EventEntry) (later : List Sighting) → Runs first events last → AreOwn thread events → last < 2 ^ 32 → missing first (sightings thread (map Event events) ++ later) ≡ missing last later
-runs-steady thread first last [] later runs own few = ap (λ n. missing n later) runs
-runs-steady thread first last (event ∷ events) later runs own few =
-    let up = runs-up (first + 1) last events runs.1 in
-    rw (eq-eqb event.thread thread own.0, runs.0, distance-none (first + 1) (omega arith), zero-add) (runs-steady thread (first + 1) last events later runs.1 own.1 few)
+-- ---- refused numbers
 
--- A point that knows of the last number leaves nothing out.
-pub knowns-steady : (told : ℕ → ℕ) (thread : ℕ) (threads : List ℕ) (later : List Sighting) → told thread < 2 ^ 32 → missing (told thread) (map (λ (t : ℕ × ℕ). Known t.1) (filter (λ (t : ℕ × ℕ). eqb t.0 thread) (map (λ t. (t, told t)) threads)) ++ later) ≡ missing (told thread) later
-knowns-steady told thread [] later few = refl
-knowns-steady told thread (t ∷ threads) later few =
-    elim (cases_eq t thread) [
-      | inl same ↦ rw (eq-eqb t thread same, same, distance-none (told thread) few, zero-add) (knowns-steady told thread threads later few)
-      | inr other ↦ rw (ne_eqb t thread other) (knowns-steady told thread threads later few)
-    ]
+abbrev AreUpTo : ℕ → List ℕ → Type 0
+AreUpTo most numbers = AllByRecursion (λ n. n ≤ most) numbers
+
+abbrev AreNumberedUpTo : ℕ → List Contents → Type 0
+AreNumberedUpTo most contents = AllByRecursion (λ c. c.number ≤ most) contents
+
+up_to-more : (most : ℕ) (numbers : List ℕ) → AreUpTo most numbers → AreUpTo (1 + most) numbers
+up_to-more most [] h = tt
+up_to-more most (n ∷ numbers) h = (let first = h.0 in omega arith, up_to-more most numbers h.1)
+
+up_to-push : (most : ℕ) (numbers : List ℕ) → AreUpTo most numbers → AreUpTo (1 + most) (numbers ++ (most + 1) ∷ [])
+up_to-push most [] h = (omega arith, tt)
+up_to-push most (n ∷ numbers) h = (let first = h.0 in omega arith, up_to-push most numbers h.1)
+
+numbered-push : (most : ℕ) (contents : List Contents) (next : Contents) → next.number ≡ most + 1 → AreNumberedUpTo most contents → AreNumberedUpTo (1 + most) (contents ++ next ∷ [])
+numbered-push most [] next e h = (omega (arith, e), tt)
+numbered-push most (c ∷ contents) next e h = (let first = h.0 in omega arith, numbered-push most contents next e h.1)
+
+-- What has a number above the refused ones is kept.
+kept-above : (most n : ℕ) (refused : List ℕ) → n ≡ most + 1 → AreUpTo most refused → list_any (λ m. eqb m n) refused ≡ false
+kept-above most n [] e h = refl
+kept-above most n (m ∷ refused) e h =
+    let first = h.0 in
+    rw (ne_eqb m n (λ same. omega (arith, e, same, first))) (kept-above most n refused e h.1)
+
+refused-now : (n : ℕ) (refused : List ℕ) → list_any (λ m. eqb m n) (refused ++ n ∷ []) ≡ true
+refused-now n [] = rw (eq-eqb n n refl) refl
+refused-now n (m ∷ refused) = or_right (eqb m n) _ (refused-now n refused)
+
+-- A number above all of these refuses none of them.
+kept-still : (next n : ℕ) (refused : List ℕ) → eqb next n ≡ false → list_any (λ m. eqb m n) (refused ++ next ∷ []) ≡ list_any (λ m. eqb m n) refused
+kept-still next n [] e = rw e refl
+kept-still next n (m ∷ refused) e = ap (λ b. eqb m n || b) (kept-still next n refused e)
+
+filter-still : (most : ℕ) (refused : List ℕ) (contents : List Contents) → AreNumberedUpTo most contents → filter (is_kept (refused ++ (most + 1) ∷ [])) contents ≡ filter (is_kept refused) contents
+filter-still most refused [] h = refl
+filter-still most refused (c ∷ contents) h =
+    let first = h.0 in
+    rw (kept-still (most + 1) c.number refused (ne_eqb (most + 1) c.number (λ e. omega (arith, e, first))), filter-still most refused contents h.1) refl
 
 -- ---- the tally
 
 -- The contents of a write that is still to be shown.
-abbrev pub due_contents : List EventDef → ℕ → Bool → ℕ → Option Begun → List Contents
-due_contents events thread due shown last = cond due (map contents_of (entry_of events thread (shown + 1) last)) []
+abbrev pub due_contents : List EventDef → Bool → ℕ → Bool → ℕ → Option Begun → List Contents
+due_contents events stacks thread due shown last = cond due (map contents_of (entry_shown events stacks thread (shown + 1) last)) []
 
--- What is admitted was told, waits for a Steal, or is due; and its numbers follow one another.
-pub record Tally (events : List EventDef) (thread : ℕ) (wanted : List Write) (stands_open due inside : Bool) (last : Option Begun) (shown told : ℕ) (waiting : List EventEntry) (lines : List Entry) : Type 0 where
+-- Of what is admitted each write was told, waits for a Steal, was refused, or is due; and what is missing among the numbers was refused.
+pub record Tally (events : List EventDef) (stacks : Bool) (thread : ℕ) (wanted : List Write) (refused : List ℕ) (was_opened stands_open awaits due inside : Bool) (last : Option Begun) (shown told : ℕ) (waiting : List EventEntry) (lines : List Entry) : Type 0 where
   -- nothing is due outside of a write
   pub idle : inside ≡ false → due ≡ false
   -- nothing is due, and nothing waits, where the session is not open
-  pub shut : stands_open ≡ false → (due ≡ false) × (waiting ≡ [])
+  pub shut : stands_open ≡ false → (due ≡ false) × (waiting ≡ []) × (told ≡ shown)
   -- what is due has an entry with the next number
-  pub ready : due ≡ true → (event : EventEntry) × (entry_of events thread (shown + 1) last ≡ event ∷ []) × (event.number ≡ shown + 1)
-  pub runs : Runs told waiting shown
+  pub ready : due ≡ true → (event : EventEntry) × (entry_shown events stacks thread (shown + 1) last ≡ event ∷ []) × (event.number ≡ shown + 1)
+  -- what was shown of the admitted writes
+  pub before : List Contents
+  pub whole : numbered events stacks 1 wanted ≡ before ++ due_contents events stacks thread due shown last
+  pub below : AreNumberedUpTo shown before
+  pub refused_below : AreUpTo shown refused
   pub counted : shown + (cond due 1 0) ≡ length wanted
-  pub tells : numbered events 1 wanted ≡ events_of thread lines ++ (map contents_of waiting ++ due_contents events thread due shown last)
-  -- no number is missing so far
-  pub steady : (later : List Sighting) → missing 0 (sightings thread lines ++ later) ≡ missing told later
+  -- it was told or waits, unless it was refused
+  pub tells : filter (is_kept refused) before ≡ events_of thread lines ++ map contents_of waiting
+  -- the last number that the lines know of, how many they miss up to it, how many up to what was told, and how many later
+  pub seen : ℕ
+  pub missed : ℕ
+  pub skipped : ℕ
+  pub left : ℕ
+  pub told_is : seen + skipped ≡ told
+  pub runs : Runs told waiting shown left
+  pub missing_are : length refused ≡ missed + (skipped + left)
+  pub steady : (later : List Sighting) → missing 0 (sightings thread lines ++ later) ≡ missed + missing seen later
+  -- a thread that points name no more was named last with its last number
+  pub named : was_opened ≡ true → stands_open ≡ false → awaits ≡ false → (seen ≡ told) × (last_sighting thread lines ≡ Some (Known told))
 
 -- Nothing was admitted on a thread where the session was never opened.
-pub empty_tally : (events : List EventDef) (thread : ℕ) → Tally events thread [] false false false None 0 0 [] []
+pub empty_tally : (events : List EventDef) (thread : ℕ) → Tally events false thread [] [] false false false false false None 0 0 [] []
 empty_tally events thread =
     record {
       idle = λ e. refl;
-      shut = λ e. (refl, refl);
+      shut = λ e. (refl, refl, refl);
       ready = λ e. cc;
-      runs = refl;
+      before = [];
+      whole = refl;
+      below = tt;
+      refused_below = tt;
       counted = refl;
       tells = refl;
-      steady = λ later. refl;
+      seen = 0;
+      missed = 0;
+      skipped = 0;
+      left = 0;
+      told_is = refl;
+      runs = refl;
+      missing_are = refl;
+      steady = λ later. sym (zero-add (missing 0 later));
+      named = λ was. cc;
+    }
+
+-- A session that is not opened yet may be accepted with stacks or without.
+pub stacks_tally : (events : List EventDef) (stacks other : Bool) (thread : ℕ) (refused : List ℕ) (was_opened awaits due inside : Bool) (last : Option Begun) (shown told : ℕ) (waiting : List EventEntry) (lines : List Entry) → Tally events stacks thread [] refused was_opened false awaits due inside last shown told waiting lines → Tally events other thread [] refused was_opened false awaits due inside last shown told waiting lines
+stacks_tally events stacks other thread refused was_opened awaits due inside last shown told waiting lines h =
+    let none = (h.shut refl).0 in
+    let nothing : [] ≡ h.before ++ [] = rw none at h.whole in
+    record {
+      idle = h.idle;
+      shut = h.shut;
+      ready = λ e. cc;
+      before = h.before;
+      whole = rw none nothing;
+      below = h.below;
+      refused_below = h.refused_below;
+      counted = h.counted;
+      tells = h.tells;
+      seen = h.seen;
+      missed = h.missed;
+      skipped = h.skipped;
+      left = h.left;
+      told_is = h.told_is;
+      runs = h.runs;
+      missing_are = h.missing_are;
+      steady = h.steady;
+      named = h.named;
     }
 
 -- The session is opened where it was not.
-pub open_tally : (events : List EventDef) (thread : ℕ) (wanted : List Write) (due inside : Bool) (last : Option Begun) (shown told : ℕ) (waiting : List EventEntry) (lines : List Entry) → Tally events thread wanted false due inside last shown told waiting lines → Tally events thread wanted true due inside last shown told waiting lines
-open_tally events thread wanted due inside last shown told waiting lines h =
+pub open_tally : (events : List EventDef) (stacks : Bool) (thread : ℕ) (wanted : List Write) (refused : List ℕ) (was_opened awaits due inside : Bool) (last : Option Begun) (shown told : ℕ) (waiting : List EventEntry) (lines : List Entry) → Tally events stacks thread wanted refused was_opened false awaits due inside last shown told waiting lines → Tally events stacks thread wanted refused true true awaits due inside last shown told waiting lines
+open_tally events stacks thread wanted refused was_opened awaits due inside last shown told waiting lines h =
     record {
       idle = h.idle;
       shut = λ e. cc;
       ready = h.ready;
-      runs = h.runs;
+      before = h.before;
+      whole = h.whole;
+      below = h.below;
+      refused_below = h.refused_below;
       counted = h.counted;
       tells = h.tells;
+      seen = h.seen;
+      missed = h.missed;
+      skipped = h.skipped;
+      left = h.left;
+      told_is = h.told_is;
+      runs = h.runs;
+      missing_are = h.missing_are;
       steady = h.steady;
+      named = λ was shut. cc;
     }
 
 -- A definition that is not missing is there.
@@ -156,103 +221,218 @@ is_there None h = cc
 is_there (Some x) h = (x, refl)
 
 -- A write begins, which is due from then on or not.
-pub begin_tally : (events : List EventDef) (thread : ℕ) (wanted : List Write) (stands_open due now_due inside : Bool) (last : Option Begun) (begun : Begun) (shown told : ℕ) (waiting : List EventEntry) (lines : List Entry) → inside ≡ false → is_none (event_at events begun.write.event) ≡ false → (now_due ≡ true → stands_open ≡ true) → Tally events thread wanted stands_open due inside last shown told waiting lines → Tally events thread (wanted ++ cond now_due (begun.write ∷ []) []) stands_open now_due true (Some begun) shown told waiting lines
-begin_tally events thread wanted stands_open due false inside last begun shown told waiting lines outside defined opens h =
+pub begin_tally : (events : List EventDef) (stacks : Bool) (thread : ℕ) (wanted : List Write) (refused : List ℕ) (was_opened stands_open awaits due now_due inside : Bool) (last : Option Begun) (begun : Begun) (shown told : ℕ) (waiting : List EventEntry) (lines : List Entry) → inside ≡ false → is_none (event_at events begun.write.event) ≡ false → (now_due ≡ true → stands_open ≡ true) → Tally events stacks thread wanted refused was_opened stands_open awaits due inside last shown told waiting lines → Tally events stacks thread (wanted ++ cond now_due (begun.write ∷ []) []) refused was_opened stands_open awaits now_due true (Some begun) shown told waiting lines
+begin_tally events stacks thread wanted refused was_opened stands_open awaits due false inside last begun shown told waiting lines outside defined opens h =
     let none = h.idle outside in
     let all = append-nil wanted in
     record {
       idle = λ e. refl;
-      shut = λ e. (refl, (h.shut e).1);
+      shut = λ e. (refl, (h.shut e).1, (h.shut e).2);
       ready = λ e. cc;
-      runs = h.runs;
+      before = h.before;
+      whole = rw all (rw none at h.whole);
+      below = h.below;
+      refused_below = h.refused_below;
       counted = rw all (rw none at h.counted);
-      tells = rw all (rw none at h.tells);
+      tells = h.tells;
+      seen = h.seen;
+      missed = h.missed;
+      skipped = h.skipped;
+      left = h.left;
+      told_is = h.told_is;
+      runs = h.runs;
+      missing_are = h.missing_are;
       steady = h.steady;
+      named = h.named;
     }
-begin_tally events thread wanted stands_open due true inside last begun shown told waiting lines outside defined opens h =
+begin_tally events stacks thread wanted refused was_opened stands_open awaits due true inside last begun shown told waiting lines outside defined opens h =
     let none = h.idle outside in
     let def = is_there (event_at events begun.write.event) defined in
     let count : shown + 0 ≡ length wanted = rw none at h.counted in
     let number : 1 + length wanted ≡ shown + 1 = omega arith in
-    let told_before : numbered events 1 wanted ≡ events_of thread lines ++ (map contents_of waiting ++ []) = rw none at h.tells in
+    let whole_before : numbered events stacks 1 wanted ≡ h.before = rw (none, append-nil h.before) at h.whole in
     record {
       idle = λ e. cc;
       shut = λ e. let is_open = opens refl in cc;
-      ready = λ e. (event_entry thread (shown + 1) begun.stamp begun.write def.0, ap (λ o. entry_if thread (shown + 1) begun o) def.1, refl);
-      runs = h.runs;
+      ready = λ e. (event_entry stacks thread (shown + 1) begun def.0, ap (λ o. entry_if stacks thread (shown + 1) begun o) def.1, refl);
+      before = h.before;
+      whole = rw (numbered-append events stacks 1 wanted (begun.write ∷ []), number, whole_before, def.1) refl;
+      below = h.below;
+      refused_below = h.refused_below;
       counted = omega (arith, length_push wanted begun.write);
-      tells = rw (numbered-append events 1 wanted (begun.write ∷ []), number, told_before, def.1, append-nil (map contents_of waiting), append_assoc) refl;
+      tells = h.tells;
+      seen = h.seen;
+      missed = h.missed;
+      skipped = h.skipped;
+      left = h.left;
+      told_is = h.told_is;
+      runs = h.runs;
+      missing_are = h.missing_are;
       steady = h.steady;
+      named = h.named;
     }
 
--- A write that is due is shown, and waits from then on.
-pub show_tally : (events : List EventDef) (thread : ℕ) (wanted : List Write) (stands_open due inside : Bool) (last : Option Begun) (shown told : ℕ) (waiting : List EventEntry) (lines : List Entry) → due ≡ true → Tally events thread wanted stands_open due inside last shown told waiting lines → Tally events thread wanted stands_open false inside last (1 + shown) told (waiting ++ entry_of events thread (shown + 1) last) lines
-show_tally events thread wanted stands_open due inside last shown told waiting lines is_due h =
+-- A write that is due is shown and written, and waits from then on.
+pub write_tally : (events : List EventDef) (stacks : Bool) (thread : ℕ) (wanted : List Write) (refused : List ℕ) (was_opened stands_open awaits due inside : Bool) (last : Option Begun) (shown told : ℕ) (waiting : List EventEntry) (lines : List Entry) → due ≡ true → Tally events stacks thread wanted refused was_opened stands_open awaits due inside last shown told waiting lines → Tally events stacks thread wanted refused was_opened stands_open awaits false inside last (1 + shown) told (waiting ++ entry_shown events stacks thread (shown + 1) last) lines
+write_tally events stacks thread wanted refused was_opened stands_open awaits due inside last shown told waiting lines is_due h =
     let entry = h.ready is_due in
-    let told_before : numbered events 1 wanted ≡ events_of thread lines ++ (map contents_of waiting ++ map contents_of (entry_of events thread (shown + 1) last)) = rw is_due at h.tells in
+    let contents = contents_of entry.0 in
+    let all : numbered events stacks 1 wanted ≡ h.before ++ contents ∷ [] = rw (is_due, entry.1) at h.whole in
     let count : shown + 1 ≡ length wanted = rw is_due at h.counted in
+    let opens : stands_open ≡ false → ⊥ = λ e. let none = (h.shut e).0 in cc in
+    rw entry.1
     record {
       idle = λ e. refl;
-      shut = λ e. let none = (h.shut e).0 in cc;
+      shut = λ e. absurd (opens e);
       ready = λ e. cc;
-      runs = rw entry.1 (runs-push told shown waiting entry.0 h.runs entry.2);
+      before = h.before ++ contents ∷ [];
+      whole = all ∙ sym (append-nil (h.before ++ contents ∷ []));
+      below = numbered-push shown h.before contents entry.2 h.below;
+      refused_below = up_to-more shown refused h.refused_below;
       counted = omega arith;
-      tells = rw (told_before, map-append contents_of waiting (entry_of events thread (shown + 1) last), append-nil) refl;
+      tells =
+          rw (filter-append (is_kept refused) h.before (contents ∷ []), h.tells, kept-above shown contents.number refused entry.2 h.refused_below, map-append contents_of waiting (entry.0 ∷ []), append_assoc (events_of thread lines) (map contents_of waiting) (contents ∷ [])) refl;
+      seen = h.seen;
+      missed = h.missed;
+      skipped = h.skipped;
+      left = h.left;
+      told_is = h.told_is;
+      runs = runs-push told shown h.left waiting entry.0 h.runs entry.2;
+      missing_are = h.missing_are;
       steady = h.steady;
+      named = λ was shut. absurd (opens shut);
+    }
+
+-- A write that is due is shown and refused, and uses its number.
+pub refuse_tally : (events : List EventDef) (stacks : Bool) (thread : ℕ) (wanted : List Write) (refused : List ℕ) (was_opened stands_open awaits due inside : Bool) (last : Option Begun) (shown told : ℕ) (waiting : List EventEntry) (lines : List Entry) → due ≡ true → Tally events stacks thread wanted refused was_opened stands_open awaits due inside last shown told waiting lines → Tally events stacks thread wanted (refused ++ (shown + 1) ∷ []) was_opened stands_open awaits false inside last (1 + shown) told waiting lines
+refuse_tally events stacks thread wanted refused was_opened stands_open awaits due inside last shown told waiting lines is_due h =
+    let entry = h.ready is_due in
+    let contents = contents_of entry.0 in
+    let all : numbered events stacks 1 wanted ≡ h.before ++ contents ∷ [] = rw (is_due, entry.1) at h.whole in
+    let count : shown + 1 ≡ length wanted = rw is_due at h.counted in
+    let opens : stands_open ≡ false → ⊥ = λ e. let none = (h.shut e).0 in cc in
+    let out : list_any (λ m. eqb m entry.0.number) (refused ++ (shown + 1) ∷ []) ≡ true = rw entry.2 (refused-now (shown + 1) refused) in
+    record {
+      idle = λ e. refl;
+      shut = λ e. absurd (opens e);
+      ready = λ e. cc;
+      before = h.before ++ contents ∷ [];
+      whole = all ∙ sym (append-nil (h.before ++ contents ∷ []));
+      below = numbered-push shown h.before contents entry.2 h.below;
+      refused_below = up_to-push shown refused h.refused_below;
+      counted = omega arith;
+      tells =
+          rw (filter-append (is_kept (refused ++ (shown + 1) ∷ [])) h.before (contents ∷ []), out, filter-still shown refused h.before h.below, append-nil) h.tells;
+      seen = h.seen;
+      missed = h.missed;
+      skipped = h.skipped;
+      left = h.left + 1;
+      told_is = h.told_is;
+      runs = runs-skip told shown h.left waiting h.runs;
+      missing_are = omega (arith, length_push refused (shown + 1), h.missing_are);
+      steady = h.steady;
+      named = λ was shut. absurd (opens shut);
     }
 
 -- A write ends in which nothing is due.
-pub end_tally : (events : List EventDef) (thread : ℕ) (wanted : List Write) (stands_open due inside : Bool) (last : Option Begun) (shown told : ℕ) (waiting : List EventEntry) (lines : List Entry) → due ≡ false → Tally events thread wanted stands_open due inside last shown told waiting lines → Tally events thread wanted stands_open due false last shown told waiting lines
-end_tally events thread wanted stands_open due inside last shown told waiting lines none h =
+pub end_tally : (events : List EventDef) (stacks : Bool) (thread : ℕ) (wanted : List Write) (refused : List ℕ) (was_opened stands_open awaits due inside : Bool) (last : Option Begun) (shown told : ℕ) (waiting : List EventEntry) (lines : List Entry) → due ≡ false → Tally events stacks thread wanted refused was_opened stands_open awaits due inside last shown told waiting lines → Tally events stacks thread wanted refused was_opened stands_open awaits due false last shown told waiting lines
+end_tally events stacks thread wanted refused was_opened stands_open awaits due inside last shown told waiting lines none h =
     record {
       idle = λ e. none;
       shut = h.shut;
       ready = h.ready;
-      runs = h.runs;
+      before = h.before;
+      whole = h.whole;
+      below = h.below;
+      refused_below = h.refused_below;
       counted = h.counted;
       tells = h.tells;
+      seen = h.seen;
+      missed = h.missed;
+      skipped = h.skipped;
+      left = h.left;
+      told_is = h.told_is;
+      runs = h.runs;
+      missing_are = h.missing_are;
       steady = h.steady;
+      named = h.named;
     }
 
--- What waits is taken.
-pub steal_tally : (events : List EventDef) (thread : ℕ) (wanted : List Write) (stands_open due inside : Bool) (last : Option Begun) (shown told : ℕ) (waiting : List EventEntry) (lines : List Entry) → AreOwn thread waiting → shown < 2 ^ 32 → Tally events thread wanted stands_open due inside last shown told waiting lines → Tally events thread wanted stands_open due inside last shown shown [] (lines ++ map Event waiting)
-steal_tally events thread wanted stands_open due inside last shown told waiting lines own few h =
+-- What waits is taken, where the session is open; afterwards it may be closed where nothing is due.
+pub take_tally : (events : List EventDef) (stacks : Bool) (thread : ℕ) (wanted : List Write) (refused : List ℕ) (was_opened stays awaits due inside : Bool) (last : Option Begun) (shown told : ℕ) (waiting : List EventEntry) (lines : List Entry) → AreOwn thread waiting → shown < 2 ^ 32 → (stays ≡ false → due ≡ false) → (stays ≡ false → awaits ≡ true) → (before_awaits stands_open : Bool) → Tally events stacks thread wanted refused was_opened stands_open before_awaits due inside last shown told waiting lines → Tally events stacks thread wanted refused was_opened stays awaits due inside last shown shown [] (lines ++ map Event waiting)
+take_tally events stacks thread wanted refused was_opened stays awaits due inside last shown told waiting lines own few idle still before_awaits stands_open h =
+    let sees = runs-sees thread h.seen shown (h.skipped + h.left) waiting (runs-earlier h.seen h.skipped told shown h.left waiting h.told_is h.runs) own few in
     record {
       idle = h.idle;
-      shut = λ e. ((h.shut e).0, refl);
+      shut = λ e. (idle e, refl, refl);
       ready = h.ready;
-      runs = refl;
+      before = h.before;
+      whole = h.whole;
+      below = h.below;
+      refused_below = h.refused_below;
       counted = h.counted;
-      tells = rw (h.tells, flat_map-append (events_in thread) lines (map Event waiting), events_of-own thread waiting own, append_assoc) refl;
+      tells = rw (h.tells, flat_map-append (events_in thread) lines (map Event waiting), events_of-own thread waiting own, append-nil (events_of thread lines ++ map contents_of waiting)) refl;
+      seen = sees.seen;
+      missed = h.missed + sees.done;
+      skipped = sees.rest;
+      left = 0;
+      told_is = sees.up;
+      runs = omega arith;
+      missing_are = omega (arith, h.missing_are, sees.all);
       steady = λ later.
           rw (flat_map-append (sightings_in thread) lines (map Event waiting), append_assoc (sightings thread lines) (sightings thread (map Event waiting)) later)
-          (h.steady (sightings thread (map Event waiting) ++ later) ∙ runs-steady thread told shown waiting later h.runs own few);
+          (h.steady (sightings thread (map Event waiting) ++ later) ∙ ap (λ n. h.missed + n) (sees.steady later) ∙ omega arith);
+      named = λ was shut told_all. let still_awaits = still shut in cc;
     }
 
--- The session is closed where nothing is due, and nothing waits.
-pub close_tally : (events : List EventDef) (thread : ℕ) (wanted : List Write) (stands_open due inside : Bool) (last : Option Begun) (shown told : ℕ) (lines : List Entry) → due ≡ false → Tally events thread wanted stands_open due inside last shown told [] lines → Tally events thread wanted false due inside last shown told [] lines
-close_tally events thread wanted stands_open due inside last shown told lines none h =
-    record {
-      idle = h.idle;
-      shut = λ e. (none, refl);
-      ready = h.ready;
-      runs = h.runs;
-      counted = h.counted;
-      tells = h.tells;
-      steady = h.steady;
-    }
-
--- More lines that tell nothing of the thread, and leave nothing out.
-pub more_tally : (events : List EventDef) (thread : ℕ) (wanted : List Write) (stands_open due inside : Bool) (last : Option Begun) (shown told : ℕ) (waiting : List EventEntry) (lines more : List Entry) → events_of thread more ≡ [] → ((later : List Sighting) → missing told (sightings thread more ++ later) ≡ missing told later) → Tally events thread wanted stands_open due inside last shown told waiting lines → Tally events thread wanted stands_open due inside last shown told waiting (lines ++ more)
-more_tally events thread wanted stands_open due inside last shown told waiting lines more nothing none h =
+-- More lines, which tell nothing of the thread.
+pub more_tally : (events : List EventDef) (stacks : Bool) (thread : ℕ) (wanted : List Write) (refused : List ℕ) (was_opened stands_open awaits due inside : Bool) (last : Option Begun) (shown told : ℕ) (waiting : List EventEntry) (lines more : List Entry) → events_of thread more ≡ [] → sightings thread more ≡ [] → Tally events stacks thread wanted refused was_opened stands_open awaits due inside last shown told waiting lines → Tally events stacks thread wanted refused was_opened stands_open awaits due inside last shown told waiting (lines ++ more)
+more_tally events stacks thread wanted refused was_opened stands_open awaits due inside last shown told waiting lines more nothing unseen h =
+    let same : sightings thread (lines ++ more) ≡ sightings thread lines = flat_map-append (sightings_in thread) lines more ∙ rw unseen (append-nil (sightings thread lines)) in
     record {
       idle = h.idle;
       shut = h.shut;
       ready = h.ready;
-      runs = h.runs;
+      before = h.before;
+      whole = h.whole;
+      below = h.below;
+      refused_below = h.refused_below;
       counted = h.counted;
       tells = rw (flat_map-append (events_in thread) lines more, nothing, append-nil (events_of thread lines)) h.tells;
+      seen = h.seen;
+      missed = h.missed;
+      skipped = h.skipped;
+      left = h.left;
+      told_is = h.told_is;
+      runs = h.runs;
+      missing_are = h.missing_are;
+      steady = rw same h.steady;
+      named = rw same h.named;
+    }
+
+-- A point names the thread, with the number that was told.
+pub point_tally : (events : List EventDef) (stacks : Bool) (thread : ℕ) (wanted : List Write) (refused : List ℕ) (was_opened stands_open awaits due inside : Bool) (last : Option Begun) (shown told : ℕ) (waiting : List EventEntry) (lines : List Entry) (point : PointEntry) → ((seen skipped : ℕ) (later : List Sighting) → seen + skipped ≡ told → missing seen (sightings thread (Point point ∷ []) ++ later) ≡ skipped + missing told later) → ((before : Option Sighting) → last_or before (sightings thread (Point point ∷ [])) ≡ Some (Known told)) → Tally events stacks thread wanted refused was_opened stands_open awaits due inside last shown told waiting lines → Tally events stacks thread wanted refused was_opened stands_open false due inside last shown told waiting (lines ++ Point point ∷ [])
+point_tally events stacks thread wanted refused was_opened stands_open awaits due inside last shown told waiting lines point steady named h =
+    let seen = sightings thread (Point point ∷ []) in
+    record {
+      idle = h.idle;
+      shut = h.shut;
+      ready = h.ready;
+      before = h.before;
+      whole = h.whole;
+      below = h.below;
+      refused_below = h.refused_below;
+      counted = h.counted;
+      tells = rw (flat_map-append (events_in thread) lines (Point point ∷ []), append-nil (events_of thread lines)) h.tells;
+      seen = told;
+      missed = h.missed + h.skipped;
+      skipped = 0;
+      left = h.left;
+      told_is = omega arith;
+      runs = h.runs;
+      missing_are = omega (arith, h.missing_are);
       steady = λ later.
-          rw (flat_map-append (sightings_in thread) lines more, append_assoc (sightings thread lines) (sightings thread more) later)
-          (h.steady (sightings thread more ++ later) ∙ none later);
+          rw (flat_map-append (sightings_in thread) lines (Point point ∷ []), append_assoc (sightings thread lines) seen later)
+          (h.steady (seen ++ later) ∙ ap (λ n. h.missed + n) (steady h.seen h.skipped later h.told_is) ∙ omega arith);
+      named = λ was shut told_all. (refl, ap (λ s. last_or None s) (flat_map-append (sightings_in thread) lines (Point point ∷ [])) ∙ last-append None (sightings thread lines) seen ∙ named (last_or None (sightings thread lines)));
     }

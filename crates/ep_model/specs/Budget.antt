@@ -1,14 +1,11 @@
 -- How much of a session's chunks one thread has: the words for what is counted since the thread's last Steal.
 use Rattle.std.specs.Prelude.{ℕ, ◌+◌, ◌*◌, Bool, ◌||◌, length, nat_lt, ◌==◌, if◌then◌else◌}
+use Rattle.ep_defs.specs.declared.limits.TheConstants.{CHUNK_BYTES, FRAME_BYTES, RECORD_BYTES}
 use Rattle.ep_defs.specs.declared.session.Write.{Write}
-
--- The bytes of a chunk (this project's profile).
-abbrev pub chunk_len : ℕ
-chunk_len = 65536
 
 -- The bytes of a write's record: 68, 8 for each frame, and the payload (this project's profile).
 abbrev pub record_size : Write → ℕ
-record_size write = 68 + 8 * length write.frames + length write.payload
+record_size write = RECORD_BYTES + FRAME_BYTES * length write.frames + length write.payload
 
 -- What a thread has of a session's chunks since the session's last Steal from it, or its Open there.
 pub record Pending : Type 0 where
@@ -23,7 +20,7 @@ no_pending = record { chunks = 0; used = 0 }
 
 -- A record of this size needs a chunk where nothing is pending, or where the last chunk lacks the room for it.
 abbrev pub needs_chunk : Pending → ℕ → Bool
-needs_chunk pending size = (pending.chunks == 0) || nat_lt chunk_len (pending.used + size)
+needs_chunk pending size = (pending.chunks == 0) || nat_lt CHUNK_BYTES (pending.used + size)
 
 -- How many chunks a record of this size begins.
 abbrev pub chunks_begun : Pending → ℕ → ℕ

@@ -1,6 +1,11 @@
 -- What the steps so far have come to. A past is the list of them, the newest first.
-use Rattle.std.specs.Prelude.{ℕ, zero, suc, ◌+◌, Bool, false, ◌&&◌, ◌||◌, not, List, [], ◌∷◌, ◌++◌, length, take, drop, filter, slice_get, Option, Some, None, unwrap_or, nat_lt, ◌==◌, if◌then◌else◌}
+use Rattle.std.specs.Prelude.{ℕ, ◌+◌, Bool, false, ◌&&◌, ◌||◌, not, List, [], ◌∷◌, ◌++◌, length, take, drop, filter, Option, Some, None, unwrap_or, nat_lt, ◌==◌, if◌then◌else◌}
+use Rattle.std.specs.Int.{is_in_range}
+use Rattle.std.specs.List.{list_any, range_with_len}
 use Rattle.std.specs.Option.{option_map_or}
+use Rattle.ep_defs.specs.declared.limits.TheConstants.{THREADS}
+pub use Rattle.ep_defs.specs.Definitions.{definition_at as event_at}
+use Rattle.ep_defs.specs.Definitions.{definition_at}
 use Rattle.ep_defs.specs.declared.event.EventDef.{EventDef}
 use Rattle.ep_defs.specs.declared.session.Config.{Config}
 use Rattle.ep_defs.specs.declared.session.Write.{Write}
@@ -40,6 +45,27 @@ is_finished session (_ ∷ past) = is_finished session past
 abbrev pub present : Past → List ℕ
 present past = filter (λ s. is_present s past) (accepted past)
 
+-- ---- threads
+
+-- The threads that came, the newest first. Threads 1 to 256 are there from the start.
+abbrev pub entered : Past → List ℕ
+entered [] = []
+entered (step.Enter t ∷ past) = t ∷ entered past
+entered (_ ∷ past) = entered past
+
+abbrev pub has_left : ℕ → Past → Bool
+has_left thread [] = false
+has_left thread (step.Leave t ∷ past) = (t == thread) || has_left thread past
+has_left thread (_ ∷ past) = has_left thread past
+
+-- The thread is there from the start, or came.
+abbrev pub was_there : ℕ → Past → Bool
+was_there thread past = is_in_range 1 THREADS thread || list_any (λ t. t == thread) (entered past)
+
+-- From the start, or from its Enter, to its Leave.
+abbrev pub is_there : ℕ → Past → Bool
+is_there thread past = was_there thread past && not (has_left thread past)
+
 -- ---- a session on a thread
 
 -- The number in its place among the others.
@@ -59,6 +85,14 @@ is_open session thread [] = false
 is_open session thread (step.Open s t ∷ past) = ((s == session) && (t == thread)) || is_open session thread past
 is_open session thread (step.Close s t ∷ past) = not ((s == session) && (t == thread)) && is_open session thread past
 is_open session thread (_ ∷ past) = is_open session thread past
+
+-- A row is taken while its thread is there, or a session is open on that thread (this project's profile).
+abbrev pub takes_row : ℕ → Past → Bool
+takes_row thread past = is_there thread past || list_any (λ s. is_open s thread past) (present past)
+
+-- The threads whose rows are taken.
+abbrev pub rows : Past → List ℕ
+rows past = filter (λ t. takes_row t past) (entered past ++ range_with_len 1 THREADS)
 
 -- ---- writes
 
@@ -106,36 +140,32 @@ last_begun thread (_ ∷ past) = last_begun thread past
 
 -- ---- admission
 
--- Events are numbered from 1.
-abbrev pub event_at : List EventDef → ℕ → Option EventDef
-event_at events zero = None
-event_at events (suc place) = slice_get events place
-
+-- The configuration admits the event of the write.
 abbrev pub admits_write : List EventDef → Option Config → Write → Bool
-admits_write events config write =
-    option_map_or (λ c. option_map_or (λ def. session_admits c def) (event_at events write.event) false) config false
+admits_write definitions config write =
+    option_map_or (λ c. option_map_or (λ def. session_admits c def) (definition_at definitions write.event) false) config false
 
 -- The writes of a list from this place on that a session gets.
 abbrev pub admitted_from : List EventDef → Option Config → ℕ → List Write → List Write
-admitted_from events config from writes = filter (λ write. admits_write events config write) (drop from writes)
+admitted_from definitions config from writes = filter (λ write. admits_write definitions config write) (drop from writes)
 
 -- The writes of a thread that a session gets, between its opening and its closing there; none where it was never opened.
 abbrev pub admitted : List EventDef → ℕ → ℕ → Past → List Write
-admitted events session thread past =
+admitted definitions session thread past =
     option_map_or
-    (λ from. admitted_from events (config_of session past) from (take (to_of session thread past) (writes_of thread past)))
+    (λ from. admitted_from definitions (config_of session past) from (take (to_of session thread past) (writes_of thread past)))
     (opened_at session thread past)
     []
 
 -- From the Begin of a write that the session gets, to its Show.
 abbrev pub is_due : List EventDef → ℕ → ℕ → Past → Bool
-is_due events session thread [] = false
-is_due events session thread (step.Begin t stamp write ∷ past) =
+is_due definitions session thread [] = false
+is_due definitions session thread (step.Begin t stamp write ∷ past) =
     if t == thread
-    then is_open session thread past && admits_write events (config_of session past) write
-    else is_due events session thread past
-is_due events session thread (step.Show t s ∷ past) = not ((s == session) && (t == thread)) && is_due events session thread past
-is_due events session thread (_ ∷ past) = is_due events session thread past
+    then is_open session thread past && admits_write definitions (config_of session past) write
+    else is_due definitions session thread past
+is_due definitions session thread (step.Show t s ∷ past) = not ((s == session) && (t == thread)) && is_due definitions session thread past
+is_due definitions session thread (_ ∷ past) = is_due definitions session thread past
 
 -- How many writes of a thread were shown to a session. The k-th of them has the number k.
 abbrev pub shows : ℕ → ℕ → Past → ℕ

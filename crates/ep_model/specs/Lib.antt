@@ -1,9 +1,12 @@
 pub mod Budget
+pub mod Chunks
 pub mod Entries
 pub mod Faithful
+pub mod Fold
 pub mod History
 pub mod Lawful
 pub mod Marks
 pub mod Only
+pub mod Ranges
 pub mod Schedules
-pub mod Sizes
+pub mod today

@@ -9,16 +9,10 @@
 //! `schedules`.
 #![tactic(auto)]
 
-mod laws;
-mod schedules;
+pub mod examples;
+pub mod laws;
+pub mod ranges;
 mod step;
+pub mod today;
 
-pub use laws::{
-    finished_sessions_are_faithful, lawful_lists_have_no_unlawful_step,
-    other_sessions_steps_do_not_matter,
-};
-pub use schedules::{
-    a_second_opening_has_a_kind, a_steal_in_a_write_has_a_kind, one_event_is_told_with_a_point,
-    sessions_number_their_own_events, shows_are_those_that_are_due,
-};
 pub use step::{Kind, Step, Unlawful};

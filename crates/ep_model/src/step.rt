@@ -1,7 +1,8 @@
 //! The steps of a schedule.
 use ep_defs::{Config, Write};
 
-/// One step of the traced program or of a tool. Sessions have numbers above 0, and threads numbers from 1 to 256.
+/// One step of the traced program or of a tool. Sessions have numbers above 0. Threads 1 to 256 are
+/// there from the start, and others come.
 #[derive(Debug, Drop)]
 pub enum Step {
     /// A session is accepted.
@@ -12,6 +13,14 @@ pub enum Step {
     /// It is opened on a thread, and gets the writes that the thread begins from then on.
     Open {
         session: u32,
+        thread: u32,
+    },
+    /// A thread comes, and takes a row.
+    Enter {
+        thread: u32,
+    },
+    /// It goes. Its row is free once no session is open on it.
+    Leave {
         thread: u32,
     },
     /// A thread begins a write.
@@ -63,7 +72,9 @@ pub enum Kind {
     Full,
     NoSession,
     NoThread,
+    ThreadsFull,
     AlreadyOpen,
+    ThreadLimit,
     InWrite,
     NotInWrite,
     NoEvent,

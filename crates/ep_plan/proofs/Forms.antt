@@ -53,6 +53,9 @@ unnamed first slice name h same = ap (is_same_text first) (sym same) ∙ sym h
 -- A line whose first word is the name of no form.
 pub step-none : (past : ℕ) (first : List ℕ) (words : List (List ℕ))
     → is_same_text first (codes "accept") ≡ false
+    → is_same_text first (codes "accept3") ≡ false
+    → is_same_text first (codes "enter") ≡ false
+    → is_same_text first (codes "leave") ≡ false
     → is_same_text first (codes "open") ≡ false
     → is_same_text first (codes "begin") ≡ false
     → is_same_text first (codes "show") ≡ false
@@ -64,7 +67,7 @@ pub step-none : (past : ℕ) (first : List ℕ) (words : List (List ℕ))
     → is_same_text first (codes "finish") ≡ false
     → step_bad past first words ≡ Some (bad_at 1 kind.Word)
 unfolding step_bad
-step-none past first words a b c d e f g h i j = rw (a, b, c, d, e, f, g, h, i, j) refl
+step-none past first words a b c d e f g h i j k l m = rw (a, b, c, d, e, f, g, h, i, j, k, l, m) refl
 
 -- A line that is good in its form.
 pub good-through : {T : Type 0} (r : Result T LineFault) (a b : Option Bad) → a ≡ b → OnOk r (b ≡ None) → OnOk r (a ≡ None)

@@ -1,5 +1,5 @@
 -- A line means one thing.
-use Rattle.std.proofs.Common.{◌≡◌, ℕ, ◌+◌, ◌*◌, ◌≤◌, Bool, true, false, List, [], ◌∷◌, length, get_or, Option, Some, None, refl, sym, ap, ◌∙◌, arith, codes, IsTrue, nat_lt, if◌then◌else◌}
+use Rattle.std.proofs.Common.{◌≡◌, inl, inr, ℕ, ◌+◌, ◌*◌, ◌≤◌, Bool, true, false, List, [], ◌∷◌, length, get_or, Option, Some, None, refl, sym, ap, ◌∙◌, arith, codes, IsTrue, nat_lt, if◌then◌else◌}
 use Rattle.std.specs.List.{list_any}
 use Rattle.ep_defs.specs.declared.event.EventDef.{EventDef}
 use Rattle.ep_defs.specs.declared.session.Config.{Config}
@@ -9,34 +9,38 @@ use Rattle.ep_model.specs.declared.step.Step.{Step}
 use Rattle.ep_model.specs.declared.step.Step.TheVariants as step
 use Rattle.ep_plan.specs.declared.line.Line.{Line}
 use Rattle.ep_plan.specs.declared.line.Line.TheVariants as line
-use Rattle.ep_plan.specs.Words.{words_of}
-use Rattle.ep_plan.specs.Lines.{Spells, Means, IsLine, is_blank, Bad, bad_at, bad_of, words_bad, event_bad}
+use Rattle.ep_plan.specs.Words.{words_of, rule_in, all_in}
+use Rattle.ep_plan.specs.Lines.{number_of, flag_of, Spells, Means, IsLine, is_blank, Bad, bad_at, bad_of, words_bad, event_bad}
 use Rattle.ep_plan.proofs.EventWords.{event-facts}
 use Rattle.ep_plan.specs.declared.line.LineKind.TheVariants as kind
 
--- The first two bytes of the first word.
+-- The first three bytes of the first word.
 abbrev first_of : List (List ℕ) → List ℕ
 first_of [] = []
 first_of (first ∷ words) = first
 
 abbrev lead : List (List ℕ) → ℕ
-lead words = 256 * get_or (first_of words) 0 0 + get_or (first_of words) 1 0
+lead words = 65536 * get_or (first_of words) 0 0 + 256 * get_or (first_of words) 1 0 + get_or (first_of words) 2 0
 
 abbrev lead_of : Step → ℕ
-lead_of (step.Accept s config) = lead (codes "ac" ∷ [])
-lead_of (step.Open s t) = lead (codes "op" ∷ [])
-lead_of (step.Begin t stamp write) = lead (codes "be" ∷ [])
-lead_of (step.Show t s) = lead (codes "sh" ∷ [])
-lead_of (step.End t) = lead (codes "en" ∷ [])
-lead_of (step.Steal s t) = lead (codes "st" ∷ [])
-lead_of (step.Give s) = lead (codes "gi" ∷ [])
-lead_of (step.Point s stamp) = lead (codes "po" ∷ [])
-lead_of (step.Close s t) = lead (codes "cl" ∷ [])
-lead_of (step.Finish s stamp) = lead (codes "fi" ∷ [])
+lead_of (step.Accept s config) = lead (codes "acc" ∷ [])
+lead_of (step.Enter t) = lead (codes "ent" ∷ [])
+lead_of (step.Leave t) = lead (codes "lea" ∷ [])
+lead_of (step.Open s t) = lead (codes "ope" ∷ [])
+lead_of (step.Begin t stamp write) = lead (codes "beg" ∷ [])
+lead_of (step.Show t s) = lead (codes "sho" ∷ [])
+lead_of (step.End t) = lead (codes "end" ∷ [])
+lead_of (step.Steal s t) = lead (codes "ste" ∷ [])
+lead_of (step.Give s) = lead (codes "giv" ∷ [])
+lead_of (step.Point s stamp) = lead (codes "poi" ∷ [])
+lead_of (step.Close s t) = lead (codes "clo" ∷ [])
+lead_of (step.Finish s stamp) = lead (codes "fin" ∷ [])
 
 leads : (words : List (List ℕ)) (s : Step) → Spells words s → lead words ≡ lead_of s
 unfolding Spells
-leads words (step.Accept s config) h = ap lead h.3
+leads words (step.Accept s config) h = elim h.3 [ inl accept ↦ ap lead accept.0 | inr accept3 ↦ ap lead accept3.1 ]
+leads words (step.Enter t) h = ap lead h.1
+leads words (step.Leave t) h = ap lead h.1
 leads words (step.Open s t) h = ap lead h.2
 leads words (step.Begin t stamp write) h = ap lead h.3
 leads words (step.Show t s) h = ap lead h.2
@@ -51,16 +55,52 @@ same-config : (a b : Config) → a.rules ≡ b.rules → a.chunks ≡ b.chunks �
 same-config a b rules chunks stackwalk rundown =
     λ i. record { rules = rules i; chunks = chunks i; stackwalk = stackwalk i; rundown = rundown i }
 
+-- An `accept` line is no `accept3` line.
+accept-accept3 : (words others : List (List ℕ)) → codes "accept" ∷ words ≡ codes "accept3" ∷ others → ⊥
+accept-accept3 words others e = absurd (omega (arith, ap (λ line. length (first_of line)) e))
+
+same-accept : (s s' : ℕ) (config config' : Config) (a b a' b' : List ℕ) (rules rules' : List (List ℕ)) → a ≡ a' → b ≡ b' → rules ≡ rules' → number_of a ≡ Some s → number_of a' ≡ Some s' → number_of b ≡ Some config.chunks → number_of b' ≡ Some config'.chunks → all_in rule_in rules ≡ Some config.rules → all_in rule_in rules' ≡ Some config'.rules → config.stackwalk ≡ config'.stackwalk → config.rundown ≡ config'.rundown → ◌≡◌ {A = Step} (step.Accept s config) (step.Accept s' config')
+same-accept s s' config config' a b a' b' rules rules' first second others session session' chunks chunks' list list' stackwalk rundown =
+    let number : Some s ≡ Some s' = sym session ∙ ap number_of first ∙ session' in
+    let count : Some config.chunks ≡ Some config'.chunks = sym chunks ∙ ap number_of second ∙ chunks' in
+    let all : Some config.rules ≡ Some config'.rules = sym list ∙ ap (all_in rule_in) others ∙ list' in
+    let same : s ≡ s' = cc in
+    let budget : config.chunks ≡ config'.chunks = cc in
+    let read : config.rules ≡ config'.rules = cc in
+    let whole = same-config config config' read budget stackwalk rundown in
+    cc
+
 -- The words of a line spell one step at most.
 same-step : (words : List (List ℕ)) (a b : Step) → Spells words a → Spells words b → a ≡ b
 unfolding Spells
 same-step words (step.Accept s config) (step.Accept s' config') h k =
-    let rules : config.rules ≡ config'.rules = cc in
-    let chunks : config.chunks ≡ config'.chunks = cc in
-    let stackwalk : config.stackwalk ≡ config'.stackwalk = cc in
-    let rundown : config.rundown ≡ config'.rundown = cc in
-    let same = same-config config config' rules chunks stackwalk rundown in
-    cc
+    elim h.3 [
+      | inl one ↦
+          elim k.3 [
+            | inl other ↦
+                let e : codes "accept" ∷ h.0 ∷ h.1 ∷ h.2 ≡ codes "accept" ∷ k.0 ∷ k.1 ∷ k.2 = sym one.0 ∙ other.0 in
+                let first : h.0 ≡ k.0 = cc in
+                let second : h.1 ≡ k.1 = cc in
+                let others : h.2 ≡ k.2 = cc in
+                same-accept s s' config config' h.0 h.1 k.0 k.1 h.2 k.2 first second others h.4 k.4 h.5 k.5 h.6 k.6 (one.1 ∙ sym other.1) (h.7 ∙ sym k.7)
+            | inr other ↦ absurd (accept-accept3 _ _ (sym one.0 ∙ other.1))
+          ]
+      | inr one ↦
+          elim k.3 [
+            | inl other ↦ absurd (accept-accept3 _ _ (sym other.0 ∙ one.1))
+            | inr other ↦
+                let e : codes "accept3" ∷ h.0 ∷ h.1 ∷ one.0 ∷ h.2 ≡ codes "accept3" ∷ k.0 ∷ k.1 ∷ other.0 ∷ k.2 = sym one.1 ∙ other.1 in
+                let flag : one.0 ≡ other.0 = cc in
+                let same : Some config.stackwalk ≡ Some config'.stackwalk = sym one.2 ∙ ap flag_of flag ∙ other.2 in
+                let stackwalk : config.stackwalk ≡ config'.stackwalk = cc in
+                let first : h.0 ≡ k.0 = cc in
+                let second : h.1 ≡ k.1 = cc in
+                let others : h.2 ≡ k.2 = cc in
+                same-accept s s' config config' h.0 h.1 k.0 k.1 h.2 k.2 first second others h.4 k.4 h.5 k.5 h.6 k.6 stackwalk (h.7 ∙ sym k.7)
+          ]
+    ]
+same-step words (step.Enter t) (step.Enter t') h k = cc
+same-step words (step.Leave t) (step.Leave t') h k = cc
 same-step words (step.Open s t) (step.Open s' t') h k = cc
 same-step words (step.Begin t stamp write) (step.Begin t' stamp' write') h k = cc
 same-step words (step.Show t s) (step.Show t' s') h k = cc
@@ -74,8 +114,10 @@ same-step words a b h k =
     let e : lead_of a ≡ lead_of b = sym (leads words a h) ∙ leads words b k in
     absurd (omega arith)
 
-lead_of-event : (s : Step) → lead_of s ≡ lead (codes "ev" ∷ []) → ⊥
+lead_of-event : (s : Step) → lead_of s ≡ lead (codes "eve" ∷ []) → ⊥
 lead_of-event (step.Accept s config) e = absurd (omega arith)
+lead_of-event (step.Enter t) e = absurd (omega arith)
+lead_of-event (step.Leave t) e = absurd (omega arith)
 lead_of-event (step.Open s t) e = absurd (omega arith)
 lead_of-event (step.Begin t stamp write) e = absurd (omega arith)
 lead_of-event (step.Show t s) e = absurd (omega arith)

@@ -1,10 +1,12 @@
 -- The words of a line that is written.
-use Rattle.std.proofs.Common.{◌≡◌, ℕ, ◌+◌, ◌<◌, ◌≤◌, List, [], ◌∷◌, ◌++◌, length, map, take, get_or, refl, sym, ap, ◌∙◌, subst, append_assoc, Result, Ok, Err, OnOk}
+use Rattle.std.proofs.Common.{◌≡◌, ℕ, ◌+◌, ◌<◌, ◌≤◌, true, false, codes, List, [], ◌∷◌, ◌++◌, length, map, take, get_or, refl, sym, ap, ◌∙◌, subst, append_assoc, Result, Ok, Err, OnOk}
 use Rattle.std.specs.List.{join_with_byte, AllByRecursion}
 use Rattle.std.proofs.lemmas.List.{append-nil, take_more, take_all, map-append}
+use Rattle.ep_defs.specs.declared.session.Config.{Config}
 use Rattle.ep_defs.specs.declared.session.Rule.{Rule}
 use Rattle.ep_plan.specs.Words.{number_text, rule_text}
-use Rattle.ep_plan.specs.Printing.{spaced, number_words, RuleFits}
+use Rattle.ep_model.specs.declared.step.Step.TheVariants as step
+use Rattle.ep_plan.specs.Printing.{spaced, number_words, step_words, RuleFits}
 use Rattle.ep_plan.proofs.Texts.{join-push}
 
 -- ---- words behind others
@@ -91,3 +93,11 @@ word-all start line rules count all h = h ∙ ap (λ rs. start ++ spaced (map ru
 pub ok-line : {T E : Type 0} (r : Result T E) (start line next first : List ℕ) (xs ys : List (List ℕ)) → line ≡ start ++ join_with_byte 32 (first ∷ xs) → OnOk r (next ≡ line ++ spaced ys) → OnOk r (next ≡ start ++ join_with_byte 32 (first ∷ (xs ++ ys)))
 ok-line (Ok x) start line next first xs ys h more = line-more start line next first xs ys h more
 ok-line (Err e) start line next first xs ys h more = tt
+
+-- ---- accept lines
+
+pub accept-words : (session : ℕ) (config : Config) → config.stackwalk ≡ true → step_words (step.Accept session config) ≡ codes "accept" ∷ number_text session ∷ number_text config.chunks ∷ map rule_text config.rules
+accept-words session config h = rw h refl
+
+pub accept3-words : (session : ℕ) (config : Config) → config.stackwalk ≡ false → step_words (step.Accept session config) ≡ codes "accept3" ∷ number_text session ∷ number_text config.chunks ∷ number_text 0 ∷ map rule_text config.rules
+accept3-words session config h = rw h refl

@@ -1,10 +1,11 @@
 -- The line that is written for a step is read as that step.
-use Rattle.std.proofs.Common.{◌≡◌, ◌&&◌, not, ℕ, zero, suc, ◌+◌, ◌-◌, ◌^◌, ◌<◌, ◌≤◌, Bool, true, false, nat_le, List, [], ◌∷◌, length, map, codes, Some, None, IsTrue, refl, sym, ap, ◌∙◌, subst, arith}
+use Rattle.std.proofs.Common.{◌≡◌, ◌==◌, ◌&&◌, not, cond, inl, inr, option_map, ℕ, zero, suc, ◌+◌, ◌-◌, ◌^◌, ◌<◌, ◌≤◌, Bool, true, false, nat_le, List, [], ◌∷◌, length, map, codes, Some, None, IsTrue, refl, sym, ap, ◌∙◌, subst, arith}
 use Rattle.std.specs.List.{list_all, join_with_byte, AllByRecursion}
 use Rattle.std.specs.Int.{is_in_range}
 use Rattle.std.proofs.lemmas.Bool.{and_parts, and_from, not-true}
 use Rattle.std.proofs.lemmas.Bool.Decides.{nat_tests}
 use Rattle.ep_defs.specs.declared.event.EventDef.{EventDef}
+use Rattle.ep_defs.specs.declared.session.Config.{Config}
 use Rattle.ep_defs.specs.declared.session.Rule.{Rule as RuleValue}
 use Rattle.ep_defs.specs.declared.session.Write.{Write}
 use Rattle.ep_defs.specs.Event.{is_same_text}
@@ -13,7 +14,7 @@ use Rattle.ep_model.specs.declared.step.Step.TheVariants as step
 use Rattle.ep_plan.specs.declared.line.Line.TheVariants as line
 use Rattle.ep_plan.specs.declared.line.LineKind.TheVariants as kind
 use Rattle.ep_plan.specs.Words.{words_of, is_name, rule_in, all_in, with_first, number_text, id_text, frames_text, payload_text, rule_text}
-use Rattle.ep_plan.specs.Lines.{Part, Number, Stamp, Id, Frames, Payload, Rule, Form, form, accept_form, begin_parts, unless, number_of, stamp_of, write_of, first_bad, fault_of, spelling_fault, form_bad, step_bad, is_blank, Spells, Means, IsLine}
+use Rattle.ep_plan.specs.Lines.{Part, Number, Flag, Stamp, Id, Frames, Payload, Rule, Form, form, accept_form, accept3_form, begin_parts, unless, number_of, flag_of, stamp_of, write_of, first_bad, fault_of, spelling_fault, form_bad, step_bad, is_blank, Spells, Means, IsLine}
 use Rattle.ep_plan.specs.Printing.{step_words, step_text, can_print, has_rules, has_parts, RuleFits, WriteFits, StepFits}
 use Rattle.ep_plan.proofs.Lacks.{lacks, all_lack}
 use Rattle.ep_plan.proofs.NumberTexts.{number_in-number_text}
@@ -154,18 +155,48 @@ write-read write fits = write-is _ (number_text write.event) (id_text write.acti
 
 -- ---- steps
 
+-- The words of an Accept without stacks, behind the first.
+abbrev words_of_three : ℕ → Config → List (List ℕ)
+words_of_three session config = number_text session ∷ number_text config.chunks ∷ number_text 0 ∷ map rule_text config.rules
+
+accept-again : (events : List EventDef) (stepped : Bool) (session : ℕ) (config : Config) → StepFits (step.Accept session config) → IsTrue (can_print (step.Accept session config)) → has_rules config.rules ≡ true → config.rundown ≡ false → (stackwalk : Bool) → config.stackwalk ≡ stackwalk → IsLine events stepped (step_text (step.Accept session config)) (line.Step (step.Accept session config))
+unfolding Spells
+accept-again events stepped session config fits can has none true walks =
+    let rules = and_parts (is_in_range 1 1000 (length config.rules)) (list_all (λ rule. is_name rule.name) config.rules) has in
+    let words = number_text session ∷ number_text config.chunks ∷ map rule_text config.rules in
+    let text = ap (λ b. join_with_byte 32 (cond b (codes "accept" ∷ words) (codes "accept3" ∷ words_of_three session config))) walks in
+    line-of events stepped (step.Accept session config) (codes "accept") words accept_form can (rw walks refl)
+    (lack-more (number_text session) (number_text config.chunks ∷ map rule_text config.rules) (is-word session fits.0) (lack-more (number_text config.chunks) (map rule_text config.rules) (is-word config.chunks fits.1) (rules-lack config.rules rules.1 fits.2)))
+    (ap is_blank text) refl refl
+    (good-number session fits.0, (good-number config.chunks fits.1, accept-good config.rules rules.0 rules.1 fits.2))
+    (number_text session, number_text config.chunks, map rule_text config.rules, inl (refl, walks), reads session fits.0, reads config.chunks fits.1, rules-read config.rules rules.1 fits.2, none)
+accept-again events stepped session config fits can has none false walks =
+    let rules = and_parts (is_in_range 1 1000 (length config.rules)) (list_all (λ rule. is_name rule.name) config.rules) has in
+    let words = number_text session ∷ number_text config.chunks ∷ map rule_text config.rules in
+    let text = ap (λ b. join_with_byte 32 (cond b (codes "accept" ∷ words) (codes "accept3" ∷ words_of_three session config))) walks in
+    let flag : flag_of (number_text 0) ≡ Some false = ap (option_map (λ n. n == 1)) (number_in-number_text 1 0 (omega arith) (omega arith)) in
+    line-of events stepped (step.Accept session config) (codes "accept3") (words_of_three session config) accept3_form can (rw walks refl)
+    (lack-more (number_text session) (number_text config.chunks ∷ number_text 0 ∷ map rule_text config.rules) (is-word session fits.0) (lack-more (number_text config.chunks) (number_text 0 ∷ map rule_text config.rules) (is-word config.chunks fits.1) (lack-more (number_text 0) (map rule_text config.rules) (is-word 0 (omega arith)) (rules-lack config.rules rules.1 fits.2))))
+    (ap is_blank text) refl refl
+    (good-number session fits.0, (good-number config.chunks fits.1, (good-as Flag (number_text 0) (is-word 0 (omega arith)) (ap (λ o. unless o kind.Number) flag), accept-good config.rules rules.0 rules.1 fits.2)))
+    (number_text session, number_text config.chunks, map rule_text config.rules, inr (number_text 0, refl, flag ∙ ap Some (sym walks)), reads session fits.0, reads config.chunks fits.1, rules-read config.rules rules.1 fits.2, none)
+
 pub read-again : (events : List EventDef) (stepped : Bool) (made : Step) → StepFits made → IsTrue (can_print made) → IsLine events stepped (step_text made) (line.Step made)
 unfolding Spells can_print
 read-again events stepped (step.Accept session config) fits can =
     let parts = and_parts (has_parts (step.Accept session config)) (nat_le (length (step_text (step.Accept session config))) 262144) can in
-    let last = and_parts (has_rules config.rules && config.stackwalk) (not config.rundown) parts.0 in
-    let first = and_parts (has_rules config.rules) config.stackwalk last.0 in
-    let rules = and_parts (is_in_range 1 1000 (length config.rules)) (list_all (λ rule. is_name rule.name) config.rules) first.0 in
-    line-of events stepped (step.Accept session config) (codes "accept") (number_text session ∷ number_text config.chunks ∷ map rule_text config.rules) accept_form can refl
-    (lack-more (number_text session) (number_text config.chunks ∷ map rule_text config.rules) (is-word session fits.0) (lack-more (number_text config.chunks) (map rule_text config.rules) (is-word config.chunks fits.1) (rules-lack config.rules rules.1 fits.2)))
-    refl refl refl
-    (good-number session fits.0, (good-number config.chunks fits.1, accept-good config.rules rules.0 rules.1 fits.2))
-    (number_text session, number_text config.chunks, map rule_text config.rules, refl, reads session fits.0, reads config.chunks fits.1, rules-read config.rules rules.1 fits.2, first.1, not-true config.rundown last.1)
+    let whole = and_parts (has_rules config.rules) (not config.rundown) parts.0 in
+    accept-again events stepped session config fits can whole.0 (not-true config.rundown whole.1) config.stackwalk refl
+read-again events stepped (step.Enter thread) fits can =
+    line-of events stepped (step.Enter thread) (codes "enter") (number_text thread ∷ []) (form (codes "enter") (Number ∷ [])) can refl
+    (lack-one _ (is-word thread fits)) refl refl refl
+    (good-number thread fits, tt)
+    (number_text thread, refl, reads thread fits)
+read-again events stepped (step.Leave thread) fits can =
+    line-of events stepped (step.Leave thread) (codes "leave") (number_text thread ∷ []) (form (codes "leave") (Number ∷ [])) can refl
+    (lack-one _ (is-word thread fits)) refl refl refl
+    (good-number thread fits, tt)
+    (number_text thread, refl, reads thread fits)
 read-again events stepped (step.Open session thread) fits can =
     line-of events stepped (step.Open session thread) (codes "open") (number_text session ∷ number_text thread ∷ []) (form (codes "open") (Number ∷ Number ∷ [])) can refl
     (lack-two _ _ (is-word session fits.0) (is-word thread fits.1)) refl refl refl

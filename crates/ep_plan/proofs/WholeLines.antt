@@ -44,7 +44,7 @@ step-first events stepped past first words h = ap (λ b. if b then event_bad eve
 -- The first word is empty.
 no-first : (events : List EventDef) (stepped : Bool) (past : ℕ) (words : List (List ℕ)) → words ≢ [] → has_word words ≡ false → words_bad events stepped past words ≡ Some (bad_at 1 kind.Word)
 no-first events stepped past [] some h = absurd (some refl)
-no-first events stepped past ([] ∷ words) some h = step-first events stepped past [] words refl ∙ step-none past [] words refl refl refl refl refl refl refl refl refl refl
+no-first events stepped past ([] ∷ words) some h = step-first events stepped past [] words refl ∙ step-none past [] words refl refl refl refl refl refl refl refl refl refl refl refl refl
 no-first events stepped past ((byte ∷ word) ∷ words) some h = cc
 
 pub empty-first : (events : List EventDef) (stepped : Bool) (text : List ℕ) → length text ≤ 262144 → is_blank text ≡ false → has_word (words_of text) ≡ false → bad_of events stepped text ≡ Some (bad_at 1 kind.Word)

@@ -1,5 +1,5 @@
 -- What a line of a schedule means, and what is wrong with it.
-use Rattle.std.specs.Prelude.{◌≡◌, ℕ, zero, suc, ◌+◌, ◌-◌, ◌^◌, Bool, true, false, ◌&&◌, List, [], ◌∷◌, length, codes, find, Option, Some, None, option_map, option_and_then, nat_lt, nat_le, ◌==◌, if◌then◌else◌}
+use Rattle.std.specs.Prelude.{◌≡◌, ℕ, zero, suc, ◌+◌, ◌-◌, ◌^◌, Bool, true, false, ◌&&◌, ◌⊎◌, List, [], ◌∷◌, length, codes, find, Option, Some, None, option_map, option_and_then, nat_lt, nat_le, ◌==◌, if◌then◌else◌}
 use Rattle.std.specs.List.{list_any}
 use Rattle.std.specs.Option.{option_or}
 use Rattle.ep_defs.specs.declared.event.EventDef.{EventDef}
@@ -20,6 +20,8 @@ pub data Part : Type 0 where
   -- the number of an event, which has to be this one
   Index : (next : ℕ) → Part
   Number : Part
+  -- 0 or 1
+  Flag : Part
   Stamp : Part
   Provider : Part
   Name : Part
@@ -41,9 +43,13 @@ pub record Form : Type 0 where
 abbrev pub form : List ℕ → List Part → Form
 form name parts = record { name = name; parts = parts; more_rules = 0 }
 
--- An `accept` line has 1 to 1,000 rules.
+-- A session's number, its chunks, and 1 to 1,000 rules.
 abbrev pub accept_form : Form
 accept_form = record { name = codes "accept"; parts = Number ∷ Number ∷ Rule ∷ []; more_rules = 999 }
+
+-- The same with a flag before the rules: whether the session has stacks.
+abbrev pub accept3_form : Form
+accept3_form = record { name = codes "accept3"; parts = Number ∷ Number ∷ Flag ∷ Rule ∷ []; more_rules = 999 }
 
 -- The definition of an event: PROVIDER ID VERSION LEVEL KEYWORDS NAME FIELDS.
 abbrev pub definition_parts : List Part
@@ -64,6 +70,9 @@ begin_parts = Number ∷ Stamp ∷ write_parts
 abbrev pub step_forms : List Form
 step_forms =
     accept_form
+    ∷ accept3_form
+    ∷ form (codes "enter") (Number ∷ [])
+    ∷ form (codes "leave") (Number ∷ [])
     ∷ form (codes "open") (Number ∷ Number ∷ [])
     ∷ form (codes "begin") begin_parts
     ∷ form (codes "show") (Number ∷ Number ∷ [])
@@ -84,6 +93,10 @@ number_of word = number_in (2 ^ 32 - 1) word
 abbrev pub stamp_of : List ℕ → Option ℕ
 stamp_of word = number_in (2 ^ 64 - 1) word
 
+-- Flags are 0 or 1.
+abbrev pub flag_of : List ℕ → Option Bool
+flag_of word = option_map (λ number. number == 1) (number_in 1 word)
+
 -- This kind, where a word spells nothing.
 abbrev pub unless : {A : Type 0} → Option A → LineKind → Option LineKind
 unless None kind = Some kind
@@ -98,6 +111,7 @@ order_fault next (Some index) = if (index == next) && nat_le index 1000 then Non
 abbrev pub spelling_fault : Part → List ℕ → Option LineKind
 spelling_fault (Index next) word = order_fault next (number_of word)
 spelling_fault Number word = unless (number_of word) kind.Number
+spelling_fault Flag word = unless (flag_of word) kind.Number
 spelling_fault Stamp word = unless (stamp_of word) kind.Number
 spelling_fault Provider word = unless (provider_in word) kind.Word
 spelling_fault Name word = unless (event_name_in word) kind.Word
@@ -226,12 +240,20 @@ abbrev pub SpellStamp : List ℕ → List (List ℕ) → ℕ → ℕ → Type 0
 SpellStamp name words number stamp =
     (a : List ℕ) × (b : List ℕ) × (words ≡ name ∷ a ∷ b ∷ []) × (number_of a ≡ Some number) × (stamp_of b ≡ Some stamp)
 
+-- An `accept` line asks for stacks; an `accept3` line says whether.
+abbrev pub AsksFor : List (List ℕ) → List ℕ → List ℕ → List (List ℕ) → Bool → Type 0
+AsksFor words session chunks rules stackwalk =
+    ((words ≡ codes "accept" ∷ session ∷ chunks ∷ rules) × (stackwalk ≡ true))
+    ⊎ ((flag : List ℕ) × (words ≡ codes "accept3" ∷ session ∷ chunks ∷ flag ∷ rules) × (flag_of flag ≡ Some stackwalk))
+
 -- The words of a line spell this step.
 unfoldable pub Spells : List (List ℕ) → Step → Type 0
 Spells words (step.Accept session config) =
-    (a : List ℕ) × (b : List ℕ) × (rules : List (List ℕ)) × (words ≡ codes "accept" ∷ a ∷ b ∷ rules)
+    (a : List ℕ) × (b : List ℕ) × (rules : List (List ℕ)) × AsksFor words a b rules config.stackwalk
     × (number_of a ≡ Some session) × (number_of b ≡ Some config.chunks) × (all_in rule_in rules ≡ Some config.rules)
-    × (config.stackwalk ≡ true) × (config.rundown ≡ false)
+    × (config.rundown ≡ false)
+Spells words (step.Enter thread) = SpellNumber (codes "enter") words thread
+Spells words (step.Leave thread) = SpellNumber (codes "leave") words thread
 Spells words (step.Open session thread) = SpellNumbers (codes "open") words session thread
 Spells words (step.Begin thread stamp write) =
     (a : List ℕ) × (b : List ℕ) × (rest : List (List ℕ)) × (words ≡ codes "begin" ∷ a ∷ b ∷ rest)

@@ -1,5 +1,5 @@
 -- The line that is written for a step.
-use Rattle.std.specs.Prelude.{◌≡◌, ℕ, ◌^◌, ◌<◌, Bool, true, not, ◌&&◌, List, [], ◌∷◌, length, map, codes, nat_le, slice_index}
+use Rattle.std.specs.Prelude.{◌≡◌, ℕ, ◌^◌, ◌<◌, Bool, true, not, ◌&&◌, List, [], ◌∷◌, length, map, codes, nat_le, slice_index, if◌then◌else◌}
 use Rattle.std.specs.List.{list_all, join_with_byte, flat_map, AllByRecursion}
 use Rattle.std.specs.Int.{is_in_range}
 use Rattle.hex.specs.Hex.{IsBytes}
@@ -17,10 +17,14 @@ spaced words = flat_map (λ word. 32 ∷ word) words
 abbrev pub number_words : List ℕ → List ℕ → List (List ℕ)
 number_words name numbers = name ∷ map number_text numbers
 
--- The words of a step's line.
+-- The words of a step's line. A line can say nothing of a rundown.
 abbrev pub step_words : Step → List (List ℕ)
 step_words (step.Accept session config) =
-    codes "accept" ∷ number_text session ∷ number_text config.chunks ∷ map rule_text config.rules
+    if config.stackwalk
+    then codes "accept" ∷ number_text session ∷ number_text config.chunks ∷ map rule_text config.rules
+    else codes "accept3" ∷ number_text session ∷ number_text config.chunks ∷ number_text 0 ∷ map rule_text config.rules
+step_words (step.Enter thread) = number_words (codes "enter") (thread ∷ [])
+step_words (step.Leave thread) = number_words (codes "leave") (thread ∷ [])
 step_words (step.Open session thread) = number_words (codes "open") (session ∷ thread ∷ [])
 step_words (step.Begin thread stamp write) =
     codes "begin" ∷ number_text thread ∷ number_text stamp ∷ number_text write.event
@@ -42,7 +46,7 @@ abbrev pub has_rules : List Rule → Bool
 has_rules rules = is_in_range 1 1000 (length rules) && list_all (λ rule. is_name rule.name) rules
 
 abbrev pub has_parts : Step → Bool
-has_parts (step.Accept session config) = has_rules config.rules && config.stackwalk && not config.rundown
+has_parts (step.Accept session config) = has_rules config.rules && not config.rundown
 has_parts _ = true
 
 -- A line can hold the step.
@@ -65,6 +69,8 @@ pub record WriteFits (write : Write) : Type 0 where
 
 abbrev pub StepFits : Step → Type 0
 StepFits (step.Accept session config) = (session < 2 ^ 32) × (config.chunks < 2 ^ 32) × AllByRecursion RuleFits config.rules
+StepFits (step.Enter thread) = thread < 2 ^ 32
+StepFits (step.Leave thread) = thread < 2 ^ 32
 StepFits (step.Open session thread) = (session < 2 ^ 32) × (thread < 2 ^ 32)
 StepFits (step.Begin thread stamp write) = (thread < 2 ^ 32) × (stamp < 2 ^ 64) × WriteFits write
 StepFits (step.Show thread session) = (thread < 2 ^ 32) × (session < 2 ^ 32)

@@ -1,5 +1,5 @@
 //! Reading the words of an `event` line.
-ghost use Rattle.std.specs.Prelude.{◌≡◌, ◌≤◌, ℕ, List, ◌∷◌, length, Some, None, Err, IfOk, OnOk};
+ghost use Rattle.std.specs.Prelude.{◌≡◌, ℕ, List, ◌∷◌, Some, None, Err, IfOk, OnOk};
 ghost use Rattle.std.specs.List.{list_any};
 ghost use Rattle.ep_defs.specs.Event.{is_same_event};
 ghost use Rattle.ep_plan.specs.declared.line.LineKind.{LineKind};
@@ -19,7 +19,6 @@ pub(crate) fn read_event(
     events: &[EventDef],
     stepped: bool,
 ) -> Result<(u32, EventDef), LineFault>
-    requires few { length events.now ≤ 1000 }
     requires behind_event { BeginsAt 7 words.old }
     ensures read { IfOk result (λ read. (number : List ℕ) × (rest : List (List ℕ)) × (left words.old ≡ number ∷ rest) × (number_of number ≡ Some read.0) × (definition_of rest ≡ Some read.1)) }
     ensures good { OnOk result (event_bad events.now stepped words.old.past (left words.old) ≡ None) }

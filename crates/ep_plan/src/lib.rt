@@ -18,7 +18,7 @@ mod words;
 
 pub use line::{Line, LineFault, LineKind, a_line_means_one_thing, read_line};
 pub use print::print_step;
-pub use words::number;
+pub use words::{number, rule};
 
 #[cfg(test)]
 mod tests;

@@ -1,5 +1,5 @@
 //! Reading a line.
-ghost use Rattle.std.specs.Prelude.{◌≡◌, ◌≤◌, ◌+◌, ℕ, true, false, List, length, Some, None, Err, IsTrue, IfOk, IfErr};
+ghost use Rattle.std.specs.Prelude.{◌≡◌, ◌≤◌, ◌+◌, ℕ, false, List, length, Some, None, Err, IsTrue, IfOk, IfErr};
 ghost use Rattle.std.specs.List.{list_any};
 ghost use Rattle.ep_defs.specs.declared.event.EventDef.{EventDef};
 ghost use Rattle.ep_defs.specs.Event.{is_valid_event, is_same_event};
@@ -59,8 +59,8 @@ impl From<AllocError> for LineFault {
     }
 }
 
-/// Reads one line, without its line feed. `events` are the definitions read so far, at most 1,000, and `stepped` says
-/// that a step line came before.
+/// Reads one line, without its line feed. `events` are the definitions read so far, and `stepped` says that a step
+/// line came before.
 pub fn read_line(
     alloc: Global,
     text: &[u8],
@@ -68,7 +68,6 @@ pub fn read_line(
     events: &[EventDef],
     stepped: bool,
 ) -> Result<Line, LineFault>
-    requires { length events.now ≤ 1000 }
     ensures read { IfOk result (λ read. IsLine events.now stepped text.now read) }
     ensures bad { (at column : ℕ) (kind : LineKind) → result ≡ Err (Refused at column kind)
         → (at ≡ line) × (bad_of events.now stepped text.now ≡ Some (record { column = column; kind = kind })) }

@@ -3,13 +3,14 @@ ghost use Rattle.std.specs.Prelude.{◌≡◌, ◌<◌, ◌^◌, ◌++◌, ℕ, 
 ghost use Rattle.std.specs.List.{list_all, join_with_byte, AllByRecursion};
 ghost use Rattle.hex.specs.Hex.{IsBytes};
 ghost use Rattle.ep_defs.specs.declared.event.EventDef.{EventDef};
+ghost use Rattle.ep_model.specs.declared.step.Step.TheVariants.{Accept};
 ghost use Rattle.ep_plan.specs.declared.line.Line.TheVariants.{Step as StepLine};
 ghost use Rattle.ep_plan.specs.Lines.{IsLine};
 ghost use Rattle.ep_plan.specs.Words.{is_name, id_text, frames_text, payload_text, rule_text};
 ghost use Rattle.ep_plan.specs.Printing.{spaced, number_words, step_text, has_parts, can_print, RuleFits, WriteFits, StepFits};
 
 use crate::words::{put_frames, put_id, put_number, put_payload, put_rule};
-use ep_defs::{Rule, Write};
+use ep_defs::{Config, Rule, Write};
 use ep_model::Step;
 use std::alloc::{AllocError, Global};
 
@@ -33,14 +34,9 @@ fn put_step(line: &mut Vec<u8>, step: &Step) -> Result<(), AllocError>
     ensures fits { OnOk result (StepFits step.now) }
 {
     match step {
-        Step::Accept { session, config } => {
-            put_numbers(
-                line,
-                b"accept",
-                &[u64::from(*session), u64::from(config.chunks)],
-            )?;
-            put_rules(line, config.rules.as_slice())
-        }
+        Step::Accept { session, config } => put_accept(line, *session, config),
+        Step::Enter { thread } => put_numbers(line, b"enter", &[u64::from(*thread)]),
+        Step::Leave { thread } => put_numbers(line, b"leave", &[u64::from(*thread)]),
         Step::Open { session, thread } => put_pair(line, b"open", *session, *thread),
         Step::Begin {
             thread,
@@ -62,6 +58,24 @@ fn put_step(line: &mut Vec<u8>, step: &Step) -> Result<(), AllocError>
         Step::Finish { session, stamp } => {
             put_numbers(line, b"finish", &[u64::from(*session), *stamp])
         }
+    }
+}
+
+// Appends the line of an Accept: `accept` where the session has stacks, else `accept3` with the flag 0.
+fn put_accept(line: &mut Vec<u8>, session: u32, config: &Config) -> Result<(), AllocError>
+    requires { IsTrue (has_parts (Accept session config.now)) }
+    ensures text { OnOk result (line.new.items ≡ line.old.items ++ step_text (Accept session config.now)) }
+    ensures fits { OnOk result (StepFits (Accept session config.now)) }
+{
+    let session = u64::from(session);
+    let chunks = u64::from(config.chunks);
+    let rules = config.rules.as_slice();
+    if config.stackwalk {
+        put_numbers(line, b"accept", &[session, chunks])?;
+        put_rules(line, rules)
+    } else {
+        put_numbers(line, b"accept3", &[session, chunks, 0])?;
+        put_rules(line, rules)
     }
 }
 

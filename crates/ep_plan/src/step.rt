@@ -2,7 +2,7 @@
 ghost use Rattle.std.specs.Prelude.{◌≡◌, ◌+◌, ℕ, List, [], ◌∷◌, ◌++◌, length, codes, Some, None, Err, IfOk, OnOk};
 ghost use Rattle.ep_plan.specs.declared.line.LineKind.{LineKind};
 ghost use Rattle.ep_plan.specs.declared.line.LineFault.TheVariants.{Bad as Refused};
-ghost use Rattle.ep_plan.specs.Lines.{Number, Stamp, Rule as RulePart, begin_parts, write_parts, number_of, stamp_of, write_of, bad_at, step_bad, Spells};
+ghost use Rattle.ep_plan.specs.Lines.{Number, Flag, Stamp, Rule as RulePart, begin_parts, write_parts, number_of, stamp_of, write_of, bad_at, step_bad, Spells};
 ghost use Rattle.ep_plan.specs.Words.{rule_in, all_in};
 ghost use Rattle.ep_plan.specs.Cursor.{left, bad_left, BeginsAt};
 
@@ -56,6 +56,17 @@ pub(crate) fn read_step(alloc: Global, first: &[u8], words: &mut Cursor) -> Resu
     if first == b"finish".as_slice() {
         let (session, stamp) = number_and_stamp(words)?;
         return Ok(Step::Finish { session, stamp });
+    }
+    if first == b"enter".as_slice() {
+        let thread = one_number(words)?;
+        return Ok(Step::Enter { thread });
+    }
+    if first == b"leave".as_slice() {
+        let thread = one_number(words)?;
+        return Ok(Step::Leave { thread });
+    }
+    if first == b"accept3".as_slice() {
+        return read_accept3(alloc, words);
     }
     Err(words.bad(1, LineKind::Word))
 }
@@ -132,7 +143,7 @@ fn read_write(alloc: Global, words: &mut Cursor) -> Result<Write, LineFault>
     })
 }
 
-// The words after `accept`.
+// The words after `accept`: a session with stacks.
 fn read_accept(alloc: Global, words: &mut Cursor) -> Result<Step, LineFault>
     ensures read { IfOk result (λ step. Spells (codes "accept" ∷ left words.old) step) }
     ensures good { OnOk result (bad_left words.old (Number ∷ Number ∷ RulePart ∷ []) 999 ≡ None) }
@@ -147,6 +158,27 @@ fn read_accept(alloc: Global, words: &mut Cursor) -> Result<Step, LineFault>
             rules,
             chunks,
             stackwalk: true,
+            rundown: false,
+        },
+    })
+}
+
+// The words after `accept3`, which say whether the session has stacks.
+fn read_accept3(alloc: Global, words: &mut Cursor) -> Result<Step, LineFault>
+    ensures read { IfOk result (λ step. Spells (codes "accept3" ∷ left words.old) step) }
+    ensures good { OnOk result (bad_left words.old (Number ∷ Number ∷ Flag ∷ RulePart ∷ []) 999 ≡ None) }
+    ensures bad { (at column : ℕ) (kind : LineKind) → result ≡ Err (Refused at column kind) → (at ≡ words.old.line) × (bad_left words.old (Number ∷ Number ∷ Flag ∷ RulePart ∷ []) 999 ≡ Some (bad_at column kind)) }
+{
+    let session = words.number()?;
+    let chunks = words.number()?;
+    let stackwalk = words.flag()?;
+    let rules = read_rules(alloc, words)?;
+    Ok(Step::Accept {
+        session,
+        config: Config {
+            rules,
+            chunks,
+            stackwalk,
             rundown: false,
         },
     })

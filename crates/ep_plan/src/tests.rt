@@ -11,9 +11,6 @@ fn told(
     events: &[EventDef],
     stepped: bool,
 ) -> Result<String, AllocError> {
-    if events.len() > 1000 {
-        return format!(in alloc; "too many events");
-    }
     match read_line(alloc, text, 7, events, stepped) {
         Ok(line) => format!(in alloc; "{line:?}"),
         Err(LineFault::Bad { line, column, kind }) => {
@@ -38,6 +35,8 @@ fn steps_are_read(rt: HostRuntime) -> Result<(), Fail> {
         ("", "Blank"),
         ("#", "Blank"),
         ("# open 1 1", "Blank"),
+        ("enter 300", "Step(Enter { thread: 300 })"),
+        ("leave 300", "Step(Leave { thread: 300 })"),
         ("open 1 2", "Step(Open { session: 1, thread: 2 })"),
         ("close 1 2", "Step(Close { session: 1, thread: 2 })"),
         ("steal 1 2", "Step(Steal { session: 1, thread: 2 })"),
@@ -73,6 +72,10 @@ fn a_bad_step_is_refused_at_its_first_bad_word(rt: HostRuntime) -> Result<(), Fa
         ("open 1  1", "7 8 Word"),
         ("open 1 1 1", "7 10 Word"),
         ("open x y z", "7 6 Number"),
+        ("enter 300 1", "7 11 Word"),
+        ("accept3 1 16 2 P:1:4", "7 14 Number"),
+        ("accept3 1 16 P:1:4", "7 14 Number"),
+        ("accept3 1 16 0", "7 15 Word"),
         ("open 1 1\r", "7 8 Number"),
         ("open 1 4294967296", "7 8 Number"),
         ("open +1 1", "7 6 Number"),

@@ -14,7 +14,8 @@ pub(crate) use digits::{hexadecimal, put_hexadecimal, put_number};
 pub(crate) use field::fields;
 pub(crate) use name::{event_name, provider, put_name};
 pub(crate) use part::first_part;
-pub(crate) use rules::{put_rule, rule};
+pub(crate) use rules::put_rule;
+pub use rules::rule;
 pub(crate) use stack::{frames, put_frames};
 
 #[cfg(test)]

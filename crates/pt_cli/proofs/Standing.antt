@@ -2,14 +2,14 @@
 use Rattle.std.proofs.Common.{◌≡◌, ℕ, ◌+◌, ◌≤◌, Bool, false, List, [], ◌∷◌, length, Option, Some, None, refl, sym, ap, ◌∙◌, subst, arith}
 use Rattle.ep_defs.specs.declared.event.EventDef.{EventDef}
 use Rattle.ep_model.specs.History.{Past}
-use Rattle.ep_model.specs.Lawful.{IsLawful}
+use Rattle.ep_model.specs.today.Lawful.{IsLawful}
 use Rattle.ep_core.specs.declared.machine.Machine.{Machine}
 use Rattle.std.specs.Prelude.{◌||◌, nat_lt, is_some}
 use Rattle.std.proofs.lemmas.Bool.{ltb-false}
 use Rattle.ep_plan.specs.Lines.{Bad, bad_of, IsLine}
 use Rattle.pt_cli.specs.declared.schedule.Schedule.{Schedule}
 use Rattle.pt_cli.specs.Reading.{Stands}
-use Rattle.ep_model.specs.Sizes.{sizes, size_of}
+use Rattle.ep_model.specs.today.Sizes.{sizes, size_of}
 use Rattle.ep_model.specs.declared.step.Step.{Step}
 use Rattle.ep_model.specs.declared.step.Step.TheVariants as step
 use Rattle.ep_core.specs.Bounds.{IsWithoutFrames}
@@ -49,6 +49,8 @@ beyond-frames past (step.Begin thread stamp write) taken =
         let not : ⊥ = omega arith in
         absurd not
 beyond-frames past (step.Accept s config) taken = tt
+beyond-frames past (step.Enter t) taken = tt
+beyond-frames past (step.Leave t) taken = tt
 beyond-frames past (step.Open s t) taken = tt
 beyond-frames past (step.Show t s) taken = tt
 beyond-frames past (step.End t) taken = tt
@@ -66,6 +68,8 @@ beyond-few past (step.Begin thread stamp write) taken few =
     not-above : (n : ℕ) → nat_lt 65536 n ≡ false → n ≤ 65536
     not-above n not = ltb-false 65536 n not
 beyond-few past (step.Accept s config) taken few = few
+beyond-few past (step.Enter t) taken few = few
+beyond-few past (step.Leave t) taken few = few
 beyond-few past (step.Open s t) taken few = few
 beyond-few past (step.Show t s) taken few = few
 beyond-few past (step.End t) taken few = few

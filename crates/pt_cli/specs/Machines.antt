@@ -5,7 +5,7 @@ use Rattle.ep_defs.specs.Session.{standard_info_of}
 use Rattle.ep_model.specs.declared.step.Step.{Step}
 use Rattle.ep_model.specs.declared.step.Kind.{Kind}
 use Rattle.ep_model.specs.History.{Past}
-use Rattle.ep_model.specs.Lawful.{kind_of}
+use Rattle.ep_model.specs.today.Lawful.{kind_of}
 use Rattle.ep_core.specs.Machine.{Follows, steps_of}
 use Rattle.ep_core.specs.declared.machine.Machine.{Machine}
 use Rattle.pt_cli.specs.declared.errors.Refusal.{Refusal}

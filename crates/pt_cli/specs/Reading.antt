@@ -2,8 +2,8 @@
 use Rattle.std.specs.Prelude.{◌≡◌, ℕ, ◌+◌, ◌≤◌, not, ◌==◌, List, ◌++◌, length, Option, Some, None, IsTrue}
 use Rattle.std.specs.List.{list_all}
 use Rattle.ep_defs.specs.Event.{is_valid_event}
-use Rattle.ep_model.specs.Lawful.{IsLawful}
-use Rattle.ep_model.specs.Sizes.{sizes}
+use Rattle.ep_model.specs.today.Lawful.{IsLawful}
+use Rattle.ep_model.specs.today.Sizes.{sizes}
 use Rattle.ep_core.specs.Bounds.{AreDifferent}
 use Rattle.ep_plan.specs.declared.line.Line.{Line}
 use Rattle.pt_cli.specs.declared.errors.Refusal.{Refusal}

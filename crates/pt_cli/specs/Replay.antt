@@ -2,7 +2,7 @@
 use Rattle.std.specs.Prelude.{◌≡◌, ℕ, ◌++◌, ◌⊎◌, Bool, true, false, List, [], IsTrue}
 use Rattle.ep_defs.specs.Session.{standard_info_of}
 use Rattle.ep_model.specs.History.{is_finished}
-use Rattle.ep_model.specs.Lawful.{IsLawful}
+use Rattle.ep_model.specs.today.Lawful.{IsLawful}
 use Rattle.ep_core.specs.Streams.{IsStreamOf}
 use Rattle.ep_plan.specs.declared.line.Line.{Line}
 use Rattle.pt_cli.specs.declared.errors.Refusal.{Refusal}

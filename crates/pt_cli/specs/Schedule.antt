@@ -4,8 +4,8 @@ use Rattle.ep_defs.specs.declared.event.EventDef.{EventDef}
 use Rattle.ep_model.specs.declared.step.Step.{Step}
 use Rattle.ep_model.specs.declared.step.Step.TheVariants as step
 use Rattle.ep_model.specs.History.{Past}
-use Rattle.ep_model.specs.Lawful.{kind_of}
-use Rattle.ep_model.specs.Sizes.{size_of, sizes}
+use Rattle.ep_model.specs.today.Lawful.{kind_of}
+use Rattle.ep_model.specs.today.Sizes.{size_of, sizes}
 use Rattle.ep_plan.specs.Lines.{Bad, bad_of, IsLine}
 use Rattle.ep_plan.specs.declared.line.Line.{Line}
 use Rattle.ep_plan.specs.declared.line.Line.TheVariants as line
@@ -35,10 +35,12 @@ has_stepped (step ∷ past) = true
 
 -- ---- what the program does not take yet
 
--- A point, a stack, a thread above 15, a session of fewer than 16 chunks, and the write by which all writes together
--- take more than 65,536 bytes. Within these bounds no session's budget is spent (this project's profile).
+-- A point, a stack, a thread that comes or goes, a thread above 15, a session of fewer than 16 chunks, and the write by
+-- which all writes together take more than 65,536 bytes (this project's profile, so that no budget is spent).
 abbrev pub is_beyond : Past → Step → Bool
 is_beyond past (step.Accept session config) = nat_lt config.chunks 16
+is_beyond past (step.Enter thread) = true
+is_beyond past (step.Leave thread) = true
 is_beyond past (step.Open session thread) = nat_lt 15 thread
 is_beyond past (step.Begin thread stamp write) =
     nat_lt 15 thread || nat_lt 0 (length write.frames) || nat_lt 65536 (sizes past + size_of write)

@@ -4,13 +4,13 @@ ghost use Rattle.std.specs.List.{list_all};
 ghost use Rattle.ep_defs.specs.Event.{is_valid_event};
 ghost use Rattle.ep_core.specs.Bounds.{AreDifferent, IsWithoutFrames};
 ghost use Rattle.ep_core.specs.Machine.{Follows, steps_of};
-ghost use Rattle.ep_model.specs.Lawful.{kind_of};
+ghost use Rattle.ep_model.specs.today.Lawful.{kind_of};
 ghost use Rattle.ep_plan.specs.Lines.{IsLine};
 ghost use Rattle.ep_defs.specs.declared.event.EventDef.{EventDef};
 ghost use Rattle.ep_defs.specs.Session.{standard_info_of};
 ghost use Rattle.ep_model.specs.declared.step.Step.{Step};
 ghost use Rattle.ep_model.specs.History.{Past};
-ghost use Rattle.ep_model.specs.Sizes.{sizes as sizes_of};
+ghost use Rattle.ep_model.specs.today.Sizes.{sizes as sizes_of};
 ghost use Rattle.ep_plan.specs.declared.line.Line.{Line};
 ghost use Rattle.ep_plan.specs.declared.line.Line.TheVariants.{Event, Step as StepLine};
 ghost use Rattle.pt_cli.specs.declared.errors.Refusal.{Refusal};
@@ -192,7 +192,7 @@ fn is_beyond(step: &Step, sizes: u64) -> bool
         | Step::End { thread }
         | Step::Steal { thread, .. }
         | Step::Close { thread, .. } => *thread > LAST_THREAD,
-        Step::Point { .. } => true,
+        Step::Enter { .. } | Step::Leave { .. } | Step::Point { .. } => true,
         Step::Give { .. } | Step::Finish { .. } => false,
     }
 }

@@ -1,8 +1,8 @@
 //! Taking a word as a part of a line.
-ghost use Rattle.std.specs.Prelude.{◌≡◌, ◌+◌, ◌≤◌, ℕ, List, Some, Err, IfOk};
+ghost use Rattle.std.specs.Prelude.{◌≡◌, ◌+◌, ◌^◌, ◌<◌, ◌≤◌, ℕ, List, Some, Err, IfOk};
 ghost use Rattle.ep_plan.specs.declared.line.LineKind.{LineKind};
 ghost use Rattle.ep_plan.specs.declared.line.LineFault.TheVariants.{Bad as Refused};
-ghost use Rattle.ep_plan.specs.Lines.{Index, Number, Stamp, Provider, Name, Keywords, Fields as FieldsPart, Rule as RulePart, Id, Frames as FramesPart, Payload, number_of, stamp_of};
+ghost use Rattle.ep_plan.specs.Lines.{Index, Number, Flag, Stamp, Provider, Name, Keywords, Fields as FieldsPart, Rule as RulePart, Id, Frames as FramesPart, Payload, number_of, flag_of, stamp_of};
 ghost use Rattle.ep_plan.specs.Words.{hex_in, id_in, frames_in, payload_in, provider_in, event_name_in, rule_in, fields_in};
 ghost use Rattle.ep_plan.specs.Cursor.{Took, IsBad};
 
@@ -22,6 +22,19 @@ impl<'a> Cursor<'a> {
         let word = self.word()?;
         match words::number(word, u32::MAX as u64) {
             Some(value) => Ok(value as u32),
+            None => Err(self.bad(column, LineKind::Number)),
+        }
+    }
+
+    /// A flag, 0 or 1.
+    pub(crate) fn flag(&mut self) -> Result<bool, LineFault>
+        ensures took { IfOk result (λ value. (word : List ℕ) × Took Flag self.old self.new word × (flag_of word ≡ Some value)) }
+        ensures bad { (at column : ℕ) (kind : LineKind) → result ≡ Err (Refused at column kind) → IsBad Flag self.old at column kind }
+    {
+        let column = self.column();
+        let word = self.word()?;
+        match words::number(word, 1) {
+            Some(value) => Ok(value == 1),
             None => Err(self.bad(column, LineKind::Number)),
         }
     }
@@ -145,7 +158,7 @@ impl<'a> Cursor<'a> {
 
     /// The number of an event, which has to be the one after `defined` others, and at most 1,000.
     pub(crate) fn index(&mut self, defined: usize) -> Result<u32, LineFault>
-        requires { defined ≤ 1000 }
+        requires { defined < 2 ^ 63 }
         ensures took { IfOk result (λ value. (word : List ℕ) × Took (Index (defined + 1)) self.old self.new word × (number_of word ≡ Some value) × (value ≡ defined + 1) × (value ≤ 1000)) }
         ensures bad { (at column : ℕ) (kind : LineKind) → result ≡ Err (Refused at column kind) → IsBad (Index (defined + 1)) self.old at column kind }
     {

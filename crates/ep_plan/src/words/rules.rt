@@ -9,7 +9,7 @@ use ep_defs::Rule;
 use std::alloc::{AllocError, Global};
 
 /// A rule: a provider's name, keywords of 1 to 16 hexadecimal digits, and a level in decimal digits, joined by colons.
-pub(crate) fn rule(alloc: Global, word: &[u8]) -> Result<Option<Rule>, AllocError>
+pub fn rule(alloc: Global, word: &[u8]) -> Result<Option<Rule>, AllocError>
     ensures { IfOk result (λ rule. rule ≡ rule_in word.now) }
 {
     let (name, rest) = first_part(word, b':');

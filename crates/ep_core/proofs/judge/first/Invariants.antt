@@ -1,5 +1,5 @@
 use Rattle.std.proofs.Common.{◌≡◌, map, drop}
-use Rattle.ep_model.specs.Lawful.{first_kind}
+use Rattle.ep_model.specs.today.Lawful.{first_kind}
 use Rattle.ep_core.specs.Judge.{objection_of}
 use Rattle.ep_core.proofs.judge.first.Given as goal
 

@@ -1,5 +1,5 @@
 use Rattle.std.proofs.Common.{inl, inr, ap, sym, ◌∙◌}
-use Rattle.ep_model.specs.Lawful.{kind_of}
+use Rattle.ep_model.specs.today.Lawful.{kind_of}
 use Rattle.ep_core.proofs.judge.objection.Goals as goal
 
 pub returns-in-Accept-clause-is : goal.returns-in-Accept-clause-is

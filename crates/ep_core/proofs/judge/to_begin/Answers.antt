@@ -3,7 +3,7 @@ use Rattle.std.specs.Prelude.{not, is_none, nat_le}
 use Rattle.std.proofs.lemmas.Bool.{not-false}
 use Rattle.ep_model.specs.declared.step.Kind.TheVariants.{NoThread, InWrite, NoEvent, TooLarge, TooMany}
 use Rattle.ep_model.specs.History.{in_write, event_at}
-use Rattle.ep_model.specs.Lawful.{is_thread, begins}
+use Rattle.ep_model.specs.today.Lawful.{is_thread, begins}
 use Rattle.ep_defs.specs.Session.{fits}
 use Rattle.ep_core.proofs.Judged.{alike_four, is_none-copied}
 use Rattle.ep_core.proofs.judge.to_begin.Goals as goal

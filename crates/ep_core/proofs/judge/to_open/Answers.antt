@@ -3,7 +3,7 @@ use Rattle.std.specs.Prelude.{not}
 use Rattle.std.proofs.lemmas.Bool.{not-false}
 use Rattle.ep_model.specs.declared.step.Kind.TheVariants.{NoSession, NoThread, AlreadyOpen, InWrite}
 use Rattle.ep_model.specs.History.{is_present, in_write}
-use Rattle.ep_model.specs.Lawful.{is_thread, was_opened}
+use Rattle.ep_model.specs.today.Lawful.{is_thread, was_opened}
 use Rattle.ep_core.proofs.Judged.{alike_four}
 use Rattle.ep_core.proofs.judge.to_open.Goals as goal
 

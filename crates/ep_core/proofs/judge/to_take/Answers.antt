@@ -3,7 +3,7 @@ use Rattle.std.specs.Prelude.{not}
 use Rattle.std.proofs.lemmas.Bool.{not-false}
 use Rattle.ep_model.specs.declared.step.Kind.TheVariants.{NoSession, NoThread, InWrite, NotOpen, HandFull}
 use Rattle.ep_model.specs.History.{is_present, is_open, in_write}
-use Rattle.ep_model.specs.Lawful.{is_thread, is_hand_full}
+use Rattle.ep_model.specs.today.Lawful.{is_thread, is_hand_full}
 use Rattle.ep_core.proofs.Judged.{alike_two}
 use Rattle.ep_core.proofs.judge.to_take.Goals as goal
 

@@ -1,4 +1,4 @@
-use Rattle.std.proofs.Common.{◌≡◌, ◌∷◌, codes, refl}
+use Rattle.std.proofs.Common.{◌≡◌, ◌∷◌, codes, inl, refl}
 use Rattle.ep_plan.specs.Lines.{Spells}
 use Rattle.ep_plan.specs.Cursor.{left}
 use Rattle.ep_plan.proofs.step.read_accept.Goals as goal
@@ -11,4 +11,4 @@ returns-clause-read c =
     let first = a.1.words in
     let second = b.1.words in
     let words : codes "accept" ∷ left c.args.words.now ≡ codes "accept" ∷ a.0 ∷ b.0 ∷ left c.number-2.new.self = cc in
-    (a.0, b.0, left c.number-2.new.self, words, a.2, b.2, c.in_ok-rules.ensures.read, refl, refl)
+    (a.0, b.0, left c.number-2.new.self, inl (words, refl), a.2, b.2, c.in_ok-rules.ensures.read, refl)

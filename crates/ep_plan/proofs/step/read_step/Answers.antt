@@ -1,6 +1,6 @@
 use Rattle.std.proofs.Common.{◌≡◌, [], ◌∷◌, codes, ap, ◌∙◌}
 use Rattle.std.proofs.lemmas.Result.{err_from_is_err_and}
-use Rattle.ep_plan.specs.Lines.{accept_form, form, begin_parts, Number, Stamp, Spells}
+use Rattle.ep_plan.specs.Lines.{accept_form, accept3_form, form, begin_parts, Number, Stamp, Spells}
 use Rattle.ep_plan.specs.Cursor.{left}
 use Rattle.ep_plan.proofs.Reading.{through}
 use Rattle.ep_plan.proofs.Forms.{form_named, named, unnamed, step-form, step-none, good-through, no-word}
@@ -158,9 +158,54 @@ returns-then-eq-10-clause-read c =
     let words : c.args.first.now ∷ left c.args.words.now ≡ codes "finish" ∷ read.0 ∷ read.1 ∷ [] = cc in
     (read.0, read.1, words, read.3, read.4)
 
+pub returns-in_err-thread-3-clause-bad : goal.returns-in_err-thread-3-clause-bad
+returns-in_err-thread-3-clause-bad c = λ at column why e.
+    let bad = c.in_err-thread-3.ensures.bad at column why (through c.from_residual-in_err-thread-3.result c.in_err-thread-3.field-0.0 (err_from_is_err_and c.from_residual-in_err-thread-3.result c.from_residual-in_err-thread-3.ensures.1) at column why e) in
+    (bad.0, step-form c.args.words.now c.args.first.now (form (codes "enter") (Number ∷ [])) (ap form_named (named c.args.first.now c.as_slice-11.result.now (codes "enter") c.if-eq-11.ensures c.as_slice-11.ensures)) c.requires ∙ bad.1)
+
+pub returns-then-eq-11-clause-good : goal.returns-then-eq-11-clause-good
+returns-then-eq-11-clause-good c = step-form c.args.words.now c.args.first.now (form (codes "enter") (Number ∷ [])) (ap form_named (named c.args.first.now c.as_slice-11.result.now (codes "enter") c.if-eq-11.ensures c.as_slice-11.ensures)) c.requires ∙ c.in_ok-thread-3.ensures.good
+
+pub returns-then-eq-11-clause-read : goal.returns-then-eq-11-clause-read
+unfolding Spells
+returns-then-eq-11-clause-read c =
+    let read = c.in_ok-thread-3.ensures.read in
+    let name = named c.args.first.now c.as_slice-11.result.now (codes "enter") c.if-eq-11.ensures c.as_slice-11.ensures in
+    let cut = read.1 in
+    let words : c.args.first.now ∷ left c.args.words.now ≡ codes "enter" ∷ read.0 ∷ [] = cc in
+    (read.0, words, read.2)
+
+pub returns-in_err-thread-4-clause-bad : goal.returns-in_err-thread-4-clause-bad
+returns-in_err-thread-4-clause-bad c = λ at column why e.
+    let bad = c.in_err-thread-4.ensures.bad at column why (through c.from_residual-in_err-thread-4.result c.in_err-thread-4.field-0.0 (err_from_is_err_and c.from_residual-in_err-thread-4.result c.from_residual-in_err-thread-4.ensures.1) at column why e) in
+    (bad.0, step-form c.args.words.now c.args.first.now (form (codes "leave") (Number ∷ [])) (ap form_named (named c.args.first.now c.as_slice-12.result.now (codes "leave") c.if-eq-12.ensures c.as_slice-12.ensures)) c.requires ∙ bad.1)
+
+pub returns-then-eq-12-clause-good : goal.returns-then-eq-12-clause-good
+returns-then-eq-12-clause-good c = step-form c.args.words.now c.args.first.now (form (codes "leave") (Number ∷ [])) (ap form_named (named c.args.first.now c.as_slice-12.result.now (codes "leave") c.if-eq-12.ensures c.as_slice-12.ensures)) c.requires ∙ c.in_ok-thread-4.ensures.good
+
+pub returns-then-eq-12-clause-read : goal.returns-then-eq-12-clause-read
+unfolding Spells
+returns-then-eq-12-clause-read c =
+    let read = c.in_ok-thread-4.ensures.read in
+    let name = named c.args.first.now c.as_slice-12.result.now (codes "leave") c.if-eq-12.ensures c.as_slice-12.ensures in
+    let cut = read.1 in
+    let words : c.args.first.now ∷ left c.args.words.now ≡ codes "leave" ∷ read.0 ∷ [] = cc in
+    (read.0, words, read.2)
+
+pub returns-then-eq-13-clause-good : goal.returns-then-eq-13-clause-good
+returns-then-eq-13-clause-good c = good-through c.read_accept3.result _ _ (step-form c.args.words.now c.args.first.now (accept3_form) (ap form_named (named c.args.first.now c.as_slice-13.result.now (codes "accept3") c.if-eq-13.ensures c.as_slice-13.ensures)) c.requires) c.read_accept3.ensures.good
+
+pub returns-then-eq-13-clause-bad : goal.returns-then-eq-13-clause-bad
+returns-then-eq-13-clause-bad c = λ at column why e.
+    let bad = c.read_accept3.ensures.bad at column why e in
+    (bad.0, step-form c.args.words.now c.args.first.now (accept3_form) (ap form_named (named c.args.first.now c.as_slice-13.result.now (codes "accept3") c.if-eq-13.ensures c.as_slice-13.ensures)) c.requires ∙ bad.1)
+
 pub returns-clause-bad : goal.returns-clause-bad
 returns-clause-bad c = no-word c.args.words.now c.args.first.now c.bad.result c.bad.ensures (step-none c.args.words.now.past c.args.first.now (left c.args.words.now)
     (unnamed c.args.first.now c.as_slice.result.now (codes "accept") c.if-eq.ensures c.as_slice.ensures)
+    (unnamed c.args.first.now c.as_slice-13.result.now (codes "accept3") c.if-eq-13.ensures c.as_slice-13.ensures)
+    (unnamed c.args.first.now c.as_slice-11.result.now (codes "enter") c.if-eq-11.ensures c.as_slice-11.ensures)
+    (unnamed c.args.first.now c.as_slice-12.result.now (codes "leave") c.if-eq-12.ensures c.as_slice-12.ensures)
     (unnamed c.args.first.now c.as_slice-3.result.now (codes "open") c.if-eq-3.ensures c.as_slice-3.ensures)
     (unnamed c.args.first.now c.as_slice-2.result.now (codes "begin") c.if-eq-2.ensures c.as_slice-2.ensures)
     (unnamed c.args.first.now c.as_slice-4.result.now (codes "show") c.if-eq-4.ensures c.as_slice-4.ensures)

@@ -1,7 +1,7 @@
 use Rattle.std.proofs.Common.{ℕ, List, [], ◌∷◌, map, refl, sym, ◌∙◌, ap, subst, Vec}
 use Rattle.nt_write.specs.Canonical.{IsCanonical}
 use Rattle.ep_model.specs.declared.step.Step.TheVariants as step
-use Rattle.ep_model.specs.Entries.{entries}
+use Rattle.ep_model.specs.today.Entries.{entries}
 use Rattle.ep_core.specs.declared.buffer.Buffer.{Buffer}
 use Rattle.ep_core.specs.Machine.{mark_of}
 use Rattle.ep_core.proofs.Answered.{OnOk-where}

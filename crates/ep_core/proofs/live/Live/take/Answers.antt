@@ -3,7 +3,7 @@ use Rattle.std.specs.Prelude.{nat_eq, nat_lt}
 use Rattle.std.specs.List.{flat_map}
 use Rattle.std.proofs.lemmas.Option.{get_or_from_slice_get, slice_get_read}
 use Rattle.ep_defs.specs.Entry.{Event}
-use Rattle.ep_model.specs.Entries.{entries}
+use Rattle.ep_model.specs.today.Entries.{entries}
 use Rattle.ep_core.specs.declared.buffer.Buffer.{Buffer}
 use Rattle.ep_core.specs.Machine.{IsTelling, shown_entries, thread_of}
 use Rattle.ep_core.proofs.Tables.{map-set_same}

@@ -1,5 +1,5 @@
 use Rattle.std.proofs.Common.{ap, sym, ◌∙◌}
-use Rattle.ep_model.specs.Lawful.{is_hand_full}
+use Rattle.ep_model.specs.today.Lawful.{is_hand_full}
 use Rattle.ep_core.proofs.Found.{live_found}
 use Rattle.ep_core.proofs.Judged.{no_place}
 use Rattle.ep_core.proofs.machine.Machine.is_hand_full.Goals as goal

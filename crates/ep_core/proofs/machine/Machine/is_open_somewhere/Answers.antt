@@ -1,5 +1,5 @@
 use Rattle.std.proofs.Common.{ap, sym, ◌∙◌}
-use Rattle.ep_model.specs.Lawful.{is_open_somewhere}
+use Rattle.ep_model.specs.today.Lawful.{is_open_somewhere}
 use Rattle.ep_core.proofs.Found.{live_found}
 use Rattle.ep_core.proofs.Judged.{no_place, is_open_somewhere_is}
 use Rattle.ep_core.proofs.machine.Machine.is_open_somewhere.Goals as goal

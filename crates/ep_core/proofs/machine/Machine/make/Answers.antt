@@ -1,6 +1,6 @@
 use Rattle.std.proofs.Common.{◌∷◌, sym, subst}
 use Rattle.ep_model.specs.declared.step.Step.{Step}
-use Rattle.ep_model.specs.Lawful.{IsLawful}
+use Rattle.ep_model.specs.today.Lawful.{IsLawful}
 use Rattle.ep_core.specs.Machine.{Stands}
 use Rattle.ep_core.proofs.machine.Machine.make.Goals as goal
 

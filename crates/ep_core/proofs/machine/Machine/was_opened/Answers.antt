@@ -1,5 +1,5 @@
 use Rattle.std.proofs.Common.{ap, sym, ◌∙◌}
-use Rattle.ep_model.specs.Lawful.{was_opened}
+use Rattle.ep_model.specs.today.Lawful.{was_opened}
 use Rattle.ep_core.proofs.Found.{live_found}
 use Rattle.ep_core.proofs.Judged.{no_place, was_opened_is}
 use Rattle.ep_core.proofs.machine.Machine.was_opened.Goals as goal

@@ -1,7 +1,7 @@
 -- The step is one that is taken, and the machine makes it or says why not.
 use Rattle.std.proofs.Common.{◌≡◌, ◌+◌, ◌≤◌, List, ◌∷◌, false, sym, ap, ◌∙◌, subst, arith}
 use Rattle.ep_defs.specs.declared.event.EventDef.{EventDef}
-use Rattle.ep_model.specs.Lawful.{kind_of}
+use Rattle.ep_model.specs.today.Lawful.{kind_of}
 use Rattle.std.specs.Prelude.{None, Result, Ok, Err, IsErrAnd}
 use Rattle.pt_cli.specs.declared.schedule.Fault.TheVariants.{Refused}
 use Rattle.pt_cli.specs.Schedule.{definitions_of, past_of, is_beyond}

@@ -1,0 +1,11 @@
+use Rattle.std.proofs.Common.{refl}
+use Rattle.ep_model.proofs.examples.refused_writes_use_numbers.Goals as goal
+
+pub returns-clause-lawful : goal.returns-clause-lawful
+returns-clause-lawful c = refl
+
+pub returns-clause-refused : goal.returns-clause-refused
+returns-clause-refused c = refl
+
+pub returns-clause-told : goal.returns-clause-told
+returns-clause-told c = refl
