@@ -1,0 +1,4 @@
+pub mod PutBlobs
+pub mod PutPieces
+pub mod Seeing
+pub mod Sizes

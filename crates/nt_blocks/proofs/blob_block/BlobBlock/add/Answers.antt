@@ -1,0 +1,30 @@
+use Rattle.std.proofs.Common.{◌≡◌, List, [], length, refl, ap, sym, subst, ◌∙◌, arith}
+use Rattle.std.proofs.lemmas.Bool.{false≢true}
+use Rattle.nt_head.specs.Head.{zero_state}
+use Rattle.nt_blocks.specs.Value.{Making}
+use Rattle.nt_blocks.specs.Drafts.{Draft, drafts_bytes}
+use Rattle.nt_blocks.specs.Making.{IsMaking}
+use Rattle.nt_blocks.proofs.PutBlobs.{none_exactly, first_stamps, later_stamps, made_more}
+use Rattle.nt_blocks.proofs.blob_block.BlobBlock.add.Goals as goal
+
+pub returns-then-is_first-clause-ok : goal.returns-then-is_first-clause-ok
+returns-then-is_first-clause-ok c = λ drafts making.
+    let old : Making = record { kind = c.self.inside.kind; bytes = c.self.inside.bytes.items; last = c.self.inside.last; least = c.self.inside.least; greatest = c.self.inside.greatest } in
+    let was : IsMaking drafts old = subst (λ (m : Making). IsMaking drafts m) (sym c.self.view_is) making in
+    let draft : Draft = record { state = c.args.head.now; payload = c.args.payload.now } in
+    let new : Making = record { kind = c.self.inside.kind; bytes = c.put_blob.new.out.items; last = c.args.head.now; least = c.args.head.now.stamp; greatest = c.args.head.now.stamp } in
+    let none = (none_exactly drafts _ (c.self.inside.bytes.ok.0 ∙ ap length was.bytes)).0 (sym c.is_empty-is_first.ensures ∙ c.if-is_first.true) in
+    let found = first_stamps drafts draft none in
+    made_more drafts draft old new was c.in_ok-put_blob.ensures.ok refl found.0 found.1
+
+pub returns-else-is_first-clause-ok : goal.returns-else-is_first-clause-ok
+returns-else-is_first-clause-ok c = λ drafts making.
+    let old : Making = record { kind = c.self.inside.kind; bytes = c.self.inside.bytes.items; last = c.self.inside.last; least = c.self.inside.least; greatest = c.self.inside.greatest } in
+    let was : IsMaking drafts old = subst (λ (m : Making). IsMaking drafts m) (sym c.self.view_is) making in
+    let draft : Draft = record { state = c.args.head.now; payload = c.args.payload.now } in
+    let new : Making = record { kind = c.self.inside.kind; bytes = c.put_blob.new.out.items; last = c.args.head.now; least = c.min-self-inside.result; greatest = c.max-self-inside.result } in
+    let exactly = none_exactly drafts _ (c.self.inside.bytes.ok.0 ∙ ap length was.bytes) in
+    let some : drafts ≡ [] → ⊥ = λ none. false≢true (sym c.if-is_first.false ∙ c.is_empty-is_first.ensures ∙ exactly.1 none) in
+    let found = later_stamps drafts draft some in
+    made_more drafts draft old new was c.in_ok-put_blob.ensures.ok refl
+    (c.min-self-inside.ensures ∙ (rw was.least_stamp found.0)) (c.max-self-inside.ensures ∙ (rw was.greatest_stamp found.1))

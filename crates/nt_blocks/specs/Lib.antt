@@ -1,0 +1,10 @@
+pub mod Bodies
+pub mod Drafts
+pub mod Each
+pub mod Making
+pub mod Ordered
+pub mod Refusals
+pub mod Seen
+pub mod Value
+pub mod Verdict
+pub mod state
