@@ -17,5 +17,5 @@ mod take;
 mod tests;
 
 pub use head::{HeadState, state_fits};
-pub use put::put_head;
+pub use put::{push_head, put_head};
 pub use take::{TakenHead, take_head};

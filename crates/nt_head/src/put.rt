@@ -41,10 +41,13 @@ pub fn put_head(
     Ok(out.as_slice().len() - start)
 }
 
-// Appends the header, for which there is room.
-fn push_head(out: &mut Vec<u8>, previous: &HeadState, now: &HeadState)
+/// Appends the fewest fields by which `now` differs from `previous`, for which there is room. It takes no memory.
+///
+/// They are a header that says `now` where `put_head`'s need is met.
+pub fn push_head(out: &mut Vec<u8>, previous: &HeadState, now: &HeadState)
     requires { vec_len out.old + HEAD_BYTES ≤ vec_capacity out.old }
     ensures items { out.new.items ≡ out.old.items ++ head_bytes previous.now now.now }
+    ensures len { vec_len out.new ≤ vec_len out.old + HEAD_BYTES }
     ensures capacity { vec_capacity out.new ≡ vec_capacity out.old }
 {
     let metadata = previous.metadata != now.metadata;

@@ -8,15 +8,16 @@ use Rattle.ep_defs.specs.declared.event.EventDef.{EventDef}
 use Rattle.ep_defs.specs.declared.item.Item.{Item}
 use Rattle.ep_defs.specs.declared.item.ItemKind.{ItemKind}
 use Rattle.ep_defs.specs.declared.item.ItemKind.TheVariants as item
-use Rattle.nt_write.specs.declared.head.HeadState.{HeadState}
-use Rattle.nt_write.specs.Numbers.{fixed}
-use Rattle.nt_write.specs.Head.{zero_state}
+use Rattle.nt_head.specs.declared.head.HeadState.{HeadState}
+use Rattle.pt_num.specs.Numbers.{fixed}
+use Rattle.nt_head.specs.Head.{IsState, zero_state}
 use Rattle.nt_write.specs.Meta.{meta_payload}
 use Rattle.nt_write.specs.Bodies.{Blob, blob_bytes, AreChained, HoldsEvent, HoldsMeta, AreItems, IsBlobBody}
 use Rattle.nt_write.specs.Ordered.{kinds_of}
-use Rattle.nt_write.specs.Layout.{Draft, head_bytes, drafts_bytes, stamps, least, greatest, blob_body, meta_draft, meta_drafts}
+use Rattle.nt_write.specs.Layout.{Draft, drafts_bytes, stamps, least, greatest, blob_body, meta_draft, meta_drafts}
+use Rattle.nt_head.specs.Fewest.{head_bytes}
 use Rattle.nt_write.specs.Writable.{CanDefine}
-use Rattle.nt_write.proofs.Heads.{IsState, MayFollow, head-is, head-len}
+use Rattle.nt_head.proofs.Heads.{MayFollow, head-is, head-len}
 
 -- ---- blobs
 
@@ -180,16 +181,18 @@ pub meta-state : (id : ℕ) (def : EventDef) → CanDefine def → IsState (meta
 meta-state id def h =
     let short : length (meta_payload id def) ≤ 60000 = h.short id in
     record {
-      metadata = omega arith;
-      number = omega arith;
+      ids = record {
+        metadata = omega arith;
+        number = omega arith;
+        processor = omega arith;
+        stack = omega arith;
+        size = below (length (meta_payload id def)) short;
+      };
       capture = omega arith;
-      processor = omega arith;
       thread = omega arith;
-      stack = omega arith;
       stamp = omega arith;
       activity = refl;
       related = refl;
-      size = below (length (meta_payload id def)) short;
     }
   where
     below : (n : ℕ) → n ≤ 60000 → n < 2 ^ 32

@@ -7,10 +7,10 @@ use Rattle.std.specs.Int.{w32, w64}
 use Rattle.ep_defs.specs.declared.item.Item.{Item}
 use Rattle.ep_defs.specs.declared.item.ItemKind.{ItemKind}
 use Rattle.ep_defs.specs.declared.item.ItemKind.TheVariants as item
-use Rattle.nt_write.specs.declared.object.BlockKind.{BlockKind}
-use Rattle.nt_write.specs.Numbers.{fixed}
-use Rattle.nt_write.specs.Object.{Block, block_bytes, padding_begins, to_multiple_of_4, CanStand}
-use Rattle.nt_write.specs.Stream.{start_len, blocks_bytes, CanFollow}
+use Rattle.nt_object.specs.declared.object.BlockKind.{BlockKind}
+use Rattle.pt_num.specs.Numbers.{fixed}
+use Rattle.nt_object.specs.Object.{Block, block_bytes, padding_begins, to_multiple_of_4, CanStand}
+use Rattle.nt_object.specs.Stream.{start_len, blocks_bytes, CanFollow}
 use Rattle.nt_write.specs.Trace.{body_begins, BlocksHold}
 use Rattle.nt_write.specs.Bodies.{IsBody, stack_bytes, stack_body, stack_items, IsStackBody, thread_bytes, point_body, IsPointBody}
 use Rattle.ep_defs.specs.Entry.{PointEntry}

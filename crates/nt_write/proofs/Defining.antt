@@ -5,12 +5,12 @@ use Rattle.std.proofs.lemmas.Bool.{ne_eqb, le-ltb}
 use Rattle.std.specs.Prelude.{nat_lt}
 use Rattle.ep_defs.specs.declared.event.EventDef.{EventDef}
 use Rattle.ep_defs.specs.Event.{is_same_event}
-use Rattle.nt_write.specs.declared.head.HeadState.{HeadState}
+use Rattle.nt_head.specs.declared.head.HeadState.{HeadState}
 use Rattle.nt_write.specs.declared.ids.IdTable.{IdTable}
 use Rattle.nt_write.specs.declared.output.Output.{Output}
 use Rattle.nt_write.specs.declared.blocks.BlobBlock.{BlobBlock}
 use Rattle.nt_write.specs.declared.writer.TraceWriter.{TraceWriter}
-use Rattle.nt_write.specs.Head.{zero_state}
+use Rattle.nt_head.specs.Head.{zero_state}
 use Rattle.nt_write.specs.Meta.{meta_payload}
 use Rattle.ep_defs.specs.Entry.{EventEntry}
 use Rattle.nt_write.specs.Layout.{Layout, Draft, id_in, with_member, with_stack, stack_id, meta_draft, meta_drafts, new_metas, new_stack_body, blob_body, passes, needs_flush, event_draft, with_event}

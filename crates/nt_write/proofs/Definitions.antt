@@ -8,7 +8,8 @@ use Rattle.std.specs.Int.{w16, w32, w64}
 use Rattle.ep_defs.specs.declared.event.FieldDef.{FieldDef}
 use Rattle.ep_defs.specs.declared.event.EventDef.{EventDef}
 use Rattle.ep_defs.specs.Event.{is_type_code, is_text, are_nested, is_valid_field, are_valid_fields, is_valid_event}
-use Rattle.nt_write.specs.Numbers.{fixed, units_bytes, text_z, are_units}
+use Rattle.pt_num.specs.Numbers.{fixed}
+use Rattle.pt_num.specs.Texts.{units_bytes, text_z, are_units}
 use Rattle.nt_write.specs.Meta.{inside, after, inside_count, inside_counts, fields_bytes, outermost_count, meta_payload, is_readable_field}
 use Rattle.nt_write.specs.Writable.{CanDefine}
 use Rattle.nt_write.proofs.BlobBodies.{fixed_len-16, fixed_len-32, fixed_len-64}

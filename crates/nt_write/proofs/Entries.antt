@@ -8,12 +8,12 @@ use Rattle.ep_defs.specs.declared.session.TraceInfo.{TraceInfo}
 use Rattle.ep_defs.specs.Session.{is_info}
 use Rattle.pt_io.specs.Taken.{IsPrefix}
 use Rattle.nt_write.specs.declared.blocks.BlobBlock.{BlobBlock}
-use Rattle.nt_write.specs.declared.object.BlockKind.TheVariants as block
+use Rattle.nt_object.specs.declared.object.BlockKind.TheVariants as block
 use Rattle.nt_write.specs.declared.ids.IdTable.{IdTable}
 use Rattle.nt_write.specs.declared.output.Output.{Output}
 use Rattle.nt_write.specs.declared.writer.Fault.{Fault}
 use Rattle.nt_write.specs.declared.writer.TraceWriter.{TraceWriter}
-use Rattle.nt_write.specs.Stream.{stream_start, blocks_bytes}
+use Rattle.nt_object.specs.Stream.{stream_start, blocks_bytes}
 use Rattle.ep_defs.specs.Entry.{Entry}
 use Rattle.nt_write.specs.Layout.{Layout, empty_layout, new_metas, flushed, with_entry, with_entries}
 use Rattle.nt_write.specs.Writable.{CanTell, HasNoStack}

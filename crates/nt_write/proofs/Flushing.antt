@@ -4,10 +4,10 @@ use Rattle.std.proofs.lemmas.List.{drop_all}
 use Rattle.ep_defs.specs.declared.event.EventDef.{EventDef}
 use Rattle.pt_io.specs.Taken.{IsPrefix}
 use Rattle.nt_write.specs.declared.blocks.BlobBlock.{BlobBlock}
-use Rattle.nt_write.specs.declared.object.BlockKind.TheVariants as block
+use Rattle.nt_object.specs.declared.object.BlockKind.TheVariants as block
 use Rattle.nt_write.specs.declared.writer.TraceWriter.{TraceWriter}
-use Rattle.nt_write.specs.Object.{Block}
-use Rattle.nt_write.specs.Stream.{blocks_bytes}
+use Rattle.nt_object.specs.Object.{Block}
+use Rattle.nt_object.specs.Stream.{blocks_bytes}
 use Rattle.nt_write.specs.Bodies.{point_body}
 use Rattle.ep_defs.specs.Entry.{PointEntry}
 use Rattle.nt_write.specs.Layout.{Layout, Draft, meta_drafts, new_metas, new_stacks, new_stack_body, blob_body, with_block, with_block_of, flushed, with_point}

@@ -7,10 +7,10 @@ use Rattle.ep_defs.specs.declared.item.Item.{Item}
 use Rattle.ep_defs.specs.declared.item.ItemKind.{ItemKind}
 use Rattle.ep_defs.specs.declared.item.ItemKind.TheVariants as item
 use Rattle.ep_defs.specs.declared.session.TraceInfo.{TraceInfo}
-use Rattle.nt_write.specs.declared.object.BlockKind.{BlockKind}
-use Rattle.nt_write.specs.declared.object.BlockKind.TheVariants as block
-use Rattle.nt_write.specs.Object.{Block, block_bytes}
-use Rattle.nt_write.specs.Stream.{start_len}
+use Rattle.nt_object.specs.declared.object.BlockKind.{BlockKind}
+use Rattle.nt_object.specs.declared.object.BlockKind.TheVariants as block
+use Rattle.nt_object.specs.Object.{Block, block_bytes}
+use Rattle.nt_object.specs.Stream.{start_len}
 use Rattle.nt_write.specs.Trace.{body_begins, BlocksHold, IsTrace}
 use Rattle.nt_write.specs.Bodies.{Blob, blob_bytes, HoldsEvent, HoldsMeta, AreItems, IsBody, stack_bytes, stack_items}
 use Rattle.nt_write.specs.Ordered.{kinds_of}

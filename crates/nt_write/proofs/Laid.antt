@@ -6,8 +6,8 @@ use Rattle.std.specs.Prelude.{map, ◌||◌, ◌&&◌, nat_lt}
 use Rattle.std.specs.List.{AllByRecursion}
 use Rattle.ep_defs.specs.declared.event.EventDef.{EventDef}
 use Rattle.ep_defs.specs.Event.{is_same_text, is_same_event}
-use Rattle.nt_write.specs.declared.object.BlockKind.TheVariants as block
-use Rattle.nt_write.specs.Object.{Block}
+use Rattle.nt_object.specs.declared.object.BlockKind.TheVariants as block
+use Rattle.nt_object.specs.Object.{Block}
 use Rattle.nt_write.specs.Meta.{meta_payload}
 use Rattle.nt_write.specs.Bodies.{stack_body, point_body}
 use Rattle.ep_defs.specs.Entry.{EventEntry, PointEntry, Entry, Event, Point}

@@ -6,7 +6,6 @@ pub mod Definitions
 pub mod Endings
 pub mod Entries
 pub mod Flushing
-pub mod Heads
 pub mod IdTables
 pub mod Items
 pub mod Laid
@@ -15,11 +14,7 @@ pub mod Placing
 pub mod Prefixes
 pub mod PutBlobs
 pub mod PutFields
-pub mod PutHeads
-pub mod PutNumbers
 pub mod PutPieces
-pub mod Ranges
 pub mod Sameness
 pub mod Told
-pub mod Varuints
 pub mod WrittenIsCanonical

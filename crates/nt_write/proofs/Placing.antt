@@ -5,11 +5,12 @@ use Rattle.std.proofs.lemmas.Grind.{flat_map-append}
 use Rattle.std.specs.Prelude.{replicate, IsTrue}
 use Rattle.std.specs.List.{flat_map}
 use Rattle.pt_io.specs.Taken.{IsPrefix, TookPartOf}
-use Rattle.nt_write.specs.declared.object.BlockKind.{BlockKind}
+use Rattle.nt_object.specs.declared.object.BlockKind.{BlockKind}
 use Rattle.nt_write.specs.declared.output.Output.{Output}
-use Rattle.nt_write.specs.Object.{Block, block_bytes, block_name, padding_begins}
-use Rattle.nt_write.specs.Stream.{start_len, blocks_bytes}
-use Rattle.nt_write.specs.Layout.{padded, with_block, with_block_of}
+use Rattle.nt_object.specs.Object.{Block, block_bytes, block_name, padding_begins}
+use Rattle.nt_object.specs.Stream.{start_len, blocks_bytes}
+use Rattle.nt_object.specs.Object.{padded}
+use Rattle.nt_write.specs.Layout.{with_block, with_block_of}
 use Rattle.nt_write.specs.Writing.{HasWritten, TookAll, TookSome}
 use Rattle.nt_write.proofs.Prefixes.{prefix-same, took-more, took-part}
 

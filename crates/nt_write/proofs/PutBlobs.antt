@@ -3,12 +3,13 @@ use Rattle.std.proofs.Common.{◌≡◌, ◌==◌, ◌↔◌, IsTrue, ℕ, ◌+�
 use Rattle.std.proofs.lemmas.List.{append-nil}
 use Rattle.std.proofs.lemmas.Grind.{common_steps}
 use Rattle.std.proofs.lemmas.Bool.Decides.{nat_tests}
-use Rattle.nt_write.specs.Numbers.{fixed}
-use Rattle.nt_write.specs.Layout.{Draft, drafts_bytes, head_bytes, blob_body, stamps, least, greatest}
+use Rattle.pt_num.specs.Numbers.{fixed}
+use Rattle.nt_write.specs.Layout.{Draft, drafts_bytes, blob_body, stamps, least, greatest}
+use Rattle.nt_head.specs.Fewest.{head_bytes}
 use Rattle.nt_write.specs.Making.{last_state, IsMaking}
 use Rattle.nt_write.specs.declared.blocks.BlobBlock.{BlobBlock}
-use Rattle.nt_write.specs.Head.{zero_state}
-use Rattle.nt_write.specs.declared.head.HeadState.{HeadState}
+use Rattle.nt_head.specs.Head.{zero_state}
+use Rattle.nt_head.specs.declared.head.HeadState.{HeadState}
 
 -- The header of a body has 20 bytes.
 pub length-blob_body : (drafts : List Draft) → length (blob_body drafts) ≡ 20 + length (drafts_bytes zero_state drafts)

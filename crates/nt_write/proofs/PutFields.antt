@@ -8,7 +8,8 @@ use Rattle.std.specs.Int.{w32}
 use Rattle.std.specs.List.{list_all, prefix_len}
 use Rattle.ep_defs.specs.declared.event.FieldDef.{FieldDef}
 use Rattle.ep_defs.specs.Event.{is_valid_field, is_type_code, is_text}
-use Rattle.nt_write.specs.Numbers.{fixed, text_z}
+use Rattle.pt_num.specs.Numbers.{fixed}
+use Rattle.pt_num.specs.Texts.{text_z}
 use Rattle.nt_write.specs.Meta.{fields_bytes, inside, after, inside_bytes}
 
 -- The fields inside one are no more than those after it.

@@ -8,10 +8,10 @@ use Rattle.ep_defs.specs.declared.event.EventDef.{EventDef}
 use Rattle.ep_defs.specs.declared.item.Item.{Item}
 use Rattle.ep_defs.specs.declared.item.ItemKind.{ItemKind}
 use Rattle.ep_defs.specs.declared.item.ItemKind.TheVariants as item
-use Rattle.nt_write.specs.declared.object.BlockKind.{BlockKind}
-use Rattle.nt_write.specs.declared.object.BlockKind.TheVariants as block
-use Rattle.nt_write.specs.Head.{zero_state}
-use Rattle.nt_write.specs.Object.{Block}
+use Rattle.nt_object.specs.declared.object.BlockKind.{BlockKind}
+use Rattle.nt_object.specs.declared.object.BlockKind.TheVariants as block
+use Rattle.nt_head.specs.Head.{zero_state}
+use Rattle.nt_object.specs.Object.{Block}
 use Rattle.nt_write.specs.Bodies.{HoldsEvent, HoldsMeta, IsBody, stack_body, stack_items, point_body}
 use Rattle.ep_defs.specs.Entry.{EventEntry, PointEntry, Entry, Event, Point}
 use Rattle.nt_write.specs.Ordered.{Names, no_names, stack_of, kinds_of}
@@ -123,16 +123,18 @@ pub record IsPending (definitions : List EventDef) (stacks : List (List ℕ)) (p
 pub pending-draft : (definitions : List EventDef) (stacks : List (List ℕ)) (p : Pending) → length definitions < 2 ^ 31 → length stacks < 2 ^ 31 → IsPending definitions stacks p → IsEventDraft (draft_of p)
 pending-draft definitions stacks p few few_stacks h = record {
   fits = record {
-    metadata = omega (arith, h.def.few);
-    number = h.can.number;
+    ids = record {
+      metadata = omega (arith, h.def.few);
+      number = h.can.number;
+      processor = omega arith;
+      stack = omega (arith, h.stack.few);
+      size = omega (arith, h.can.payload);
+    };
     capture = h.can.thread;
-    processor = omega arith;
     thread = h.can.thread;
-    stack = omega (arith, h.stack.few);
     stamp = h.can.stamp;
     activity = h.can.activity;
     related = h.can.related;
-    size = omega (arith, h.can.payload);
   };
   some = h.def.some;
   size = refl;

@@ -6,12 +6,12 @@ use Rattle.ep_defs.specs.declared.event.EventDef.{EventDef}
 use Rattle.ep_defs.specs.declared.item.Item.{Item}
 use Rattle.ep_defs.specs.declared.item.ItemKind.{ItemKind}
 use Rattle.ep_defs.specs.declared.item.ItemKind.TheVariants as item
-use Rattle.nt_write.specs.declared.object.BlockKind.{BlockKind}
-use Rattle.nt_write.specs.declared.object.BlockKind.TheVariants as block
-use Rattle.nt_write.specs.declared.head.HeadState.{HeadState}
-use Rattle.nt_write.specs.Head.{IsHead, zero_state}
+use Rattle.nt_object.specs.declared.object.BlockKind.{BlockKind}
+use Rattle.nt_object.specs.declared.object.BlockKind.TheVariants as block
+use Rattle.nt_head.specs.declared.head.HeadState.{HeadState}
+use Rattle.nt_head.specs.Head.{IsHead, zero_state}
 use Rattle.nt_write.specs.Meta.{IsMeta}
-use Rattle.nt_write.specs.Numbers.{fixed}
+use Rattle.pt_num.specs.Numbers.{fixed}
 
 -- ---- blobs
 

@@ -5,7 +5,7 @@ use Rattle.ep_defs.specs.declared.session.TraceInfo.{TraceInfo}
 use Rattle.ep_defs.specs.declared.item.Item.{Item}
 use Rattle.ep_defs.specs.declared.item.ItemKind.{ItemKind}
 use Rattle.ep_defs.specs.declared.item.ItemKind.TheVariants as item
-use Rattle.nt_write.specs.Stream.{stream_start, blocks_bytes}
+use Rattle.nt_object.specs.Stream.{stream_start, blocks_bytes}
 use Rattle.nt_write.specs.Trace.{IsTrace}
 use Rattle.ep_defs.specs.Entry.{Entry, Point, PointEntry}
 use Rattle.nt_write.specs.Ordered.{kinds_of, Tell}

@@ -1,78 +1,20 @@
 -- How entries are laid out in blocks: what a writer chooses where the format leaves a choice (this project's profile).
 use Rattle.std.specs.Prelude.{ℕ, ◌+◌, ◌-◌, ◌%◌, ◌^◌, Bool, true, false, ◌&&◌, ◌||◌, not, List, [], ◌∷◌, ◌++◌, length, map, drop, replicate, min, max, fold, nat_eq, nat_lt, ◌==◌, Option, if◌then◌else◌, unwrap_or}
 use Rattle.std.specs.Int.{w16, w32, w64}
-use Rattle.std.specs.Option.{option_map_or}
-use Rattle.std.specs.Bool.{then_some}
 use Rattle.std.specs.List.{concat, position_from}
 use Rattle.ep_defs.specs.declared.event.EventDef.{EventDef}
 use Rattle.ep_defs.specs.Event.{is_same_text, is_same_event}
-use Rattle.nt_write.specs.declared.object.BlockKind.{BlockKind}
-use Rattle.nt_write.specs.declared.object.BlockKind.TheVariants as block
-use Rattle.nt_write.specs.declared.head.HeadState.{HeadState}
-use Rattle.nt_write.specs.Numbers.{fixed, short_var}
-use Rattle.nt_write.specs.Object.{Block, padding_begins, to_multiple_of_4}
-use Rattle.nt_write.specs.Stream.{start_len, blocks_bytes}
-use Rattle.nt_write.specs.Head.{HeadFields, Sequence, flag_byte, zero_state}
+use Rattle.nt_object.specs.declared.object.BlockKind.{BlockKind}
+use Rattle.nt_object.specs.declared.object.BlockKind.TheVariants as block
+use Rattle.nt_head.specs.declared.head.HeadState.{HeadState}
+use Rattle.pt_num.specs.Numbers.{fixed}
+use Rattle.nt_object.specs.Object.{Block, padded}
+use Rattle.nt_head.specs.Fewest.{head_bytes}
+use Rattle.nt_object.specs.Stream.{start_len, blocks_bytes}
+use Rattle.nt_head.specs.Head.{zero_state}
 use Rattle.nt_write.specs.Meta.{meta_payload}
 use Rattle.nt_write.specs.Bodies.{stack_body, point_body}
 use Rattle.ep_defs.specs.Entry.{EventEntry, PointEntry, Entry, Event, Point}
-use Rattle.ep_defs.specs.Gaps.{distance}
-
--- ---- headers
-
--- A field is there where its value is new.
-abbrev pub if_new : {A : Type 0} → (A → A → Bool) → A → A → Option A
-if_new same before now = then_some (not (same before now)) now
-
--- A number that is not the next one, another capture thread or another processor needs its flag.
-abbrev pub has_sequence : HeadState → HeadState → Bool
-has_sequence before now =
-    (not (now.metadata == 0) && not (now.number == (before.number + 1) % 2 ^ 32))
-    || not (now.capture == before.capture)
-    || not (now.processor == before.processor)
-
-abbrev pub sequence_of : HeadState → HeadState → Sequence
-sequence_of before now =
-    record { increment = distance (before.number + 1) now.number; capture = now.capture; processor = now.processor }
-
--- The fewest fields that say this after that.
-abbrev pub fewest_fields : HeadState → HeadState → HeadFields
-fewest_fields before now =
-    record {
-      metadata = if_new nat_eq before.metadata now.metadata;
-      sequence = then_some (has_sequence before now) (sequence_of before now);
-      thread = if_new nat_eq before.thread now.thread;
-      stack = if_new nat_eq before.stack now.stack;
-      stamp_increment = (now.stamp + 2 ^ 64 - before.stamp) % 2 ^ 64;
-      activity = if_new is_same_text before.activity now.activity;
-      related = if_new is_same_text before.related now.related;
-      sorted = now.sorted;
-      size = if_new nat_eq before.size now.size;
-    }
-
-abbrev pub if_there : {A : Type 0} → (A → List ℕ) → Option A → List ℕ
-if_there bytes_of field = option_map_or bytes_of field []
-
-abbrev pub sequence_bytes : Sequence → List ℕ
-sequence_bytes s = concat (short_var w32 s.increment ∷ short_var w64 s.capture ∷ short_var w32 s.processor ∷ [])
-
--- The fields with each number in its shortest form.
-abbrev pub fields_bytes : HeadFields → List ℕ
-fields_bytes fields =
-    concat
-    ((flag_byte fields ∷ [])
-    ∷ if_there (short_var w32) fields.metadata
-    ∷ if_there sequence_bytes fields.sequence
-    ∷ if_there (short_var w64) fields.thread
-    ∷ if_there (short_var w32) fields.stack
-    ∷ short_var w64 fields.stamp_increment
-    ∷ if_there (λ id. id) fields.activity
-    ∷ if_there (λ id. id) fields.related
-    ∷ if_there (short_var w32) fields.size
-    ∷ [])
-
-abbrev pub head_bytes : HeadState → HeadState → List ℕ
-head_bytes before now = fields_bytes (fewest_fields before now)
 
 -- ---- bodies
 
@@ -160,11 +102,6 @@ new_stacks layout = drop layout.stacks_flushed layout.stacks
 -- The body that the new stacks make.
 abbrev pub new_stack_body : Layout → List ℕ
 new_stack_body layout = stack_body (layout.stacks_flushed + 1) (new_stacks layout)
-
--- A block that is to stand at this offset, padded by zeros.
-abbrev pub padded : ℕ → BlockKind → List ℕ → Block
-padded at kind body =
-    record { kind = kind; padding = replicate (to_multiple_of_4 (padding_begins at kind)) 0; body = body }
 
 -- The blocks with one more at their end.
 abbrev pub with_block : BlockKind → List ℕ → List Block → List Block

@@ -1,16 +1,10 @@
 pub mod Bodies
 pub mod Canonical
-pub mod Head
 pub mod Kept
 pub mod Layout
 pub mod Making
 pub mod Meta
-pub mod Numbers
-pub mod Object
 pub mod Ordered
-pub mod Pieces
-pub mod Steps
-pub mod Stream
 pub mod Trace
 pub mod Vectors
 pub mod Writable

@@ -1,9 +1,9 @@
 -- A block in the making.
 use Rattle.std.specs.Prelude.{◌≡◌, List, [], ◌∷◌}
 use Rattle.nt_write.specs.declared.blocks.BlobBlock.{BlobBlock}
-use Rattle.nt_write.specs.declared.object.BlockKind.{BlockKind}
-use Rattle.nt_write.specs.declared.head.HeadState.{HeadState}
-use Rattle.nt_write.specs.Head.{zero_state}
+use Rattle.nt_object.specs.declared.object.BlockKind.{BlockKind}
+use Rattle.nt_head.specs.declared.head.HeadState.{HeadState}
+use Rattle.nt_head.specs.Head.{zero_state}
 use Rattle.nt_write.specs.Layout.{Draft, drafts_bytes, stamps, least, greatest}
 
 -- What the last of the blobs said, or this before the first.

@@ -5,7 +5,8 @@ use Rattle.std.specs.Int.{w32, w64}
 use Rattle.ep_defs.specs.declared.event.FieldDef.{FieldDef}
 use Rattle.ep_defs.specs.declared.event.EventDef.{EventDef}
 use Rattle.ep_defs.specs.Event.{is_type_code, are_nested}
-use Rattle.nt_write.specs.Numbers.{fixed, text_z, are_units}
+use Rattle.pt_num.specs.Numbers.{fixed}
+use Rattle.pt_num.specs.Texts.{text_z, are_units}
 
 -- The fields inside this one: those after it, up to the next whose depth is not greater.
 abbrev pub inside : FieldDef → List FieldDef → List FieldDef

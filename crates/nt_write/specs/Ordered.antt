@@ -6,7 +6,7 @@ use Rattle.ep_defs.specs.declared.item.Item.{Item}
 use Rattle.ep_defs.specs.declared.item.ItemKind.{ItemKind}
 use Rattle.ep_defs.specs.declared.item.ItemKind.TheVariants as item
 use Rattle.ep_defs.specs.Entry.{Entry, Event, Point}
-use Rattle.nt_write.specs.Steps.{◌>>=◌, or_fault}
+use Rattle.pt_num.specs.Steps.{◌>>=◌, or_fault}
 
 -- Why an item can't stand where it does: an event names what was not defined, or a name is defined twice.
 pub data Disorder : Type 0 where

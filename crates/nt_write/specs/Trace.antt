@@ -4,8 +4,8 @@ use Rattle.std.specs.List.{AllByRecursion}
 use Rattle.ep_defs.specs.declared.session.TraceInfo.{TraceInfo}
 use Rattle.ep_defs.specs.declared.item.Item.{Item}
 use Rattle.ep_defs.specs.declared.item.ItemKind.TheVariants as item
-use Rattle.nt_write.specs.Object.{Block, block_bytes, padding_begins}
-use Rattle.nt_write.specs.Stream.{start_len, IsStream}
+use Rattle.nt_object.specs.Object.{Block, block_bytes, padding_begins}
+use Rattle.nt_object.specs.Stream.{start_len, IsStream}
 use Rattle.nt_write.specs.Bodies.{IsBody}
 
 -- Where the body of a block begins that stands at this offset.

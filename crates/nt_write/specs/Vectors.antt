@@ -3,10 +3,10 @@ use Rattle.std.specs.Prelude.{ℕ, ◌+◌, Bool, true, false, List, [], ◌∷�
 use Rattle.std.specs.List.{range_with_len}
 use Rattle.ep_defs.specs.declared.event.FieldDef.{FieldDef}
 use Rattle.ep_defs.specs.declared.event.EventDef.{EventDef}
-use Rattle.nt_write.specs.declared.head.HeadState.{HeadState}
-use Rattle.nt_write.specs.declared.object.BlockKind.{BlockKind}
-use Rattle.nt_write.specs.declared.object.BlockKind.TheVariants as block
-use Rattle.nt_write.specs.Head.{zero_state}
+use Rattle.nt_head.specs.declared.head.HeadState.{HeadState}
+use Rattle.nt_object.specs.declared.object.BlockKind.{BlockKind}
+use Rattle.nt_object.specs.declared.object.BlockKind.TheVariants as block
+use Rattle.nt_head.specs.Head.{zero_state}
 use Rattle.ep_defs.specs.Entry.{Entry, Event, Point}
 use Rattle.nt_write.specs.Layout.{Draft, empty_layout, with_entries, flushed}
 

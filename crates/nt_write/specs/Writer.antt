@@ -8,7 +8,7 @@ use Rattle.pt_io.specs.Taken.{IsPrefix}
 use Rattle.nt_write.specs.declared.writer.Fault.{Fault}
 use Rattle.nt_write.specs.declared.writer.EventOut.{EventOut}
 use Rattle.nt_write.specs.declared.writer.TraceWriter.{TraceWriter}
-use Rattle.nt_write.specs.Stream.{stream_start}
+use Rattle.nt_object.specs.Stream.{stream_start}
 use Rattle.ep_defs.specs.Entry.{EventEntry, PointEntry, Entry}
 use Rattle.nt_write.specs.Layout.{empty_layout, with_entries}
 use Rattle.nt_write.specs.Writable.{CanTell, HasNoStack}

@@ -4,15 +4,15 @@ use Rattle.ep_defs.specs.declared.event.EventDef.{EventDef}
 use Rattle.ep_defs.specs.Event.{is_same_event}
 use Rattle.pt_io.specs.Faults.{HasRisen}
 use Rattle.pt_io.specs.Taken.{IsPrefix}
-use Rattle.nt_write.specs.declared.object.BlockKind.TheVariants as block
+use Rattle.nt_object.specs.declared.object.BlockKind.TheVariants as block
 use Rattle.nt_write.specs.declared.blocks.BlobBlock.{BlobBlock}
 use Rattle.nt_write.specs.declared.ids.IdTable.{IdTable}
 use Rattle.nt_write.specs.declared.output.Output.{Output}
 use Rattle.nt_write.specs.declared.writer.Fault.{Fault}
-use Rattle.nt_write.specs.declared.writer.Fault.TheVariants.{WriteFault, TooLong}
+use Rattle.nt_write.specs.declared.writer.Fault.TheVariants.{WriteFault, TooLong, OutOfMemory}
 use Rattle.nt_write.specs.declared.writer.TraceWriter.{TraceWriter}
-use Rattle.nt_write.specs.Object.{Block}
-use Rattle.nt_write.specs.Stream.{start_len, blocks_bytes}
+use Rattle.nt_object.specs.Object.{Block}
+use Rattle.nt_object.specs.Stream.{start_len, blocks_bytes}
 use Rattle.ep_defs.specs.Entry.{EventEntry}
 use Rattle.nt_write.specs.Layout.{Layout, id_in, with_member, new_metas, needs_flush, flushed}
 use Rattle.nt_write.specs.Making.{IsMaking, kind_of}
@@ -61,6 +61,7 @@ pub record IsCounted {S A : Type 0} (faults : S → ℕ) (old new : S) (result :
   pub wrote : OnOk result (faults new ≡ faults old)
   pub write_fault : result ≡ Err WriteFault → HasRisen (faults old) (faults new)
   pub too_long : result ≡ Err TooLong → ⊥
+  pub memory : result ≡ Err OutOfMemory → faults new ≡ faults old
   pub later : faults old ≤ faults new
 
 -- ---- the writer

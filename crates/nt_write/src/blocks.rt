@@ -3,11 +3,12 @@ ghost use Rattle.std.specs.Prelude.{◌≡◌, ℕ, ◌+◌, ◌^◌, ◌<◌, �
 ghost use Rattle.std.specs.List.{AllByRecursion};
 ghost use Rattle.nt_write.specs.Bodies.{point_body};
 ghost use Rattle.nt_write.specs.Kept.{Keeps};
-ghost use Rattle.nt_write.specs.Layout.{head_bytes};
+ghost use Rattle.nt_head.specs.Fewest.{head_bytes};
 
-use crate::head::{HeadState, put_head};
-use crate::numbers::{put_u16, put_u32, put_u64};
-use crate::object::BlockKind;
+use nt_head::limits::HEAD_BYTES;
+use nt_head::{HeadState, push_head};
+use nt_object::BlockKind;
+use pt_num::{put_u16, put_u32, put_u64};
 use std::alloc::{AllocError, Global};
 
 // Bytes of the header of a body of blobs.
@@ -125,13 +126,9 @@ fn put_blob(
     ensures ok { OnOk result (out.new.items ≡ out.old.items ++ head_bytes previous.now head.now ++ payload.now) }
     ensures err { OnErr result (out.new.items ≡ out.old.items) }
 {
-    let start = out.len();
-    put_head(out, previous, head)?;
-    let put = out.extend_from_slice(payload);
-    if put.is_err() {
-        out.truncate(start);
-    }
-    put
+    out.reserve(HEAD_BYTES + payload.len())?;
+    push_head(out, previous, head);
+    out.extend_from_slice(payload)
 }
 
 /// Appends the body of a point: how far each thread had come.

@@ -1,19 +1,16 @@
-//! NetTrace streams, version 4: the format, and the writer of a stream.
+//! NetTrace streams, version 4: the writer of a stream.
 //!
-//! The modules `numbers`, `object`, `head`, `meta` and `blocks` put each part of the format as bytes; `writer` makes
-//! a stream of them. What the format is, and what this project's writer chooses in it, are the definitions of
-//! `specs/`, in the order of docs/DEFINITIONS.md. It stands on pt_io, for the sink, and ep_defs, for the types.
+//! The modules `meta` and `blocks` put metadata payloads and bodies as bytes; `writer` makes a stream of them. What the
+//! format is, and what this project's writer chooses in it, are definitions, in the order of docs/DEFINITIONS.md. It
+//! stands on pt_num, nt_object and nt_head, for the parts of the format, on pt_io, for the sink, and on ep_defs.
 //!
 //! Its one contract: what the sink of a `TraceWriter` took is the canonical stream of the entries of its calls.
 #![tactic(auto)]
 
 mod blocks;
-mod head;
 mod ids;
 mod laws;
 mod meta;
-mod numbers;
-mod object;
 mod output;
 #[cfg(test)]
 mod tests;
@@ -21,11 +18,8 @@ mod vectors;
 mod writer;
 
 pub use blocks::{BlobBlock, put_point};
-pub use head::{HeadState, put_head};
 pub use laws::{one_stream_at_most, written_is_canonical};
 pub use meta::put_meta;
-pub use numbers::{put_u16, put_u32, put_u64, put_utf16z, put_var32, put_var64};
-pub use object::{BlockKind, padding, put_block, put_start};
 pub use vectors::{
     a_body_of_964_events_takes_1956_bytes, a_first_event_takes_seven_bytes,
     a_missing_number_takes_three_bytes_more, a_second_event_takes_two_bytes,

@@ -5,8 +5,8 @@ ghost use Rattle.ep_defs.specs.Event.{is_valid_event, is_valid_field};
 ghost use Rattle.nt_write.specs.Kept.{Keeps};
 ghost use Rattle.nt_write.specs.Meta.{after, fields_bytes, inside, inside_bytes, meta_payload};
 
-use crate::numbers::{put_u32, put_u64, put_utf16z};
 use ep_defs::{EventDef, FieldDef};
+use pt_num::{put_u32, put_u64, put_utf16z};
 use std::alloc::AllocError;
 
 // The type code of a field that has fields inside it.

@@ -2,8 +2,8 @@
 ghost use Rattle.std.specs.Prelude.{◌≡◌, ℕ, ◌+◌, ◌*◌, ◌^◌, ◌<◌, ◌≤◌, ◌++◌, List, [], ◌∷◌, length, OnOk, OnErr};
 
 use crate::blocks::BlobBlock;
-use crate::object::{BlockKind, put_block};
 use crate::writer::Fault;
+use nt_object::{BlockKind, put_block};
 use pt_io::Sink;
 use std::alloc::Global;
 
@@ -24,8 +24,8 @@ pub struct Output<S: Sink> {
 }
 
 impl<S: Sink> Output<S> {
-    ghost use Rattle.nt_write.specs.Object.{Block};
-    ghost use Rattle.nt_write.specs.Stream.{blocks_bytes};
+    ghost use Rattle.nt_object.specs.Object.{Block};
+    ghost use Rattle.nt_object.specs.Stream.{blocks_bytes};
     ghost use Rattle.nt_write.specs.Layout.{Draft, with_block, with_block_of, blob_body};
     ghost use Rattle.nt_write.specs.Making.{IsMaking, kind_of};
     ghost use Rattle.nt_write.specs.Writing.{HasWritten, TookAll, TookSome, IsCounted, output_sink};

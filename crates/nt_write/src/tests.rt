@@ -1,11 +1,10 @@
 ghost use Rattle.std.specs.Prelude.{◌≡◌, [], ◌∷◌, IsTrue, IfOk};
 ghost use Rattle.ep_defs.specs.Event.{is_valid_event};
 
-use crate::{
-    BlobBlock, BlockKind, HeadState, put_block, put_head, put_meta, put_point, put_start, put_u16,
-    put_u32, put_u64, put_utf16z, put_var32, put_var64,
-};
-use ep_defs::{EventDef, Items, Units, standard_info};
+use crate::{BlobBlock, put_meta, put_point};
+use ep_defs::{EventDef, Items, Units};
+use nt_head::HeadState;
+use nt_object::{BlockKind, put_block};
 use std::alloc::{AllocError, Global};
 
 fn text(alloc: Global, unit: u16) -> Result<Units, AllocError>
@@ -29,51 +28,6 @@ fn event_e(alloc: Global) -> Result<EventDef, AllocError>
         name,
         fields: Items::new(Vec::new(alloc)),
     })
-}
-
-#[test]
-fn numbers_stand_with_their_low_byte_first(rt: HostRuntime) -> Result<(), AllocError> {
-    let mut out = Vec::new(rt.alloc());
-    put_u16(&mut out, 0x0102)?;
-    put_u32(&mut out, 0x0304_0506)?;
-    put_u64(&mut out, 0x0708_090a_0b0c_0d0e)?;
-    let want = [2, 1, 6, 5, 4, 3, 0x0e, 0x0d, 0x0c, 0x0b, 0x0a, 9, 8, 7];
-    assert_eq!(rt; out.as_slice(), &want[..]);
-    Ok(())
-}
-
-#[test]
-fn varuints_take_the_fewest_bytes(rt: HostRuntime) -> Result<(), AllocError> {
-    let mut out = Vec::new(rt.alloc());
-    put_var32(&mut out, 4_294_967_291)?;
-    put_var32(&mut out, 60_000)?;
-    put_var64(&mut out, 0)?;
-    put_var64(&mut out, u64::MAX)?;
-    let want = [
-        0xfb, 0xff, 0xff, 0xff, 0x0f, 0xe0, 0xd4, 0x03, 0x00, 0xff, 0xff, 0xff, 0xff, 0xff, 0xff,
-        0xff, 0xff, 0xff, 0x01,
-    ];
-    assert_eq!(rt; out.as_slice(), &want[..]);
-    Ok(())
-}
-
-#[test]
-fn a_text_ends_with_a_zero_unit(rt: HostRuntime) -> Result<(), AllocError> {
-    let mut out = Vec::new(rt.alloc());
-    put_utf16z(&mut out, &[0x50, 0x1234])?;
-    assert_eq!(rt; out.as_slice(), &[0x50, 0, 0x34, 0x12, 0, 0][..]);
-    Ok(())
-}
-
-#[test]
-fn a_stream_starts_with_102_bytes(rt: HostRuntime) -> Result<(), AllocError> {
-    let mut out = Vec::new(rt.alloc());
-    put_start(&mut out, &standard_info(1, 1))?;
-    let want =
-        b"Nettrace\x14\0\0\0!FastSerialization.1\x05\x05\x01\x04\0\0\0\x04\0\0\0\x05\0\0\0Trace\x06\xb2\x07\x01\0\x04\0\x01\0\0\0\0\0\0\0\0\0\0\0\0\0\0\0\0\0\0\xca\x9a\x3b\0\0\0\0\x08\0\0\0\x01\0\0\0\x01\0\0\0\0\0\0\0\x06";
-    assert_eq!(rt; out.len(), 102);
-    assert_eq!(rt; out.as_slice(), &want[..]);
-    Ok(())
 }
 
 #[test]
@@ -154,40 +108,5 @@ fn a_block_that_was_cleared_takes_the_blobs_of_a_new_one(
     assert_eq!(rt; block.body(alloc)?, first);
     assert!(rt; block.fits(102_373));
     assert!(rt; !block.fits(102_374));
-    Ok(())
-}
-
-#[test]
-fn the_next_event_of_a_thread_takes_two_bytes(rt: HostRuntime) -> Result<(), AllocError> {
-    let mut head = HeadState::zero();
-    head.metadata = 1;
-    head.number = 1;
-    head.capture = 1;
-    head.thread = 1;
-    head.stamp = 100;
-    let mut next = head;
-    next.number = 2;
-    next.stamp = 101;
-    let mut out = Vec::new(rt.alloc());
-    put_head(&mut out, &head, &next)?;
-    assert_eq!(rt; out.as_slice(), &[0, 1][..]);
-    Ok(())
-}
-
-#[test]
-fn a_number_that_falls_back_takes_an_increment_of_five_bytes(
-    rt: HostRuntime,
-) -> Result<(), AllocError> {
-    let mut head = HeadState::zero();
-    head.metadata = 1;
-    head.number = 5;
-    let mut next = head;
-    next.number = 1;
-    let mut out = Vec::new(rt.alloc());
-    put_head(&mut out, &head, &next)?;
-    assert_eq!(rt;
-        out.as_slice(),
-        &[2, 0xfb, 0xff, 0xff, 0xff, 0x0f, 0, 0, 0][..]
-    );
     Ok(())
 }

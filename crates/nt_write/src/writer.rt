@@ -7,9 +7,9 @@ ghost use Rattle.ep_defs.specs.Event.{is_valid_event};
 ghost use Rattle.ep_defs.specs.Session.{is_info};
 ghost use Rattle.pt_io.specs.Faults.{HasRisen};
 ghost use Rattle.ep_defs.specs.Entry.{Entry, Event, Point};
-ghost use Rattle.nt_write.specs.declared.writer.Fault.TheVariants.{WriteFault, TooLong};
-ghost use Rattle.nt_write.specs.Head.{zero_state};
-ghost use Rattle.nt_write.specs.Stream.{stream_start};
+ghost use Rattle.nt_write.specs.declared.writer.Fault.TheVariants.{WriteFault, TooLong, OutOfMemory};
+ghost use Rattle.nt_head.specs.Head.{zero_state};
+ghost use Rattle.nt_object.specs.Stream.{stream_start};
 ghost use Rattle.nt_write.specs.Layout.{Draft, blob_body, passes, event_draft};
 ghost use Rattle.nt_write.specs.Making.{IsMaking};
 ghost use Rattle.nt_write.specs.Writable.{CanWrite};
@@ -17,12 +17,13 @@ ghost use Rattle.nt_write.specs.Writing.{AreIds, TookAll, TookSome, IsCounted};
 ghost use Rattle.nt_write.specs.Writer.{entry_of};
 
 use crate::blocks::{BlobBlock, put_point};
-use crate::head::HeadState;
 use crate::ids::IdTable;
 use crate::meta::put_meta;
-use crate::object::{BlockKind, put_start};
 use crate::output::Output;
+use ep_defs::ranges::info_fits;
 use ep_defs::{EventDef, TraceInfo};
+use nt_head::HeadState;
+use nt_object::{BlockKind, put_start};
 use pt_io::{Failed, Sink};
 use std::alloc::{AllocError, Global};
 
@@ -92,7 +93,7 @@ const BLOB: usize = 88;
 
 impl<S: Sink> TraceWriter<S> {
     ghost use Rattle.ep_defs.specs.Event.{is_same_event};
-    ghost use Rattle.nt_write.specs.Stream.{blocks_bytes};
+    ghost use Rattle.nt_object.specs.Stream.{blocks_bytes};
     ghost use Rattle.nt_write.specs.Layout.{Layout, id_in, flushed, with_event, with_point};
     ghost use Rattle.nt_write.specs.Writing.{definition_at, AreDistinct, IsAt, id_at, ids_of, metadata_of, events_of, flushed_if, roomy, with_definition};
     ghost use Rattle.nt_write.specs.Writer.{fault_of, sink_of, entry_of, point_of, IsWriting, TookPart, TookStream};
@@ -103,10 +104,11 @@ impl<S: Sink> TraceWriter<S> {
         ensures part { IfErr result (λ failed. TookPart S.tells_taken S.taken (S.taken sink) info.now [] failed.0) }
         ensures write_fault { IfErr result (λ failed. failed.1 ≡ WriteFault → HasRisen (S.write_faults sink) (S.write_faults failed.0)) }
         ensures not_long { IfErr result (λ failed. failed.1 ≢ TooLong) }
+        ensures memory { IfErr result (λ failed. failed.1 ≡ OutOfMemory → S.write_faults failed.0 ≡ S.write_faults sink) }
         ensures wrote { IfOk result (λ writer. S.write_faults (sink_of writer) ≡ S.write_faults sink) }
         ensures later { IfErr result (λ failed. S.write_faults sink ≤ S.write_faults failed.0) }
     {
-        note_info(info);
+        info_fits(info);
         let mut sink = sink;
         match write_start(alloc, &mut sink, info) {
             Ok(ids) => Ok(TraceWriter {
@@ -143,6 +145,7 @@ impl<S: Sink> TraceWriter<S> {
         ensures stays { (fault : _) → fault_of self.old ≡ Some fault → (result ≡ Err fault) × (self.new ≡ self.old) }
         ensures write_fault { result ≡ Err WriteFault → (fault_of self.old ≡ Some WriteFault) ⊎ HasRisen (S.write_faults (sink_of self.old)) (S.write_faults (sink_of self.new)) }
         ensures too_long { result ≡ Err TooLong → fault_of self.old ≡ Some TooLong }
+        ensures memory { result ≡ Err OutOfMemory → S.write_faults (sink_of self.new) ≡ S.write_faults (sink_of self.old) }
         ensures wrote { OnOk result (S.write_faults (sink_of self.new) ≡ S.write_faults (sink_of self.old)) }
         ensures later { S.write_faults (sink_of self.old) ≤ S.write_faults (sink_of self.new) }
     {
@@ -169,6 +172,7 @@ impl<S: Sink> TraceWriter<S> {
         ensures stays { (fault : _) → fault_of self.old ≡ Some fault → (result ≡ Err fault) × (self.new ≡ self.old) }
         ensures write_fault { result ≡ Err WriteFault → (fault_of self.old ≡ Some WriteFault) ⊎ HasRisen (S.write_faults (sink_of self.old)) (S.write_faults (sink_of self.new)) }
         ensures too_long { result ≡ Err TooLong → fault_of self.old ≡ Some TooLong }
+        ensures memory { result ≡ Err OutOfMemory → S.write_faults (sink_of self.new) ≡ S.write_faults (sink_of self.old) }
         ensures wrote { OnOk result (S.write_faults (sink_of self.new) ≡ S.write_faults (sink_of self.old)) }
         ensures later { S.write_faults (sink_of self.old) ≤ S.write_faults (sink_of self.new) }
     {
@@ -191,6 +195,7 @@ impl<S: Sink> TraceWriter<S> {
         ensures stays { (fault : _) → fault_of self ≡ Some fault → (result.1 ≡ Err fault) × (result.0 ≡ sink_of self) }
         ensures write_fault { result.1 ≡ Err WriteFault → (fault_of self ≡ Some WriteFault) ⊎ HasRisen (S.write_faults (sink_of self)) (S.write_faults result.0) }
         ensures too_long { result.1 ≡ Err TooLong → fault_of self ≡ Some TooLong }
+        ensures memory { result.1 ≡ Err OutOfMemory → S.write_faults result.0 ≡ S.write_faults (sink_of self) }
         ensures wrote { OnOk result.1 (S.write_faults result.0 ≡ S.write_faults (sink_of self)) }
         ensures later { S.write_faults (sink_of self) ≤ S.write_faults result.0 }
     {
@@ -384,25 +389,6 @@ fn write_start<S: Sink>(alloc: Global, sink: &mut S, info: &TraceInfo) -> Result
     put_start(&mut bytes, info)?;
     sink.write(&bytes)?;
     Ok(ids)
-}
-
-// Reads the numbers of the start, since the ranges of their types are what a stream needs of them.
-fn note_info(info: &TraceInfo)
-    ensures { IsTrue (is_info info.now) }
-{
-    note_units(&info.date);
-    let _sync = info.sync;
-    let _frequency = info.frequency;
-    let _pointer_size = info.pointer_size;
-    let _process_id = info.process_id;
-    let _processors = info.processors;
-    let _rate = info.rate;
-}
-
-fn note_units(units: &[u16])
-    ensures { IsTrue (list_all (λ n. nat_lt n (2 ^ 16)) units.now) }
-{
-    let _count = units.len();
 }
 
 // Reads the numbers of an event, since the ranges of their types are what a stream needs of them.

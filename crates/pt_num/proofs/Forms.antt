@@ -1,15 +1,17 @@
 -- What is read as a varuint is one, and what is none is refused.
-use Rattle.std.proofs.Common.{◌≡◌, ◌≢◌, ◌↔◌, ℕ, zero, suc, ◌+◌, ◌-◌, ◌*◌, ◌%◌, ◌^◌, ◌<◌, ◌≤◌, true, false, List, [], ◌∷◌, ◌++◌, length, take, drop, Ok, Err, refl, ap, ◌∙◌, sym, subst, arith, get_or, inl, inr}
+use Rattle.std.proofs.Common.{◌≡◌, ◌≢◌, ◌↔◌, ℕ, zero, suc, ◌+◌, ◌-◌, ◌*◌, ◌/◌, ◌%◌, ◌^◌, ◌<◌, ◌≤◌, true, false, List, [], ◌∷◌, ◌++◌, length, take, drop, Ok, Err, refl, ap, ◌∙◌, sym, subst, arith, get_or, inl, inr}
 use Rattle.std.specs.Prelude.{nat_le, IsTrue}
 use Rattle.std.specs.Int.{Width, w32, w64, is_in_range}
 use Rattle.std.specs.List.{list_all}
 use Rattle.std.proofs.Math.Nat.{one-le-pow, pow-suc, mul_assoc, mul-le-mul}
 use Rattle.std.proofs.lemmas.Bool.{cases_lt, lt-ltb, ltb-true, le-leb, leb-true, and_from, and_parts, false≢true}
 use Rattle.std.proofs.lemmas.Bool.Decides.{nat_tests}
-use Rattle.std.proofs.lemmas.List.{length-append, length-drop, take_at}
+use Rattle.std.proofs.lemmas.List.{length-append, length-drop, take_at, append_cancel_right}
 use Rattle.pt_num.specs.declared.varuint.Taken.{Taken}
 use Rattle.pt_num.specs.declared.varuint.Taken.TheVariants as taken
-use Rattle.pt_num.specs.Numbers.{are_groups, groups_value, IsVar}
+use Rattle.pt_num.specs.Numbers.{are_groups, groups_value, last_byte, most_groups, short_groups, short_var, IsVar, IsShortVar}
+use Rattle.pt_num.specs.Begins.{Begins}
+use Rattle.pt_num.proofs.Groups.{short_groups-last, short_groups-next}
 use Rattle.pt_num.specs.Fields.{Field, Fault, Short, TooWide, NoZero, with_group, groups_at, var_at}
 use Rattle.pt_num.specs.Taking.{Takes, IfValue, are_high}
 use Rattle.pt_num.proofs.Reading.{last_over, group_ends, group_more, groups_none}
@@ -245,3 +247,65 @@ pub form_64 : (bytes : List ℕ) (answer : Taken ℕ) → ((i : ℕ) → get_or 
 form_64 bytes (taken.Value value used) fits takes = var_64 value used bytes fits takes.0 takes.1
 form_64 bytes taken.Short fits takes = tt
 form_64 bytes taken.TooWide fits takes = tt
+
+-- ---- laws
+
+-- What is read as a varuint of 32 bits begins with one.
+pub begins_32 : (bytes rest : List ℕ) (value : ℕ) → ((i : ℕ) → get_or bytes i 0 < 256) → var_at w32 bytes ≡ Ok (value, rest) → Begins (IsVar w32 value) bytes rest
+begins_32 bytes rest value fits e =
+    let front = front_of bytes bytes rest 4 15 value (omega arith) fits e in
+    (front.front, record { groups = front.groups; few = front.few; sum = front.sum; fits = front.low }, front.whole)
+
+-- What is read as a varuint of 64 bits begins with one.
+pub begins_64 : (bytes rest : List ℕ) (value : ℕ) → ((i : ℕ) → get_or bytes i 0 < 256) → var_at w64 bytes ≡ Ok (value, rest) → Begins (IsVar w64 value) bytes rest
+begins_64 bytes rest value fits e =
+    let front = front_of bytes bytes rest 9 1 value (omega arith) fits e in
+    (front.front, record { groups = front.groups; few = front.few; sum = front.sum; fits = front.low }, front.whole)
+
+-- Pieces that are read alike, whatever follows, are the same where the bytes are.
+pub same_pieces : (n m : ℕ) (xs ys more other : List ℕ) (field : List ℕ → Field ℕ) → field (xs ++ more) ≡ Ok (n, more) → field (ys ++ other) ≡ Ok (m, other) → xs ++ more ≡ ys ++ other → (n ≡ m) × (xs ≡ ys)
+same_pieces n m xs ys more other field first second e =
+    let same = Ok-same n m more other (sym first ∙ ap field e ∙ second) in
+    (same.0, append_cancel_right xs ys more (e ∙ ap (λ (bytes : List ℕ). ys ++ bytes) (sym same.1)))
+
+-- ---- the short form
+
+-- A last byte above 0 makes a value above 0.
+some_value : (bytes : List ℕ) → are_groups bytes ≡ true → 0 < last_byte bytes → 0 < groups_value bytes
+some_value [] groups some = absurd (omega arith)
+some_value (b ∷ []) groups some = let small = ltb-true b 128 groups in omega (arith, small, some)
+some_value (b ∷ c ∷ bytes) groups some =
+    let parts = and_parts (is_in_range 128 255 b) (are_groups (c ∷ bytes)) groups in
+    omega (arith, some_value (c ∷ bytes) parts.1 some)
+
+-- Groups with a last byte above 0 are those of their value.
+short_unique : (more : ℕ) (bytes : List ℕ) → are_groups bytes ≡ true → length bytes ≤ more → 0 < last_byte bytes → bytes ≡ short_groups more (groups_value bytes)
+short_unique more [] groups few some = absurd (omega arith)
+short_unique more (b ∷ []) groups few some =
+    let small = ltb-true b 128 groups in
+    let value : b % 128 + 128 * 0 ≡ b = omega (arith, small) in
+    rw value (sym (short_groups-last more b (omega (arith, few)) small))
+short_unique zero (b ∷ c ∷ bytes) groups few some = absurd (omega arith)
+short_unique (suc more) (b ∷ c ∷ bytes) groups few some =
+    let parts = and_parts (is_in_range 128 255 b) (are_groups (c ∷ bytes)) groups in
+    let range = and_parts (nat_le 128 b) (nat_le b 255) parts.0 in
+    let low = leb-true 128 b range.0 in
+    let high = leb-true b 255 range.1 in
+    let later = groups_value (c ∷ bytes) in
+    let positive = some_value (c ∷ bytes) parts.1 some in
+    let first : 128 + (b % 128 + 128 * later) % 128 ≡ b = omega (arith, low, high) in
+    let rest : (b % 128 + 128 * later) / 128 ≡ later = omega arith in
+    sym (
+    short_groups-next (suc more) more (b % 128 + 128 * later) (omega arith) (omega (arith, positive))
+    ∙ rw (first, rest) (ap (λ (bs : List ℕ). b ∷ bs) (sym (short_unique more (c ∷ bytes) parts.1 (omega (arith, few)) some)))
+    )
+
+-- A short form is the one of its value.
+pub one_short : (w : Width) (value : ℕ) (bytes : List ℕ) → 0 < most_groups w → IsShortVar w value bytes → bytes ≡ short_var w value
+one_short w value bytes some h =
+    elim h.short [
+      | inl lone ↦
+          let none : value ≡ 0 = h.var.sum ∙ ap groups_value lone in
+          rw (lone, none) (sym (short_groups-last (most_groups w) 0 some (omega arith)))
+      | inr last ↦ rw h.var.sum (short_unique (most_groups w) bytes h.var.groups h.var.few last)
+    ]

@@ -1,5 +1,5 @@
 -- Texts, read and put.
-use Rattle.std.proofs.Common.{◌≡◌, ◌↔◌, ℕ, zero, suc, ◌+◌, ◌-◌, ◌*◌, ◌%◌, ◌^◌, ◌<◌, ◌≤◌, Bool, true, false, List, [], ◌∷◌, ◌++◌, ◌⊎◌, inl, inr, length, take, drop, Result, Ok, Err, refl, ap, ◌∙◌, sym, subst, arith, get_or, append_assoc, append-nil}
+use Rattle.std.proofs.Common.{◌≡◌, ◌↔◌, ℕ, zero, suc, ◌+◌, ◌-◌, ◌*◌, ◌/◌, ◌%◌, ◌^◌, ◌<◌, ◌≤◌, Bool, true, false, List, [], ◌∷◌, ◌++◌, ◌⊎◌, inl, inr, length, take, drop, Result, Ok, Err, refl, ap, ◌∙◌, sym, subst, arith, get_or, append_assoc, append-nil}
 use Rattle.std.specs.Prelude.{nat_eq, nat_le, nat_lt, IsTrue}
 use Rattle.std.specs.Int.{w16, w32, is_in_range}
 use Rattle.std.specs.List.{list_all, flat_map}
@@ -14,7 +14,8 @@ use Rattle.pt_num.specs.Texts.{units_bytes, units_in, text_z, are_units, are_wid
 use Rattle.pt_num.specs.Steps.{◌>>=◌, check}
 use Rattle.pt_num.specs.Fields.{Field, Fault, Short, TooWide, NoZero, fixed_at, with_unit, text_z_at, units_at, counted_units_at, text_c_at}
 use Rattle.pt_num.specs.Taking.{TakesText, IfUnits}
-use Rattle.pt_num.proofs.FixedForms.{fixed_16, front_fits}
+use Rattle.pt_num.proofs.FixedForms.{fixed_16, front_fits, read_fixed}
+use Rattle.pt_num.specs.Begins.{Begins}
 
 -- ---- one unit
 
@@ -421,3 +422,62 @@ text_c_is units few fits = inr (refl, omega (arith, few), wide units fits)
         and_from (is_in_range 0 65535 unit) (are_wide units)
         (and_from (nat_le 0 unit) (nat_le unit 65535) (le-leb 0 unit (omega arith)) (le-leb unit 65535 (omega (arith, fits 0))))
         (wide units (λ i. fits (suc i)))
+
+-- ---- laws
+
+-- The two bytes of a unit, and the unit that they make.
+unit_made : (unit : ℕ) → unit < 2 ^ 16 → unit % 256 + 256 * (unit / 256 % 256) ≡ unit
+unit_made unit fits = omega arith
+
+-- A text is read, whatever follows.
+pub read_z : (units rest : List ℕ) → are_units units ≡ true → text_z_at (text_z units ++ rest) ≡ Ok (units, rest)
+unfolding fixed
+read_z [] rest all = text_ends 0 0 rest refl refl
+read_z (unit ∷ units) rest all =
+    let parts = and_parts (is_in_range 1 65535 unit) (are_units units) all in
+    let range = and_parts (nat_le 1 unit) (nat_le unit 65535) parts.0 in
+    let some = leb-true 1 unit range.0 in
+    let made = unit_made unit (omega (arith, leb-true unit 65535 range.1)) in
+    let tail = text_z units ++ rest in
+    text_more (unit % 256) (unit / 256 % 256) tail (omega (arith, made, some))
+    ∙ ap (with_unit (unit % 256 + 256 * (unit / 256 % 256))) (read_z units rest parts.1)
+    ∙ ap (λ (n : ℕ). Ok (n ∷ units, rest)) made
+
+-- A text that is read begins the bytes.
+pub begins_z : (bytes units rest : List ℕ) → ((i : ℕ) → get_or bytes i 0 < 256) → text_z_at bytes ≡ Ok (units, rest) → Begins (IsTextZ units) bytes rest
+begins_z bytes units rest fits e = let front = front_z bytes units rest fits e in (front.front, front.form, front.whole)
+
+-- The units of their own bytes.
+units_back : (units : List ℕ) → are_wide units ≡ true → units_in (units_bytes units) ≡ units
+unfolding fixed
+units_back [] all = refl
+units_back (unit ∷ units) all =
+    let parts = and_parts (is_in_range 0 65535 unit) (are_wide units) all in
+    let range = and_parts (nat_le 0 unit) (nat_le unit 65535) parts.0 in
+    let made = unit_made unit (omega (arith, leb-true unit 65535 range.1)) in
+    rw made (ap (λ (us : List ℕ). unit ∷ us) (units_back units parts.1))
+
+-- Units take two bytes each.
+units_long : (units : List ℕ) → length (units_bytes units) ≡ 2 * length units
+unfolding fixed
+units_long [] = refl
+units_long (unit ∷ units) = omega (arith, units_long units)
+
+-- A counted text is read, whatever follows.
+pub read_c : (units bytes rest : List ℕ) → IsTextC units bytes → text_c_at (bytes ++ rest) ≡ Ok (units, rest)
+read_c units bytes rest (inl none) =
+    let counts = read_fixed w32 0 rest (omega arith) in
+    rw (none.0, none.1) (ap (λ (field : Field ℕ). field >>= λ count. counted_units_at count.0 count.1) counts)
+read_c units bytes rest (inr some) =
+    let text = units_bytes units in
+    let zeros : fixed w16 0 ≡ 0 ∷ 0 ∷ [] = unit_bytes 0 0 (omega arith) (omega arith) in
+    let count : length units + 1 ≡ suc (length units) = omega arith in
+    let grouped : (fixed w32 (length units + 1) ++ (text ++ 0 ∷ 0 ∷ [])) ++ rest ≡ fixed w32 (length units + 1) ++ (text ++ 0 ∷ 0 ∷ rest) = simp append_assoc in
+    let counts = read_fixed w32 (length units + 1) (text ++ 0 ∷ 0 ∷ rest) (omega (arith, some.1)) in
+    let whole : bytes ++ rest ≡ fixed w32 (length units + 1) ++ (text ++ 0 ∷ 0 ∷ rest) = rw (some.0, zeros) grouped in
+    ap text_c_at whole
+    ∙ ap (λ (field : Field ℕ). field >>= λ count. counted_units_at count.0 count.1) counts
+    ∙ ap (λ (n : ℕ). counted_units_at n (text ++ 0 ∷ 0 ∷ rest)) count
+    ∙ counted_read (length units) 0 0 text rest (units_long units)
+    ∙ judged_zero 0 0 (units_in text) rest refl refl
+    ∙ ap (λ (us : List ℕ). Ok (us, rest)) (units_back units some.2)

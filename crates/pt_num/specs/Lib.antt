@@ -1,3 +1,4 @@
+pub mod Begins
 pub mod Fields
 pub mod Numbers
 pub mod Pieces

@@ -10,11 +10,15 @@
 #![tactic(auto)]
 
 mod fixed;
+mod laws;
 pub mod limits;
 mod text;
 mod varuint;
 
 pub use fixed::{put_u16, put_u32, put_u64, take_u16, take_u32, take_u64};
+pub use laws::{
+    no_form_begins_another, one_short_form, what_is_put_is_taken, what_is_taken_is_a_form,
+};
 pub use text::{TakenText, put_counted, put_utf16z, take_counted, take_utf16z};
 pub use varuint::{Taken, push_var32, push_var64, put_var32, put_var64, take_var32, take_var64};
 

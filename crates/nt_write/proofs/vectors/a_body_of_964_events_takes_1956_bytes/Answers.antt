@@ -1,5 +1,5 @@
 use Rattle.std.proofs.Common.{refl}
-use Rattle.nt_write.specs.Numbers.{fixed, short_groups}
+use Rattle.pt_num.specs.Numbers.{fixed, short_groups}
 use Rattle.nt_write.proofs.vectors.a_body_of_964_events_takes_1956_bytes.Goals as goal
 
 pub returns : goal.returns

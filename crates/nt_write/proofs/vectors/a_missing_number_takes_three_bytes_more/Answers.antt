@@ -1,5 +1,5 @@
 use Rattle.std.proofs.Common.{refl}
-use Rattle.nt_write.specs.Numbers.{short_groups}
+use Rattle.pt_num.specs.Numbers.{short_groups}
 use Rattle.nt_write.proofs.vectors.a_missing_number_takes_three_bytes_more.Goals as goal
 
 pub returns : goal.returns

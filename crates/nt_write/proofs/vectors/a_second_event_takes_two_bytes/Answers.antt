@@ -1,5 +1,5 @@
 use Rattle.std.proofs.Common.{refl}
-use Rattle.nt_write.specs.Numbers.{short_groups}
+use Rattle.pt_num.specs.Numbers.{short_groups}
 use Rattle.nt_write.proofs.vectors.a_second_event_takes_two_bytes.Goals as goal
 
 pub returns : goal.returns

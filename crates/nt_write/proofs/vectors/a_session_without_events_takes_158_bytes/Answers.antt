@@ -1,5 +1,5 @@
 use Rattle.std.proofs.Common.{refl}
-use Rattle.nt_write.specs.Numbers.{fixed, short_groups}
+use Rattle.pt_num.specs.Numbers.{fixed, short_groups}
 use Rattle.nt_write.proofs.vectors.a_session_without_events_takes_158_bytes.Goals as goal
 
 pub returns-clause-bytes : goal.returns-clause-bytes

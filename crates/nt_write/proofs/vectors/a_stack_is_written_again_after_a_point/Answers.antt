@@ -1,5 +1,5 @@
 use Rattle.std.proofs.Common.{refl}
-use Rattle.nt_write.specs.Numbers.{fixed, short_groups}
+use Rattle.pt_num.specs.Numbers.{fixed, short_groups}
 use Rattle.nt_write.proofs.vectors.a_stack_is_written_again_after_a_point.Goals as goal
 
 pub returns-clause-stacks : goal.returns-clause-stacks

@@ -1,5 +1,5 @@
 use Rattle.std.proofs.Common.{refl}
-use Rattle.nt_write.specs.Numbers.{fixed, short_groups}
+use Rattle.pt_num.specs.Numbers.{fixed, short_groups}
 use Rattle.nt_write.proofs.vectors.five_events_of_one_thread_and_one_of_another.Goals as goal
 
 pub returns-clause-head : goal.returns-clause-head

@@ -1,5 +1,5 @@
 use Rattle.std.proofs.Common.{refl}
-use Rattle.nt_write.specs.Numbers.{fixed}
+use Rattle.pt_num.specs.Numbers.{fixed}
 use Rattle.nt_write.proofs.vectors.nested_fields_stand_before_the_name.Goals as goal
 
 pub returns : goal.returns

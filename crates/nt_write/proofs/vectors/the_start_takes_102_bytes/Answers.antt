@@ -1,5 +1,5 @@
 use Rattle.std.proofs.Common.{refl}
-use Rattle.nt_write.specs.Numbers.{fixed}
+use Rattle.pt_num.specs.Numbers.{fixed}
 use Rattle.nt_write.proofs.vectors.the_start_takes_102_bytes.Goals as goal
 
 pub returns-clause-bytes : goal.returns-clause-bytes

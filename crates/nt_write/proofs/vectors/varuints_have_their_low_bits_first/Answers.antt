@@ -1,5 +1,5 @@
 use Rattle.std.proofs.Common.{refl}
-use Rattle.nt_write.specs.Numbers.{short_groups}
+use Rattle.pt_num.specs.Numbers.{short_groups}
 use Rattle.nt_write.proofs.vectors.varuints_have_their_low_bits_first.Goals as goal
 
 pub returns-clause-one_byte : goal.returns-clause-one_byte

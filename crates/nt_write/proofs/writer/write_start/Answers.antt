@@ -1,5 +1,5 @@
 use Rattle.std.proofs.Common.{[]}
-use Rattle.nt_write.specs.Stream.{stream_start}
+use Rattle.nt_object.specs.Stream.{stream_start}
 use Rattle.nt_write.proofs.Answered.{on_err}
 use Rattle.nt_write.proofs.Prefixes.{some-none}
 use Rattle.nt_write.proofs.writer.write_start.Goals as goal

@@ -1,4 +1,4 @@
-use Rattle.nt_write.specs.Stream.{blocks_bytes}
+use Rattle.nt_object.specs.Stream.{blocks_bytes}
 use Rattle.nt_write.specs.Layout.{with_block_of, blob_body}
 use Rattle.nt_write.specs.Making.{kind_of}
 use Rattle.nt_write.proofs.Placing.{with_block_of-extends}

@@ -1,5 +1,5 @@
 use Rattle.std.proofs.Common.{refl}
-use Rattle.nt_write.specs.Stream.{blocks_bytes}
+use Rattle.nt_object.specs.Stream.{blocks_bytes}
 use Rattle.nt_write.specs.Writing.{roomy}
 use Rattle.nt_write.specs.Writer.{entry_of}
 use Rattle.nt_write.proofs.Answered.{on_err}

@@ -4,7 +4,7 @@ use Rattle.nt_write.proofs.writer.TraceWriter.begin.Goals as goal
 
 pub returns-in-Ok-clause-ok : goal.returns-in-Ok-clause-ok
 returns-in-Ok-clause-ok g c events =
-    begun g.S.Sink.tells_taken g.S.Sink.taken (g.S.Sink.taken c.args.sink) events c.args.info.now c.write_start.new.sink _ c.note_info.ensures refl c.in-Ok.ensures.ok c.new.ensures.sink c.new.ensures.empty (c.in-Ok.ensures.ids events) c.new-in-Ok.ensures.empty c.new-in-Ok.ensures.kind c.new-in-Ok-2.ensures.empty c.new-in-Ok-2.ensures.kind
+    begun g.S.Sink.tells_taken g.S.Sink.taken (g.S.Sink.taken c.args.sink) events c.args.info.now c.write_start.new.sink _ c.info_fits.ensures refl c.in-Ok.ensures.ok c.new.ensures.sink c.new.ensures.empty (c.in-Ok.ensures.ids events) c.new-in-Ok.ensures.empty c.new-in-Ok.ensures.kind c.new-in-Ok-2.ensures.empty c.new-in-Ok-2.ensures.kind
 
 pub returns-in-Err-clause-part : goal.returns-in-Err-clause-part
 returns-in-Err-clause-part g c =

@@ -1,7 +1,7 @@
 use Rattle.std.proofs.Common.{◌≡◌, ℕ, ◌+◌, ◌≤◌, Bool, List, length, ap, sym, ◌∙◌, refl, arith, subst}
 use Rattle.ep_defs.specs.declared.event.EventDef.{EventDef}
 use Rattle.nt_write.specs.Meta.{meta_payload}
-use Rattle.nt_write.specs.Stream.{blocks_bytes}
+use Rattle.nt_object.specs.Stream.{blocks_bytes}
 use Rattle.nt_write.specs.Layout.{new_metas, needs_flush}
 use Rattle.nt_write.specs.Writing.{IsAt, TookSome, flushed_if, roomy}
 use Rattle.nt_write.specs.Writer.{entry_of}

@@ -1,5 +1,5 @@
 use Rattle.std.proofs.Common.{◌++◌}
-use Rattle.nt_write.specs.Stream.{stream_start}
+use Rattle.nt_object.specs.Stream.{stream_start}
 use Rattle.nt_write.specs.Layout.{empty_layout, with_entries}
 use Rattle.nt_write.proofs.Entries.{no_fault, writing-no_stacks, ended, broken}
 use Rattle.nt_write.proofs.writer.TraceWriter.end.Goals as goal

@@ -1,5 +1,5 @@
 use Rattle.std.proofs.Common.{[], ◌∷◌, ◌++◌}
-use Rattle.nt_write.specs.Stream.{blocks_bytes}
+use Rattle.nt_object.specs.Stream.{blocks_bytes}
 use Rattle.nt_write.specs.Layout.{flushed}
 use Rattle.nt_write.proofs.Answered.{on_err}
 use Rattle.nt_write.proofs.Prefixes.{prefix-more, some-longer}

@@ -1,8 +1,8 @@
 use Rattle.std.proofs.Common.{subst, refl, List}
-use Rattle.nt_write.specs.Object.{Block}
-use Rattle.nt_write.specs.Stream.{blocks_bytes}
+use Rattle.nt_object.specs.Object.{Block}
+use Rattle.nt_object.specs.Stream.{blocks_bytes}
 use Rattle.nt_write.specs.Layout.{Layout, new_metas, blob_body, with_block_of, flushed}
-use Rattle.nt_write.specs.declared.object.BlockKind.{BlockKind}
+use Rattle.nt_object.specs.declared.object.BlockKind.{BlockKind}
 use Rattle.nt_write.specs.Making.{kind_of}
 use Rattle.nt_write.specs.Writing.{HasWritten, TookSome}
 use Rattle.nt_write.proofs.Answered.{on_err, on_ok-both}

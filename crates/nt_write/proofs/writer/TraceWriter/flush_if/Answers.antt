@@ -1,4 +1,4 @@
-use Rattle.nt_write.specs.Stream.{blocks_bytes}
+use Rattle.nt_object.specs.Stream.{blocks_bytes}
 use Rattle.nt_write.specs.Writing.{TookSome, flushed_if}
 use Rattle.nt_write.proofs.writer.TraceWriter.flush_if.Goals as goal
 

@@ -1,5 +1,5 @@
 use Rattle.std.proofs.Common.{◌++◌, refl}
-use Rattle.nt_write.specs.Stream.{stream_start, blocks_bytes}
+use Rattle.nt_object.specs.Stream.{stream_start, blocks_bytes}
 use Rattle.ep_defs.specs.Entry.{Point}
 use Rattle.nt_write.specs.Layout.{empty_layout, with_entries, with_point}
 use Rattle.nt_write.specs.Writer.{point_of}

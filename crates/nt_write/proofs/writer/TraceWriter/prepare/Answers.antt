@@ -1,5 +1,5 @@
 use Rattle.std.proofs.Common.{Bool, length, ◌∙◌, refl, subst}
-use Rattle.nt_write.specs.Stream.{blocks_bytes}
+use Rattle.nt_object.specs.Stream.{blocks_bytes}
 use Rattle.nt_write.specs.Layout.{needs_flush}
 use Rattle.nt_write.specs.Writing.{IsAt, TookSome, flushed_if, roomy}
 use Rattle.nt_write.specs.Writer.{entry_of}

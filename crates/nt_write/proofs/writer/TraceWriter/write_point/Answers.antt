@@ -1,6 +1,6 @@
 use Rattle.std.proofs.Common.{◌≡◌, ℕ, ◌+◌, ◌*◌, List, length, ap, ◌∙◌, refl, arith, subst}
-use Rattle.nt_write.specs.declared.object.BlockKind.TheVariants as block
-use Rattle.nt_write.specs.Stream.{blocks_bytes}
+use Rattle.nt_object.specs.declared.object.BlockKind.TheVariants as block
+use Rattle.nt_object.specs.Stream.{blocks_bytes}
 use Rattle.nt_write.specs.Bodies.{point_body}
 use Rattle.nt_write.specs.Layout.{with_block, flushed}
 use Rattle.nt_write.specs.Writing.{TookSome}

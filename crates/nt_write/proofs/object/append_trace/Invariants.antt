@@ -1,9 +1,0 @@
--- So far the parts of the date before this one are put.
-use Rattle.std.proofs.Common.{◌≡◌, ◌++◌, take}
-use Rattle.std.specs.Int.{w16}
-use Rattle.std.specs.List.{flat_map}
-use Rattle.nt_write.specs.Numbers.{fixed}
-use Rattle.nt_write.proofs.object.append_trace.Given as goal
-
-abbrev pub invariant-loop-part : goal.invariant-loop-part
-invariant-loop-part l = l.out.items ≡ l.initial.out.items ++ flat_map (fixed w16) (take l.part-index l.part-items)
