@@ -5,6 +5,7 @@ mod InOrder
 mod Numbers
 mod Others
 mod Sessions
+mod Spent
 mod Tally
 mod TodayAdmitted
 mod TodayFinished

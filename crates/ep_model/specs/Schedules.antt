@@ -1,11 +1,12 @@
 -- Small schedules, of which it is computed what they amount to.
-use Rattle.std.specs.Prelude.{ℕ, Bool, true, false, List, [], ◌∷◌, ◌++◌, map, replicate, codes}
+use Rattle.std.specs.Prelude.{ℕ, zero, suc, Bool, true, false, List, [], ◌∷◌, ◌++◌, map, replicate, codes}
 use Rattle.std.specs.List.{flat_map, range_with_len}
 use Rattle.ep_defs.specs.declared.event.EventDef.{EventDef}
 use Rattle.ep_defs.specs.declared.session.Config.{Config}
 use Rattle.ep_defs.specs.declared.session.Write.{Write}
 use Rattle.ep_defs.specs.Samples.{zero_id, event_e, config_p, write_e}
 use Rattle.ep_defs.specs.Entry.{Entry, Event, Point}
+use Rattle.ep_model.specs.History.{Past}
 use Rattle.ep_model.specs.declared.step.Kind.{Kind}
 use Rattle.ep_model.specs.declared.step.Kind.TheVariants as kind
 use Rattle.ep_model.specs.declared.step.Step.{Step}
@@ -124,6 +125,22 @@ abbrev pub one_refused : List Step
 one_refused =
     one_chunk ++ shown_at 1 half_chunk ++ shown_at 2 half_chunk ++ shown_at 3 (write_e 1)
     ++ Close 1 1 ∷ Give 1 ∷ Close 1 2 ∷ Finish 1 9 ∷ []
+
+-- So many writes of 68 bytes of thread 1 after a past, each shown to session 1; the first at stamp 0.
+abbrev pub writes_after : Past → ℕ → Past
+writes_after past zero = past
+writes_after past (suc n) = End 1 ∷ Show 1 1 ∷ Begin 1 n (write_e 1) ∷ writes_after past n
+
+-- Session 1 has one chunk and is open on thread 1.
+abbrev pub one_small_chunk : Past
+one_small_chunk = Open 1 1 ∷ Accept 1 (config_with 1 true 1) ∷ []
+
+-- 964 such writes, a Steal and a Give, one write more, and the end; the newest first.
+abbrev pub spent : Past
+spent =
+    Finish 1 1000 ∷ Close 1 1 ∷ Give 1 ∷ Steal 1 1
+    ∷ End 1 ∷ Show 1 1 ∷ Begin 1 964 (write_e 1)
+    ∷ Give 1 ∷ Steal 1 1 ∷ writes_after one_small_chunk 964
 
 -- The numbers of the events that the entries tell.
 abbrev pub numbers_in : Entry → List ℕ

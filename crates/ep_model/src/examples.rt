@@ -2,8 +2,8 @@
 ghost use Rattle.std.specs.Prelude.{◌≡◌, true, false, [], ◌∷◌, length, map, replicate, reverse, Some, None};
 ghost use Rattle.ep_model.specs.Chunks.{refused};
 ghost use Rattle.ep_model.specs.Entries.{entries};
-ghost use Rattle.ep_model.specs.Lawful.{first_unlawful};
-ghost use Rattle.ep_model.specs.Schedules.{two_levels, one_event, one_event_told, stolen_in_write, named_once, named_once_told, one_frame, one_frame_told, full_chunk, over_chunk, given_late, given_early, stolen_elsewhere, refused_elsewhere, one_refused, numbers_told, came_and_went, came_and_went_told, row_is_freed, refusals, four_keywords, two_sessions, keywords_told};
+ghost use Rattle.ep_model.specs.Lawful.{IsLawful, first_unlawful};
+ghost use Rattle.ep_model.specs.Schedules.{two_levels, one_event, one_event_told, stolen_in_write, named_once, named_once_told, one_frame, one_frame_told, full_chunk, over_chunk, given_late, given_early, stolen_elsewhere, spent, refused_elsewhere, one_refused, numbers_told, came_and_went, came_and_went_told, row_is_freed, refusals, four_keywords, two_sessions, keywords_told};
 
 /// One event is begun, shown, stolen and given back, and the session is closed and finished.
 pub fn one_event_is_told_with_a_point()
@@ -41,6 +41,12 @@ pub fn a_chunk_is_free_after_steal_and_give()
     ensures late { refused 1 1 (reverse given_late) ≡ 2 ∷ 3 ∷ [] }
     ensures early { refused 1 1 (reverse given_early) ≡ 2 ∷ [] }
     ensures elsewhere { refused 1 1 (reverse stolen_elsewhere) ≡ 2 ∷ [] }
+{}
+
+/// One chunk has room for 963 writes of 68 bytes; the 964th is refused, and the 965th taken after a Steal and a Give.
+pub fn a_chunk_holds_963_small_writes()
+    ensures lawful { IsLawful two_levels spent }
+    ensures refused { refused 1 1 spent ≡ 964 ∷ [] }
 {}
 
 /// A hand is full of chunks, and not of refused writes.
