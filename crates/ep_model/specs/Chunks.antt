@@ -18,16 +18,19 @@ pub data Turn : Type 0 where
 
 -- In a list of turns the oldest stands first: what comes after a place in it is the rest of the list.
 
+-- The turn takes what the thread has.
 abbrev pub takes_from : ℕ → Turn → Bool
 takes_from thread (Written t size begins) = false
 takes_from thread (Taken t) = t == thread
 takes_from thread Given = false
 
+-- The turn begins a chunk for the thread.
 abbrev pub begins_for : ℕ → Turn → Bool
 begins_for thread (Written t size begins) = (t == thread) && begins
 begins_for thread (Taken t) = false
 begins_for thread Given = false
 
+-- The turn gives back what was taken.
 abbrev pub gives : Turn → Bool
 gives (Written t size begins) = false
 gives (Taken t) = false
@@ -88,6 +91,7 @@ chunks_of session past = option_map_or (λ config. config.chunks) (config_of ses
 abbrev pub shown_size : ℕ → Past → ℕ
 shown_size thread past = option_map_or (λ begun. record_size begun.write) (last_begun thread past) 0
 
+-- The turns of the session's steps, the oldest first.
 abbrev pub turns : ℕ → Past → List Turn
 turns session [] = []
 turns session (step.Show t s ∷ past) =

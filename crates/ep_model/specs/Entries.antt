@@ -79,6 +79,7 @@ awaits_point session thread (_ ∷ past) = awaits_point session thread past
 abbrev pub is_named : ℕ → ℕ → Past → Bool
 is_named session thread past = is_open session thread past || awaits_point session thread past
 
+-- What a point at this stamp says: the threads that it names, ascending, each with its number.
 abbrev pub point_entry : ℕ → ℕ → Past → PointEntry
 point_entry session stamp past =
     record { stamp = stamp; threads = map (λ t. (t, told_number session t past)) (filter (λ t. is_named session t past) (opened session past)) }

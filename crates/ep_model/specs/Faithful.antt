@@ -33,6 +33,7 @@ is_kept refused contents = not (list_any (λ n. n == contents.number) refused)
 abbrev pub kept : Share → List Contents
 kept share = filter (is_kept share.refused) share.admitted
 
+-- What an event tells of its write.
 abbrev pub contents_of : EventEntry → Contents
 contents_of e = record { number = e.number; def = e.def; activity = e.activity; related = e.related; stack = e.stack; payload = e.payload }
 
@@ -41,6 +42,7 @@ abbrev pub events_in : ℕ → Entry → List Contents
 events_in thread (Event e) = if e.thread == thread then contents_of e ∷ [] else []
 events_in thread (Point p) = []
 
+-- Those of all entries, in order.
 abbrev pub events_of : ℕ → List Entry → List Contents
 events_of thread entries = flat_map (events_in thread) entries
 

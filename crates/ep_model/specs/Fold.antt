@@ -52,6 +52,7 @@ with_give budget = record { pending = budget.pending; in_hand = 0; held = budget
 abbrev pub with_show : Budget → ℕ → ℕ → ℕ → Budget
 with_show budget chunks thread size = if lacks_chunk budget chunks thread size then budget else with_record budget thread size
 
+-- What the session's steps so far have left of its budget.
 abbrev pub budget_of : ℕ → Past → Budget
 budget_of session [] = no_budget
 budget_of session (step.Show t s ∷ past) =

@@ -13,11 +13,13 @@ use Rattle.ep_defs.specs.Admits.{session_admits}
 use Rattle.ep_model.specs.declared.step.Step.{Step}
 use Rattle.ep_model.specs.declared.step.Step.TheVariants as step
 
+-- The list of the steps so far.
 abbrev pub Past : Type 0
 Past = List Step
 
 -- ---- sessions
 
+-- What the session was accepted with.
 abbrev pub config_of : ℕ → Past → Option Config
 config_of session [] = None
 config_of session (step.Accept s config ∷ past) = if s == session then Some config else config_of session past
@@ -42,6 +44,7 @@ is_finished session [] = false
 is_finished session (step.Finish s stamp ∷ past) = (s == session) || is_finished session past
 is_finished session (_ ∷ past) = is_finished session past
 
+-- The sessions that are present.
 abbrev pub present : Past → List ℕ
 present past = filter (λ s. is_present s past) (accepted past)
 
@@ -53,6 +56,7 @@ entered [] = []
 entered (step.Enter t ∷ past) = t ∷ entered past
 entered (_ ∷ past) = entered past
 
+-- The thread left.
 abbrev pub has_left : ℕ → Past → Bool
 has_left thread [] = false
 has_left thread (step.Leave t ∷ past) = (t == thread) || has_left thread past

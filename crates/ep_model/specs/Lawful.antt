@@ -21,6 +21,7 @@ is_next_session session past = nat_lt 0 session && not (list_any (λ s. nat_le s
 abbrev pub is_next_thread : ℕ → Past → Bool
 is_next_thread thread past = nat_lt THREADS thread && not (list_any (λ t. nat_le thread t) (entered past))
 
+-- The session was opened on the thread, whether it was closed since or not.
 abbrev pub was_opened : ℕ → ℕ → Past → Bool
 was_opened session thread past = list_any (λ t. t == thread) (opened session past)
 
@@ -34,6 +35,7 @@ begins (_ ∷ past) = begins past
 abbrev pub has_due : List EventDef → ℕ → Past → Bool
 has_due definitions thread past = list_any (λ s. is_due definitions s thread past) (present past)
 
+-- It is open on some thread.
 abbrev pub is_open_somewhere : ℕ → Past → Bool
 is_open_somewhere session past = list_any (λ t. is_open session t past) (opened session past)
 
@@ -42,6 +44,7 @@ pub record Objection : Type 0 where
   pub there : Bool
   pub kind : Kind
 
+-- The reason stands against the step where the test says so.
 abbrev pub against : Bool → Kind → Objection
 against there kind = record { there = there; kind = kind }
 
@@ -120,6 +123,7 @@ abbrev pub IsLawful : List EventDef → Past → Type 0
 IsLawful definitions [] = Unit {0}
 IsLawful definitions (step ∷ past) = IsLawful definitions past × (objection_to definitions past step ≡ None)
 
+-- The step with this number if it has a kind, else a later one.
 abbrev pub unlawful : ℕ → Option Kind → Option Unlawful → Option Unlawful
 unlawful number None later = later
 unlawful number (Some kind) later = Some (record { step = number; kind = kind })
