@@ -88,15 +88,15 @@ pub fn put_message(out: &mut Vec<u8>, set: u8, command: u8, body: &[u8]) -> Resu
     out.extend_from_slice(body)
 }
 
-// The magic, as far as it is judged: only once all of it is there.
-fn has_magic(bytes: &[u8]) -> bool
+/// Whether the bytes begin with the magic, as far as it is judged: only once all of it is there.
+pub fn has_magic(bytes: &[u8]) -> bool
     ensures { result ≡ messages.has_magic bytes.now }
 {
     bytes.len() < MAGIC.len() || bytes.starts_with(&MAGIC)
 }
 
-// The size that the header says.
-fn size_in(bytes: &[u8]) -> u16
+/// The size of the whole message that its header says, once the bytes of the size are there.
+pub fn size_in(bytes: &[u8]) -> u16
     requires { SET_AT ≤ length bytes.now }
     ensures value { result ≡ messages.size_in bytes.now }
     ensures form { fixed w16 result ≡ take 2 (drop SIZE_AT bytes.now) }

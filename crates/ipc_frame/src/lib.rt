@@ -11,7 +11,7 @@
 mod frame;
 pub mod limits;
 
-pub use frame::{Framed, header, put_message, take_message};
+pub use frame::{Framed, has_magic, header, put_message, size_in, take_message};
 
 #[cfg(test)]
 mod tests;

@@ -1,0 +1,5 @@
+pub mod Answering
+pub mod Asking
+pub mod Read
+pub mod Reply
+pub mod Request
