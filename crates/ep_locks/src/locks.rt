@@ -147,12 +147,14 @@ impl<T, P: Guards<T>> Locks<T, P> {
         unreachable!()
     }
 
+    // Looks for a while, as long as the lock is taken and nobody is known to sleep.
     fn looks_free_soon(&self, word: usize) -> bool
         requires { word < place_of self.now.count }
     {
         for _ in 0..LOOKS {
-            if self.table.shared.peek(word) != TAKEN {
-                return true;
+            let seen = self.table.shared.peek(word);
+            if seen != TAKEN {
+                return seen == FREE;
             }
             spin_loop();
         }
