@@ -4,9 +4,9 @@
 # program over the crates in a folder of its own, which is proved and built there, and runs it, also under callgrind
 # (valgrind, a Debian package): times here vary by a third, instructions don't. It needs python3.
 #
-#   bench/locks.sh [ROUNDS]     how often each time is taken, of which the least counts; 5 if left out
+#   bench/locks.sh [ROUNDS]     how often each time is taken, of which the least counts; 20 if left out
 here=$(cd "$(dirname "$0")/.." && pwd) || exit 1
-rounds=${1:-5}
+rounds=${1:-20}
 work=$(mktemp -d) || exit 1
 trap 'rm -rf "$work"' EXIT
 mkdir -p "$work/crates/measure/src" "$work/crates/measure/proofs/pair/tied_turns" || exit 1
@@ -40,7 +40,6 @@ fn main(rt: HostRuntime) -> anyhow::Result<()> {
     let alloc = rt.alloc();
     let began = Instant::now(&rt)?;
     match what.as_str() {
-        "nothing" => value::turns(turns),
         "mutex_wide" => locks::by_one_mutex(&rt, value::new_wide(), turns),
         "mutex_box" => locks::by_one_mutex(&rt, Box::new(alloc, value::new_wide())?, turns),
         "mutex_of_four_takers" => locks::by_four_mutex(&rt, turns),
@@ -59,7 +58,6 @@ fn main(rt: HostRuntime) -> anyhow::Result<()> {
 PROGRAM
 cat >"$work/crates/measure/src/value.rt" <<'PROGRAM'
 //! What stands under a lock.
-use std::hint::black_box;
 
 /// A value that a turn changes.
 pub trait Counted: Drop {
@@ -96,15 +94,6 @@ impl Counted for u64 {
     fn raise(&mut self) {
         *self = self.wrapping_add(1);
     }
-}
-
-/// As many turns of nothing but the loop.
-pub fn turns(turns: u64) {
-    let mut count = 0u64;
-    for _ in 0..turns {
-        count = black_box(count).wrapping_add(1);
-    }
-    black_box(count);
 }
 PROGRAM
 cat >"$work/crates/measure/src/locks.rt" <<'PROGRAM'
@@ -281,7 +270,7 @@ abbrev pub ghosts-turns_of : goal.ghosts-turns_of
 ghosts-turns_of a = record { ties = a.blank.ties }
 PROOF
 cd "$work/crates/measure" || exit 1
-if ! rt run -- nothing 1 >"$work/log" 2>&1; then
+if ! rt run -- meet 1 >"$work/log" 2>&1; then
     cat "$work/log"
     exit 1
 fi
@@ -289,7 +278,7 @@ python3 - "$work/crates/measure/out/measure" "$work" "$rounds" <<'MEASURE'
 import re, subprocess, sys
 
 program, work, rounds = sys.argv[1], sys.argv[2], int(sys.argv[3])
-TURNS = 2_000_000
+TURNS = 400_000
 
 
 def time_of(what, turns):
@@ -297,35 +286,35 @@ def time_of(what, turns):
     return min(int(subprocess.run([program, what, str(turns)], stdout=subprocess.PIPE, check=True).stdout) for _ in range(rounds)) / turns
 
 
-def instructions_of(what, turns):
+def whole_run(what, turns):
     """The instructions of a whole run, as callgrind counts them."""
     words = ["valgrind", "--tool=callgrind", f"--callgrind-out-file={work}/callgrind", program, what, str(turns)]
     said = subprocess.run(words, stdout=subprocess.PIPE, stderr=subprocess.PIPE, check=True).stderr.decode()
     return int(re.search(r"Collected : (\d+)", said).group(1))
 
 
-def instructions_a_turn(what):
-    return (instructions_of(what, 20_000) - instructions_of(what, 10_000)) / 10_000
+def instructions_of(what):
+    """The instructions of a turn, with the loop's own."""
+    return f"{(whole_run(what, 20_000) - whole_run(what, 10_000)) / 10_000:.0f}"
 
 
 def row(title, nanoseconds, instructions, base):
-    """One line, with the ratio to what a reader knows."""
+    """One line: nanoseconds, instructions, and the ratio to what a reader knows."""
     ratio = f"{nanoseconds / base:6.2f} x" if base else ""
-    print(f"  {title:44} {nanoseconds:8.1f} ns {instructions:>8} {ratio}")
+    print(f"  {title:44} {nanoseconds:8.1f} ns {instructions:>6} {ratio}")
 
 
-loop_time, loop = time_of("nothing", TURNS), instructions_a_turn("nothing")
-print("one taker: a take and a put                            time  instructions, without the loop")
+print("one taker: a take and a put, in a loop")
 for size, title in (("wide", "a value of 200 bytes"), ("box", "a box of 200 bytes")):
-    known = time_of(f"mutex_{size}", TURNS) - loop_time
-    row(f"std's Mutex over {title}", known, f"{instructions_a_turn(f'mutex_{size}') - loop:.1f}", 0)
-    row(f"a numbered lock over {title}", time_of(f"lock_{size}", TURNS) - loop_time, f"{instructions_a_turn(f'lock_{size}') - loop:.1f}", known)
+    known = time_of(f"mutex_{size}", TURNS)
+    row(f"std's Mutex over {title}", known, instructions_of(f"mutex_{size}"), 0)
+    row(f"a numbered lock over {title}", time_of(f"lock_{size}", TURNS), instructions_of(f"lock_{size}"), known)
 print("four takers, each in a thread of its own: a turn of all four")
 for what, known, title in (("lock_of_four_takers", "mutex_of_four_takers", "one"), ("four_locks", "four_mutexes", "four, side by side")):
     base = time_of(known, TURNS // 4)
     row(f"std's Mutex, {title}", base, "", 0)
     row(f"a numbered lock, {title}", time_of(what, TURNS // 4), "", base)
-print("ties")
+print("ties: two halves, in a loop")
 for what in ("meet", "set"):
-    row(what, time_of(what, TURNS) - loop_time, f"{instructions_a_turn(what) - loop:.1f}", 0)
+    row(what, time_of(what, TURNS), instructions_of(what), 0)
 MEASURE

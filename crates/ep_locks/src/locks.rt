@@ -10,8 +10,8 @@ use std::hint::spin_loop;
 use std::marker::Model;
 use std::sync::Wait;
 
-/// Locks side by side, with the numbers from 0 on, each over one value. Contracts see which row it is, and how many
-/// locks it has.
+/// Locks side by side, with the numbers from 0 on, each over one value. A value is moved out and in, so that a large one
+/// belongs in a `Box`. Contracts see which row it is, and how many locks it has.
 #[derive(Drop)]
 pub struct Locks<T, P: Guards<T>> {
     table: Row<T, P>,
