@@ -1,5 +1,5 @@
 -- What the machine has come to after several steps.
-use Rattle.std.proofs.Common.{◌≡◌, ℕ, ◌+◌, ◌-◌, ◌≤◌, List, [], ◌∷◌, ◌++◌, length, reverse, take, Some, None, refl, ap, sym, subst, ◌∙◌, arith, append_assoc, length-append}
+use Rattle.std.proofs.Common.{◌≡◌, ℕ, ◌+◌, ◌-◌, false, List, [], ◌∷◌, ◌++◌, length, reverse, take, Some, None, refl, ap, sym, subst, ◌∙◌, arith, append_assoc, length-append}
 use Rattle.std.proofs.lemmas.List.{reverse-append, length-reverse, append-nil}
 use Rattle.std.proofs.Math.Seq.{take-append_seam}
 use Rattle.ep_defs.specs.declared.event.EventDef.{EventDef}
@@ -9,22 +9,24 @@ use Rattle.ep_model.specs.declared.step.Unlawful.{Unlawful}
 use Rattle.ep_model.specs.History.{Past}
 use Rattle.ep_model.specs.today.Lawful.{first_unlawful, unlawful, kind_of}
 use Rattle.ep_core.specs.declared.machine.Machine.{Machine}
-use Rattle.ep_core.specs.Machine.{Follows, steps_of}
+use Rattle.ep_core.specs.Machine.{Follows, steps_of, has_failed}
 
 -- The machine has made these steps, each of which could be made.
 pub record Ran (old : Machine) (made : List Step) (new : Machine) : Type 0 where
   pub follows : (events : List EventDef) (info : TraceInfo) (past : Past) → Follows events info past old → Follows events info (reverse made ++ past) new
   pub lawful : (events : List EventDef) (info : TraceInfo) (past : Past) (more : List Step) → Follows events info past old
       → first_unlawful events (length past + 1) past (made ++ more) ≡ first_unlawful events (length past + length made + 1) (reverse made ++ past) more
-  pub count : steps_of new ≤ steps_of old + length made
+  pub count : steps_of new ≡ steps_of old + length made
+  pub working : has_failed new ≡ false
 
 -- It has made none.
-pub ran_none : (machine : Machine) → Ran machine [] machine
-ran_none machine =
+pub ran_none : (machine : Machine) → has_failed machine ≡ false → Ran machine [] machine
+ran_none machine working =
     record {
       follows = λ events info past h. h;
       lawful = λ events info past more h. let same : length past + 1 ≡ length past + 0 + 1 = omega arith in ap (λ n. first_unlawful events n past more) same;
       count = omega arith;
+      working = working;
     }
 
 reverse_more : (made : List Step) (s : Step) (past : Past) → reverse (made ++ s ∷ []) ++ past ≡ s ∷ (reverse made ++ past)
@@ -33,8 +35,8 @@ reverse_more made s past = ap (λ xs. xs ++ past) (reverse-append made (s ∷ []
 -- It makes one more.
 pub ran_more : (old new next : Machine) (made : List Step) (s : Step) → Ran old made new
     → ((events : List EventDef) (info : TraceInfo) (past : Past) → Follows events info past new → (kind_of events past s ≡ None) × Follows events info (s ∷ past) next)
-    → steps_of next ≤ steps_of new + 1 → Ran old (made ++ s ∷ []) next
-ran_more old new next made s ran makes count =
+    → steps_of next ≡ steps_of new + 1 → has_failed next ≡ false → Ran old (made ++ s ∷ []) next
+ran_more old new next made s ran makes count working =
     record {
       follows = λ events info past h.
           let P : Past → Type 0 = λ xs. Follows events info xs next in
@@ -47,7 +49,8 @@ ran_more old new next made s ran makes count =
           ∙ ap (λ kind. unlawful (length past + length made + 1) kind (first_unlawful events (length past + length made + 1 + 1) (s ∷ (reverse made ++ past)) more)) lawful
           ∙ ap (λ n. first_unlawful events n (s ∷ (reverse made ++ past)) more) number
           ∙ ap (λ xs. first_unlawful events (length past + length (made ++ s ∷ []) + 1) xs more) (sym (reverse_more made s past));
-      count = omega (arith, ran.count, length-append made (s ∷ []));
+      count = omega (arith, ran.count, count, length-append made (s ∷ []));
+      working = working;
     }
 
 -- It can't make the next one.

@@ -5,10 +5,11 @@ use Rattle.std.proofs.lemmas.List.{map-append, take_more, append-nil}
 use Rattle.ep_defs.specs.declared.event.EventDef.{EventDef}
 use Rattle.ep_defs.specs.declared.session.Write.{Write}
 use Rattle.ep_defs.specs.Entry.{EventEntry, Event}
-use Rattle.nt_write.specs.Writing.{AreDistinct, definition_at}
+use Rattle.ep_defs.specs.Definitions.{AreDistinct}
+use Rattle.ep_defs.proofs.Sameness.{distinct-same}
+use Rattle.nt_write.specs.Writing.{AreDistinct as AreWriters, definition_at}
 use Rattle.ep_model.specs.History.{Past, Begun, event_at}
 use Rattle.ep_model.specs.today.Entries.{event_entry, entry_if, told_number}
-use Rattle.ep_core.specs.Bounds.{AreDifferent}
 use Rattle.ep_core.specs.declared.buffer.Shown.{Shown}
 use Rattle.ep_core.specs.declared.buffer.Buffer.{Buffer}
 use Rattle.ep_core.specs.Machine.{shown_entries, thread_of, told_of, BufferFollows}
@@ -19,11 +20,11 @@ definition_same events zero = refl
 definition_same events (suc place) = refl
 
 -- Different definitions are distinct to the writer.
-pub distinct_events : (events : List EventDef) → length events ≤ 1000 → AreDifferent events → AreDistinct events
-distinct_events events few different =
+pub distinct_events : (events : List EventDef) → length events ≤ 1000 → AreDistinct (event_at events) → AreWriters events
+distinct_events events few distinct =
     record {
       few = omega arith;
-      distinct = λ i j a b at_i at_j same. different i j a b (sym (definition_same events i) ∙ at_i) (sym (definition_same events j) ∙ at_j) same;
+      distinct = λ i j a b at_i at_j same. distinct-same (event_at events) distinct i j a b (sym (definition_same events i) ∙ at_i) (sym (definition_same events j) ∙ at_j) same;
     }
 
 -- The entries of a write whose event is not defined, or is.

@@ -5,6 +5,7 @@ use Rattle.std.specs.Option.{option_map_or}
 use Rattle.ep_defs.specs.Admits.{session_admits}
 use Rattle.std.specs.BTreeMap.{get}
 use Rattle.std.specs.Ordering.{nat_cmp}
+use Rattle.ep_defs.specs.declared.limits.TheConstants.{THREADS}
 use Rattle.ep_defs.specs.declared.event.EventDef.{EventDef}
 use Rattle.ep_defs.specs.declared.session.TraceInfo.{TraceInfo}
 use Rattle.ep_defs.specs.declared.session.Marks.{Marks}
@@ -148,7 +149,7 @@ pub record Stands (events : List EventDef) (info : TraceInfo) (past : Past) (mac
   pub info_is : machine.info ≡ info
   pub last_is : (session : ℕ) → nat_lt 0 session ≡ true → list_any (λ s. nat_le session s) (accepted past) ≡ nat_le session machine.last
   pub begins_are : begins past ≡ machine.begins
-  pub thread_count : length machine.threads.items ≡ 256
+  pub thread_count : length machine.threads.items ≡ THREADS
   pub threads : (number : ℕ) (thread : Thread) → thread_at machine.threads.items number ≡ Some thread → ThreadFollows events past number thread
   pub present_are : present past ≡ map number_of machine.present.items
   pub live : AllByRecursion (λ live. LiveFollows events info past live) machine.present.items

@@ -10,13 +10,9 @@ ghost use Rattle.ep_core.specs.Machine.{Stands};
 ghost use Rattle.ep_core.specs.Judge.{objection_of, IsFitting};
 
 use crate::machine::Machine;
+use ep_defs::limits::{SCHEDULE_WRITES, SESSIONS};
 use ep_defs::{Config, Write};
 use ep_model::{Kind, Step};
-
-// The most sessions that are present at once.
-const SESSIONS: usize = 64;
-// The most writes of a schedule.
-const WRITES: u32 = 2_147_483_646;
 
 /// Why the step can't be made after those that the machine has made, if it can't: the first reason in the order in which
 /// a step is judged.
@@ -82,7 +78,7 @@ fn to_begin(machine: &Machine, thread: u32, write: &Write) -> Option<Kind>
         (machine.in_write(thread), Kind::InWrite),
         (machine.events.get(write.event).is_none(), Kind::NoEvent),
         (!write.fits(), Kind::TooLarge),
-        (WRITES <= machine.begins, Kind::TooMany),
+        (SCHEDULE_WRITES <= machine.begins, Kind::TooMany),
     ])
 }
 

@@ -13,13 +13,11 @@ use crate::buffer::{Buffer, Shown};
 use crate::ended::Ended;
 use crate::events::Events;
 use crate::thread::Begun;
+use ep_defs::limits::SESSION_THREADS;
 use ep_defs::{Config, Marks, TraceInfo};
 use nt_write::{EventOut, TraceWriter};
 use pt_io::MemSink;
 use std::alloc::{AllocError, Global};
-
-// The most threads of a point.
-const THREADS: usize = 1_000_000;
 
 #[derive(Drop)]
 pub(crate) struct Live {
@@ -189,7 +187,7 @@ impl Live {
         ensures buffers { self.new.buffers ≡ self.old.buffers }
     {
         let threads = self.told(alloc)?;
-        if threads.len() > THREADS {
+        if threads.len() > SESSION_THREADS {
             return Err(AllocError);
         }
         self.writer

@@ -1,5 +1,5 @@
 //! The machine: what it keeps, and what each step changes in it.
-ghost use Rattle.std.specs.Prelude.{◌≡◌, ◌≤◌, ◌<◌, ◌+◌, ◌-◌, ◌^◌, ◌++◌, ℕ, true, false, List, [], ◌∷◌, length, reverse, take, map, filter, Some, None, Err, IsTrue, IfOk, IfSome, IfNone, OnOk, OnSome, position, ◌==◌};
+ghost use Rattle.std.specs.Prelude.{◌≡◌, ◌≤◌, ◌<◌, ◌+◌, ◌-◌, ◌^◌, ◌++◌, ℕ, true, false, List, [], ◌∷◌, length, reverse, take, map, filter, Some, None, Err, IsTrue, IfOk, IfSome, IfNone, OnOk, OnErr, OnSome, position, ◌==◌};
 ghost use Rattle.std.specs.List.{AllByRecursion, list_all, list_any};
 ghost use Rattle.std.specs.Option.{option_copied};
 ghost use Rattle.ep_core.specs.Machine.{number_of, due_in, IsFresh, LiveMakes, ThreadFollows};
@@ -8,13 +8,16 @@ ghost use Rattle.ep_defs.specs.declared.session.TraceInfo.{TraceInfo};
 ghost use Rattle.ep_model.specs.History.{Past};
 ghost use Rattle.ep_model.specs.declared.step.Step.TheVariants.{Show};
 ghost use Rattle.ep_defs.specs.Event.{is_valid_event};
-ghost use Rattle.ep_core.specs.Bounds.{AreDifferent, IsWithoutFrames};
+ghost use Rattle.ep_defs.specs.Definitions.{AreDistinct};
+ghost use Rattle.ep_defs.specs.declared.limits.TheConstants.{EVENTS, THREADS};
+ghost use Rattle.ep_core.specs.Bounds.{IsWithoutFrames};
 
 use crate::ended::Ended;
 use crate::events::Events;
 use crate::judge::objection;
 use crate::live::Live;
 use crate::thread::{Begun, Thread};
+use ep_defs::limits::THREADS;
 use ep_defs::{Config, EventDef, Marks, TraceInfo, Write, admits};
 use ep_model::today::{finished_sessions_are_faithful, other_sessions_steps_do_not_matter};
 use ep_model::{Step, Unlawful};
@@ -28,9 +31,6 @@ pub enum StepFault {
     Unlawful(Unlawful),
     OutOfMemory,
 }
-
-// How many threads there are.
-const THREADS: u32 = 256;
 
 /// What a schedule has come to: threads, sessions, and the streams of those that were finished.
 #[derive(Drop)]
@@ -70,13 +70,14 @@ impl Machine {
     ghost use Rattle.ep_core.specs.Machine.{Stands, thread_at};
 
     /// A machine that has made no step. Its events are numbered from 1 in the order of their definitions, of which there
-    /// are at most 1,000, all valid and no two the same.
+    /// are at most `limits::EVENTS`, all valid and no two the same.
     pub fn new(alloc: Global, events: Vec<EventDef>, info: TraceInfo) -> Result<Machine, AllocError>
-        requires few { length events.items ≤ 1000 }
+        requires few { length events.items ≤ EVENTS }
         requires valid { IsTrue (list_all is_valid_event events.items) }
-        requires different { AreDifferent events.items }
+        requires distinct { AreDistinct (event_at events.items) }
         ensures fresh { IfOk result (λ machine. Follows events.items info [] machine) }
         ensures counted { IfOk result (λ machine. steps_of machine ≡ 0) }
+        ensures working { IfOk result (λ machine. has_failed machine ≡ false) }
     {
         let threads = new_threads(alloc)?;
         Ok(Machine {
@@ -105,7 +106,12 @@ impl Machine {
         ensures unchanged { (why : Unlawful) → result ≡ Err (Refused why) → self.new ≡ self.old }
         ensures failed { result ≡ Err OutOfMemory → has_failed self.new ≡ true }
         ensures stays { has_failed self.old ≡ true → (result ≡ Err OutOfMemory) × (self.new ≡ self.old) }
-        ensures counted { steps_of self.new ≤ steps_of self.old + 1 }
+        ensures working { OnOk result (has_failed self.new ≡ false) }
+
+        // Where it stands is known after every answer.
+        ensures counted { OnOk result (steps_of self.new ≡ steps_of self.old + 1) }
+        ensures numbered { (why : Unlawful) → result ≡ Err (Refused why) → why.step ≡ steps_of self.old + 1 }
+        ensures uncounted { OnErr result (steps_of self.new ≡ steps_of self.old) }
     {
         if self.failed {
             return Err(StepFault::OutOfMemory);
@@ -137,6 +143,14 @@ impl Machine {
             × Follows events info (reverse (take (why.step - length past - 1) steps.items) ++ past) self.new }
         ensures failed { result ≡ Err OutOfMemory → has_failed self.new ≡ true }
         ensures stays { has_failed self.old ≡ true → (result ≡ Err OutOfMemory) × (self.new ≡ self.old) }
+        ensures working { OnOk result (has_failed self.new ≡ false) }
+        ensures refusing { (why : Unlawful) → result ≡ Err (Refused why) → has_failed self.new ≡ false }
+
+        // Where it stands is known after every answer.
+        ensures counted { OnOk result (steps_of self.new ≡ steps_of self.old + length steps.items) }
+        ensures numbered { (why : Unlawful) → result ≡ Err (Refused why) → why.step ≡ steps_of self.new + 1 }
+        ensures later { steps_of self.old ≤ steps_of self.new }
+        ensures few { steps_of self.new ≤ steps_of self.old + length steps.items }
     {
         if self.failed {
             return Err(StepFault::OutOfMemory);
@@ -180,7 +194,7 @@ impl Machine {
         requires fitting { IsFitting step }
         ensures ok { (events : List EventDef) (info : TraceInfo) (past : Past) → IsLawful events (step ∷ past) → Stands events info past self.old
             → OnOk result (Stands events info (step ∷ past) self.new) }
-        ensures steps { self.new.steps ≡ self.old.steps }
+        ensures kept { (self.new.steps ≡ self.old.steps) × (self.new.failed ≡ self.old.failed) }
     {
         match step {
             Step::Accept { session, config } => self.accept(alloc, session, config),
@@ -211,7 +225,7 @@ impl Machine {
     fn accept(&mut self, alloc: Global, session: u32, config: Config) -> Result<(), AllocError>
         ensures ok { (events : List EventDef) (info : TraceInfo) (past : Past) → IsLawful events (Accept session config ∷ past) → Stands events info past self.old
             → OnOk result (Stands events info (Accept session config ∷ past) self.new) }
-        ensures steps { self.new.steps ≡ self.old.steps }
+        ensures kept { (self.new.steps ≡ self.old.steps) × (self.new.failed ≡ self.old.failed) }
     {
         let live = Live::new(alloc, session, config, &self.info)?;
         self.present.insert(0, live)?;
@@ -222,7 +236,7 @@ impl Machine {
     fn begin(&mut self, alloc: Global, thread: u32, begun: Begun) -> Result<(), AllocError>
         ensures ok { (events : List EventDef) (info : TraceInfo) (past : Past) → IsLawful events (Begin thread begun.stamp begun.write ∷ past) → Stands events info past self.old
             → OnOk result (Stands events info (Begin thread begun.stamp begun.write ∷ past) self.new) }
-        ensures steps { self.new.steps ≡ self.old.steps }
+        ensures kept { (self.new.steps ≡ self.old.steps) × (self.new.failed ≡ self.old.failed) }
     {
         let due = due_sessions(
             alloc,
@@ -242,7 +256,7 @@ impl Machine {
     fn show(&mut self, alloc: Global, thread: u32, session: u32) -> Result<(), AllocError>
         ensures ok { (events : List EventDef) (info : TraceInfo) (past : Past) → IsLawful events (Show thread session ∷ past) → Stands events info past self.old
             → OnOk result (Stands events info (Show thread session ∷ past) self.new) }
-        ensures steps { self.new.steps ≡ self.old.steps }
+        ensures kept { (self.new.steps ≡ self.old.steps) × (self.new.failed ≡ self.old.failed) }
     {
         let Some(at) = self.place_of_thread(thread) else {
             return Ok(());
@@ -258,7 +272,7 @@ impl Machine {
     fn end(&mut self, thread: u32)
         ensures ok { (events : List EventDef) (info : TraceInfo) (past : Past) → IsLawful events (End thread ∷ past) → Stands events info past self.old
             → Stands events info (End thread ∷ past) self.new }
-        ensures steps { self.new.steps ≡ self.old.steps }
+        ensures kept { (self.new.steps ≡ self.old.steps) × (self.new.failed ≡ self.old.failed) }
     {
         if let Some(place) = self.place_of_thread(thread) {
             self.threads[place].end();
@@ -268,7 +282,7 @@ impl Machine {
     fn open(&mut self, alloc: Global, session: u32, thread: u32) -> Result<(), AllocError>
         ensures ok { (events : List EventDef) (info : TraceInfo) (past : Past) → IsLawful events (Open session thread ∷ past) → Stands events info past self.old
             → OnOk result (Stands events info (Open session thread ∷ past) self.new) }
-        ensures steps { self.new.steps ≡ self.old.steps }
+        ensures kept { (self.new.steps ≡ self.old.steps) × (self.new.failed ≡ self.old.failed) }
     {
         let writes = self.writes_of(thread);
         match self.place_of(session) {
@@ -280,7 +294,7 @@ impl Machine {
     fn steal(&mut self, alloc: Global, session: u32, thread: u32) -> Result<(), AllocError>
         ensures ok { (events : List EventDef) (info : TraceInfo) (past : Past) → IsLawful events (Steal session thread ∷ past) → Stands events info past self.old
             → OnOk result (Stands events info (Steal session thread ∷ past) self.new) }
-        ensures steps { self.new.steps ≡ self.old.steps }
+        ensures kept { (self.new.steps ≡ self.old.steps) × (self.new.failed ≡ self.old.failed) }
     {
         match self.place_of(session) {
             Some(place) => self.present[place].steal(alloc, &self.events, thread),
@@ -291,7 +305,7 @@ impl Machine {
     fn close(&mut self, alloc: Global, session: u32, thread: u32) -> Result<(), AllocError>
         ensures ok { (events : List EventDef) (info : TraceInfo) (past : Past) → IsLawful events (Close session thread ∷ past) → Stands events info past self.old
             → OnOk result (Stands events info (Close session thread ∷ past) self.new) }
-        ensures steps { self.new.steps ≡ self.old.steps }
+        ensures kept { (self.new.steps ≡ self.old.steps) × (self.new.failed ≡ self.old.failed) }
     {
         let writes = self.writes_of(thread);
         match self.place_of(session) {
@@ -303,7 +317,7 @@ impl Machine {
     fn give(&mut self, session: u32)
         ensures ok { (events : List EventDef) (info : TraceInfo) (past : Past) → IsLawful events (Give session ∷ past) → Stands events info past self.old
             → Stands events info (Give session ∷ past) self.new }
-        ensures steps { self.new.steps ≡ self.old.steps }
+        ensures kept { (self.new.steps ≡ self.old.steps) × (self.new.failed ≡ self.old.failed) }
     {
         if let Some(place) = self.place_of(session) {
             self.present[place].give();
@@ -313,7 +327,7 @@ impl Machine {
     fn point(&mut self, alloc: Global, session: u32, stamp: u64) -> Result<(), AllocError>
         ensures ok { (events : List EventDef) (info : TraceInfo) (past : Past) → IsLawful events (Point session stamp ∷ past) → Stands events info past self.old
             → OnOk result (Stands events info (Point session stamp ∷ past) self.new) }
-        ensures steps { self.new.steps ≡ self.old.steps }
+        ensures kept { (self.new.steps ≡ self.old.steps) × (self.new.failed ≡ self.old.failed) }
     {
         match self.place_of(session) {
             Some(place) => self.present[place].point(alloc, stamp),
@@ -324,7 +338,7 @@ impl Machine {
     fn finish(&mut self, alloc: Global, session: u32, stamp: u64) -> Result<(), AllocError>
         ensures ok { (events : List EventDef) (info : TraceInfo) (past : Past) → IsLawful events (Finish session stamp ∷ past) → Stands events info past self.old
             → OnOk result (Stands events info (Finish session stamp ∷ past) self.new) }
-        ensures steps { self.new.steps ≡ self.old.steps }
+        ensures kept { (self.new.steps ≡ self.old.steps) × (self.new.failed ≡ self.old.failed) }
     {
         let Some(place) = self.place_of(session) else {
             return Ok(());
@@ -464,7 +478,7 @@ fn show_to(alloc: Global, live: &mut Live, thread: &Thread, number: u32) -> Resu
 
 // The threads before the first step.
 fn new_threads(alloc: Global) -> Result<Vec<Thread>, AllocError>
-    ensures count { IfOk result (λ threads. length threads.items ≡ 256) }
+    ensures count { IfOk result (λ threads. length threads.items ≡ THREADS) }
     ensures fresh { IfOk result (λ threads. AllByRecursion IsFresh threads.items) }
 {
     let mut threads = Vec::new(alloc);

@@ -1,6 +1,7 @@
 //! What a thread has come to.
 ghost use Rattle.std.specs.Prelude.{◌≡◌, ◌≤◌, ◌+◌, ◌-◌, ◌^◌, ℕ, Bool, [], false, length, min, Some, None, IfOk, OnOk, is_some, filter, ◌==◌, not};
 ghost use Rattle.std.specs.List.{list_any};
+ghost use Rattle.ep_defs.specs.declared.limits.TheConstants.{PAYLOAD_BYTES};
 
 use ep_defs::{Duplicate, Write};
 use std::alloc::{AllocError, Global};
@@ -11,7 +12,7 @@ pub(crate) struct Begun {
     pub(crate) stamp: u64,
     pub(crate) write: Write,
     ghost without_frames: { write.frames ≡ [] },
-    ghost fits: { length write.payload ≤ 60000 },
+    ghost fits: { length write.payload ≤ PAYLOAD_BYTES },
 }
 
 impl Begun {
@@ -19,7 +20,7 @@ impl Begun {
 
     pub(crate) fn new(stamp: u64, write: Write) -> Begun
         requires without_frames { write.frames ≡ [] }
-        requires fits { length write.payload ≤ 60000 }
+        requires fits { length write.payload ≤ PAYLOAD_BYTES }
         ensures stamp { result.stamp ≡ stamp }
         ensures write { result.write ≡ write }
     {

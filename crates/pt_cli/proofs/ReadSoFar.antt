@@ -2,6 +2,7 @@
 use Rattle.std.proofs.Common.{◌≡◌, ℕ, ◌+◌, ◌<◌, ◌≤◌, true, false, not, List, [], ◌∷◌, ◌++◌, length, Option, Some, None, refl, sym, ap, ◌∙◌, subst, inl, inr, append_assoc, arith, length-append}
 use Rattle.std.specs.Prelude.{IsTrue, ◌≢◌, is_some}
 use Rattle.std.proofs.lemmas.Bool.{lt-ltb, ne_eqb}
+use Rattle.std.proofs.lemmas.List.{append-nil}
 use Rattle.std.proofs.lemmas.List.Folds.{list_all-append}
 use Rattle.ep_plan.specs.declared.line.Line.{Line}
 use Rattle.ep_plan.specs.Lines.{bad_of}
@@ -9,26 +10,11 @@ use Rattle.ep_plan.specs.declared.line.LineKind.TheVariants.{Long}
 use Rattle.pt_cli.specs.declared.errors.Refusal.{Refusal}
 use Rattle.pt_cli.specs.declared.errors.Reason.TheVariants as reason
 use Rattle.pt_cli.specs.declared.schedule.Schedule.{Schedule}
+use Rattle.pt_cli.specs.declared.limits.TheConstants.{LINE_BYTES}
 use Rattle.pt_cli.specs.Text.{lines_of}
 use Rattle.pt_cli.specs.Schedule.{bad_after, Takes, Refuses, AreGood, HaveRefused, IsSchedule, IsRefused}
 use Rattle.pt_cli.specs.Reading.{Stands, AreGoodSoFar, IsSoFar, IsJudgedAs}
 use Rattle.pt_cli.proofs.TextLines.{is_line, Begins, lines_of-feed, lines_of-begins, lines_of-one}
-
-pub append_nil : {A : Type 0} (xs : List A) → xs ++ [] ≡ xs
-append_nil [] = refl
-append_nil (x ∷ xs) = ap (λ ys. x ∷ ys) (append_nil xs)
-
--- Before the first byte.
-pub read-none : (schedule : Schedule) → Stands [] schedule → AreGoodSoFar [] schedule []
-read-none schedule stands =
-    record {
-      lines = [];
-      stands = stands;
-      good = λ rest after good. good;
-      refused = λ rest refusal refused. refused;
-      no_feed = refl;
-      short = omega arith;
-    }
 
 -- Where no line is refused the bytes are good so far.
 pub so_far-good : (bytes : List ℕ) (schedule : Schedule) (part : List ℕ) (refusal : Option Refusal) → refusal ≡ None → IsSoFar bytes schedule part refusal → AreGoodSoFar bytes schedule part
@@ -53,13 +39,9 @@ good-judged bytes schedule (Some refusal) none lines is stands = cc
 -- At the end what was refused stays so.
 pub refused-judged : (bytes : List ℕ) (schedule : Schedule) (part : List ℕ) (refusal : Option Refusal) → is_some refusal ≡ true → IsSoFar bytes schedule part refusal → IsJudgedAs bytes schedule refusal
 refused-judged bytes schedule part None some so_far = cc
-refused-judged bytes schedule part (Some refusal) some so_far = subst (λ bs. IsRefused bs refusal) (append_nil bytes) (so_far [])
+refused-judged bytes schedule part (Some refusal) some so_far = subst (λ bs. IsRefused bs refusal) (append-nil bytes) (so_far [])
 
--- Nothing is read where a line was refused.
-pub refused-so_far : (bytes more : List ℕ) (schedule : Schedule) (part : List ℕ) (refusal : Option Refusal) → is_some refusal ≡ true → IsSoFar bytes schedule part refusal → IsSoFar (bytes ++ more) schedule part refusal
-refused-so_far bytes more schedule part None some so_far = cc
-refused-so_far bytes more schedule part (Some refusal) some so_far = so_far-refused bytes more schedule schedule part part refusal so_far
-
+-- What is not there is None.
 pub is_some-false : {A : Type 0} (x : Option A) → is_some x ≡ false → x ≡ None
 is_some-false None not = refl
 is_some-false (Some a) not = cc
@@ -70,9 +52,9 @@ lines_of-part [] rest no_feed some = let not : ⊥ = omega arith in absurd not
 lines_of-part (b ∷ part) rest no_feed some = lines_of-begins b part rest no_feed
 
 -- A line that is too long is refused for that, whatever it is.
-long-bad : (lines : List Line) (text : List ℕ) → 262144 < length text → bad_after lines text ≡ Some (record { column = 1; kind = Long })
+long-bad : (lines : List Line) (text : List ℕ) → LINE_BYTES < length text → bad_after lines text ≡ Some (record { column = 1; kind = Long })
 unfolding bad_of
-long-bad lines text long = rw (lt-ltb 262144 (length text) long) refl
+long-bad lines text long = rw (lt-ltb LINE_BYTES (length text) long) refl
 
 module _ (bytes : List ℕ) (schedule : Schedule) (part : List ℕ) (so_far : AreGoodSoFar bytes schedule part) where
   -- A byte more behind the bytes is the first of what follows.
@@ -88,7 +70,7 @@ module _ (bytes : List ℕ) (schedule : Schedule) (part : List ℕ) (so_far : Ar
   no_feed-more : (b : ℕ) → b ≢ 10 → IsTrue (is_line (part ++ b ∷ []))
   no_feed-more b other = rw (list_all-append, so_far.no_feed, ne_eqb b 10 other) refl
 
-  pub read-byte : (b : ℕ) → b ≢ 10 → length part < 262144 → AreGoodSoFar (bytes ++ b ∷ []) schedule (part ++ b ∷ [])
+  pub read-byte : (b : ℕ) → b ≢ 10 → length part < LINE_BYTES → AreGoodSoFar (bytes ++ b ∷ []) schedule (part ++ b ∷ [])
   read-byte b other short =
       record {
         lines = so_far.lines;
@@ -100,14 +82,14 @@ module _ (bytes : List ℕ) (schedule : Schedule) (part : List ℕ) (so_far : Ar
       }
 
   -- A part that is too long is refused, whatever follows.
-  pub read-long : (b : ℕ) → b ≢ 10 → 262144 ≤ length part → (rest : List ℕ) → IsRefused (bytes ++ b ∷ [] ++ rest) (record { line = schedule.lines + 1; column = 1; reason = reason.Line Long })
+  pub read-long : (b : ℕ) → b ≢ 10 → LINE_BYTES ≤ length part → (rest : List ℕ) → IsRefused (bytes ++ b ∷ [] ++ rest) (record { line = schedule.lines + 1; column = 1; reason = reason.Line Long })
   read-long b other long rest =
       let whole : List ℕ = part ++ b ∷ [] in
       let some : 0 < length (part ++ b ∷ []) = omega (arith, length-append part (b ∷ [])) in
       let begins = lines_of-part (part ++ b ∷ []) rest (no_feed-more b other) some in
       let split : lines_of (part ++ b ∷ rest) ≡ (part ++ b ∷ [] ++ begins.rest) ∷ begins.later =
       ap lines_of (sym (append_assoc part (b ∷ []) rest)) ∙ begins.are in
-      let above : 262144 < length (part ++ b ∷ [] ++ begins.rest) =
+      let above : LINE_BYTES < length (part ++ b ∷ [] ++ begins.rest) =
       omega (arith, length-append part (b ∷ []), length-append (part ++ b ∷ []) begins.rest) in
       let refusal : Refusal = record { line = schedule.lines + 1; column = 1; reason = reason.Line Long } in
       let number : schedule.lines + 1 ≡ length so_far.lines + 1 = ap (λ n. n + 1) so_far.stands.count in
@@ -134,20 +116,20 @@ module _ (bytes : List ℕ) (schedule : Schedule) (part : List ℕ) (so_far : Ar
 
   -- The end of the text ends a line.
   last-line : part ≢ [] → lines_of (part ++ []) ≡ part ∷ []
-  last-line some = ap lines_of (append_nil part) ∙ lines_of-one part so_far.no_feed some
+  last-line some = ap lines_of (append-nil part) ∙ lines_of-one part so_far.no_feed some
 
   pub last-good : (line : Line) → part ≢ [] → Takes so_far.lines part line → IsSchedule bytes (line ∷ so_far.lines)
   last-good line some takes =
-      subst (λ bs. IsSchedule bs (line ∷ so_far.lines)) (append_nil bytes)
+      subst (λ bs. IsSchedule bs (line ∷ so_far.lines)) (append-nil bytes)
       (so_far.good [] (line ∷ so_far.lines) (subst (λ ls. AreGood so_far.lines ls (line ∷ so_far.lines)) (sym (last-line some)) (line, takes, refl)))
 
   pub last-refused : (refusal : Refusal) → part ≢ [] → Refuses so_far.lines part refusal → IsRefused bytes refusal
   last-refused refusal some refuses =
-      subst (λ bs. IsRefused bs refusal) (append_nil bytes)
+      subst (λ bs. IsRefused bs refusal) (append-nil bytes)
       (so_far.refused [] refusal (subst (λ ls. HaveRefused so_far.lines ls refusal) (sym (last-line some)) (inl refuses)))
 
   -- The end of the text behind a line feed.
   pub last-none : part ≡ [] → IsSchedule bytes so_far.lines
   last-none none =
-      subst (λ bs. IsSchedule bs so_far.lines) (append_nil bytes)
+      subst (λ bs. IsSchedule bs so_far.lines) (append-nil bytes)
       (so_far.good [] so_far.lines (subst (λ bs. AreGood so_far.lines (lines_of (bs ++ [])) so_far.lines) (sym none) refl))

@@ -5,8 +5,8 @@ use Rattle.ep_model.specs.History.{Past}
 use Rattle.ep_model.specs.today.Lawful.{IsLawful}
 use Rattle.ep_core.specs.declared.machine.Machine.{Machine}
 use Rattle.std.specs.Prelude.{◌||◌, nat_lt, is_some}
-use Rattle.std.proofs.lemmas.Bool.{ltb-false}
-use Rattle.ep_plan.specs.Lines.{Bad, bad_of, IsLine}
+use Rattle.std.proofs.lemmas.Bool.{ltb-false, or_parts}
+use Rattle.ep_plan.specs.Lines.{IsLine}
 use Rattle.pt_cli.specs.declared.schedule.Schedule.{Schedule}
 use Rattle.pt_cli.specs.Reading.{Stands}
 use Rattle.ep_model.specs.today.Sizes.{sizes, size_of}
@@ -16,19 +16,14 @@ use Rattle.ep_core.specs.Bounds.{IsWithoutFrames}
 use Rattle.ep_plan.specs.declared.line.Line.{Line}
 use Rattle.ep_plan.specs.declared.line.Line.TheVariants as line
 use Rattle.pt_cli.specs.declared.errors.Refusal.{Refusal}
-use Rattle.pt_cli.specs.Schedule.{definitions_of, past_of, has_stepped, is_beyond, bad_after, Says, Refuses}
+use Rattle.pt_cli.specs.Schedule.{definitions_of, past_of, has_stepped, is_beyond, Says, Refuses}
 use Rattle.pt_cli.specs.Machines.{IsMachineOf, IsUnlawful}
-use Rattle.pt_cli.proofs.Definitions.{or-left, or-right}
+use Rattle.pt_cli.specs.declared.limits.TheConstants.{LAST_THREAD, RECORDS_BYTES}
 
 -- Without a step there is no machine, whatever the definitions are.
 pub machine-unused : (events more : List EventDef) (past : Past) (lines lines' : ℕ) (machine : Option Machine) → has_stepped past ≡ false → IsMachineOf events past lines machine → IsMachineOf more past lines' machine
 machine-unused events more past lines lines' None unused is = is
 machine-unused events more past lines lines' (Some machine) unused is = let e = is.2 in cc
-
--- A line more makes no step.
-pub machine-more : (events : List EventDef) (past : Past) (lines : ℕ) (machine : Option Machine) → IsMachineOf events past lines machine → IsMachineOf events past (lines + 1) machine
-machine-more events past lines None is = is
-machine-more events past lines (Some machine) is = let few : _ ≤ lines + 1 = omega (arith, is.1) in (is.0, few, is.2)
 
 -- Before the first step any definitions will do.
 pub lawful-unused : (events : List EventDef) (past : Past) → has_stepped past ≡ false → IsLawful events past
@@ -40,7 +35,7 @@ lawful-unused events (step ∷ past) unused = cc
 -- Its write has no stack.
 pub beyond-frames : (past : Past) (step : Step) → is_beyond past step ≡ false → IsWithoutFrames step
 beyond-frames past (step.Begin thread stamp write) taken =
-    no-frames write.frames (or-right (nat_lt 15 thread) (nat_lt 0 (length write.frames)) (or-left (nat_lt 15 thread || nat_lt 0 (length write.frames)) (nat_lt 65536 (sizes past + size_of write)) taken))
+    no-frames write.frames (or_parts (nat_lt LAST_THREAD thread) (nat_lt 0 (length write.frames)) (or_parts (nat_lt LAST_THREAD thread || nat_lt 0 (length write.frames)) (nat_lt RECORDS_BYTES (sizes past + size_of write)) taken).0).1
   where
     no-frames : (frames : List ℕ) → nat_lt 0 (length frames) ≡ false → frames ≡ []
     no-frames [] none = refl
@@ -61,12 +56,9 @@ beyond-frames past (step.Close s t) taken = tt
 beyond-frames past (step.Finish s stamp) taken = tt
 
 -- The writes with its own take few bytes.
-pub beyond-few : (past : Past) (step : Step) → is_beyond past step ≡ false → sizes past ≤ 65536 → sizes (step ∷ past) ≤ 65536
+pub beyond-few : (past : Past) (step : Step) → is_beyond past step ≡ false → sizes past ≤ RECORDS_BYTES → sizes (step ∷ past) ≤ RECORDS_BYTES
 beyond-few past (step.Begin thread stamp write) taken few =
-    not-above (sizes past + size_of write) (or-right (nat_lt 15 thread || nat_lt 0 (length write.frames)) (nat_lt 65536 (sizes past + size_of write)) taken)
-  where
-    not-above : (n : ℕ) → nat_lt 65536 n ≡ false → n ≤ 65536
-    not-above n not = ltb-false 65536 n not
+    ltb-false RECORDS_BYTES (sizes past + size_of write) (or_parts (nat_lt LAST_THREAD thread || nat_lt 0 (length write.frames)) (nat_lt RECORDS_BYTES (sizes past + size_of write)) taken).1
 beyond-few past (step.Accept s config) taken few = few
 beyond-few past (step.Enter t) taken few = few
 beyond-few past (step.Leave t) taken few = few
@@ -100,14 +92,4 @@ says-read lines text line schedule events stepped stands events_are stepped_is i
     stepped_is ∙ stepped-is (definitions_of lines) (past_of lines) schedule.lines schedule.machine stands.machine_is in
     let P : List EventDef → Type 0 = λ es. IsLine es stepped text line in
     let Q : Bool → Type 0 = λ b. IsLine (definitions_of lines) b text line in
-    subst Q stepped_of (subst P events_of is)
-
--- What is wrong with a line is what is wrong with it behind the lines for which the schedule stands.
-pub bad-read : (lines : List Line) (text : List ℕ) (bad : Bad) (schedule : Schedule) (events : List EventDef) (stepped : Bool) → Stands lines schedule → events ≡ schedule.events.items → stepped ≡ is_some schedule.machine → bad_of events stepped text ≡ Some bad → bad_after lines text ≡ Some bad
-bad-read lines text bad schedule events stepped stands events_are stepped_is is =
-    let events_of : events ≡ definitions_of lines = events_are ∙ stands.events_are in
-    let stepped_of : stepped ≡ has_stepped (past_of lines) =
-    stepped_is ∙ stepped-is (definitions_of lines) (past_of lines) schedule.lines schedule.machine stands.machine_is in
-    let P : List EventDef → Type 0 = λ es. bad_of es stepped text ≡ Some bad in
-    let Q : Bool → Type 0 = λ b. bad_of (definitions_of lines) b text ≡ Some bad in
     subst Q stepped_of (subst P events_of is)

@@ -4,7 +4,10 @@ use Rattle.std.specs.List.{list_all}
 use Rattle.ep_defs.specs.Event.{is_valid_event}
 use Rattle.ep_model.specs.today.Lawful.{IsLawful}
 use Rattle.ep_model.specs.today.Sizes.{sizes}
-use Rattle.ep_core.specs.Bounds.{AreDifferent}
+use Rattle.ep_defs.specs.Definitions.{AreDistinct}
+use Rattle.ep_defs.specs.declared.limits.TheConstants.{EVENTS}
+use Rattle.ep_model.specs.History.{event_at}
+use Rattle.pt_cli.specs.declared.limits.TheConstants.{LINE_BYTES, RECORDS_BYTES}
 use Rattle.ep_plan.specs.declared.line.Line.{Line}
 use Rattle.pt_cli.specs.declared.errors.Refusal.{Refusal}
 use Rattle.pt_cli.specs.declared.schedule.Schedule.{Schedule}
@@ -18,12 +21,12 @@ pub record Stands (lines : List Line) (schedule : Schedule) : Type 0 where
   pub count : schedule.lines ≡ length lines
   pub events_are : schedule.events.items ≡ definitions_of lines
   pub sizes_are : schedule.sizes ≡ sizes (past_of lines)
-  pub are_few : schedule.sizes ≤ 65536
+  pub are_few : schedule.sizes ≤ RECORDS_BYTES
   pub machine_is : IsMachineOf (definitions_of lines) (past_of lines) schedule.lines schedule.machine
   -- what a machine wants of definitions
-  pub few : length (definitions_of lines) ≤ 1000
+  pub few : length (definitions_of lines) ≤ EVENTS
   pub valid : IsTrue (list_all is_valid_event (definitions_of lines))
-  pub different : AreDifferent (definitions_of lines)
+  pub distinct : AreDistinct (event_at (definitions_of lines))
   pub lawful : IsLawful (definitions_of lines) (past_of lines)
 
 -- How many lines came.
@@ -38,7 +41,7 @@ pub record AreGoodSoFar (bytes : List ℕ) (schedule : Schedule) (part : List �
   pub good : (rest : List ℕ) (after : List Line) → AreGood lines (lines_of (part ++ rest)) after → IsSchedule (bytes ++ rest) after
   pub refused : (rest : List ℕ) (refusal : Refusal) → HaveRefused lines (lines_of (part ++ rest)) refusal → IsRefused (bytes ++ rest) refusal
   pub no_feed : IsTrue (list_all (λ byte. not (byte == 10)) part)
-  pub short : length part ≤ 262144
+  pub short : length part ≤ LINE_BYTES
 
 -- The bytes are good so far, or whatever follows is refused.
 abbrev pub IsSoFar : List ℕ → Schedule → List ℕ → Option Refusal → Type 0

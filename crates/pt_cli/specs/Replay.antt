@@ -1,5 +1,6 @@
 -- What the program answers and writes.
-use Rattle.std.specs.Prelude.{◌≡◌, ℕ, ◌++◌, ◌⊎◌, Bool, true, false, List, [], IsTrue}
+use Rattle.std.specs.Prelude.{◌≡◌, ℕ, ◌+◌, ◌⊎◌, Bool, true, false, List, length}
+use Rattle.pt_io.specs.Taken.{ReadAll}
 use Rattle.ep_defs.specs.Session.{standard_info_of}
 use Rattle.ep_model.specs.History.{is_finished}
 use Rattle.ep_model.specs.today.Lawful.{IsLawful}
@@ -33,14 +34,10 @@ IsError session bytes text =
     ((refusal : Refusal) × IsRefused bytes refusal × (text ≡ refusal_error refusal))
     ⊎ (IsUnfinished session bytes × (text ≡ unfinished_error session))
 
--- All of the input was read, and it was these bytes, where it tells them.
-abbrev pub ReadAll : {I : Type 0} → (I → Bool) → (I → List ℕ) → (I → List ℕ) → I → I → List ℕ → Type 0
-ReadAll tells given left old new bytes =
-    IsTrue (tells old) → (left old ≡ bytes) × (left new ≡ []) × (given new ≡ given old ++ bytes)
-
--- The output took this text, where it tells its bytes.
-abbrev pub TookText : {O : Type 0} → (O → Bool) → (O → List ℕ) → O → O → List ℕ → Type 0
-TookText tells taken old new text = IsTrue (tells old) → taken new ≡ taken old ++ text
+-- The input was read to its end: where it tells its bytes it gave these, and told or not it gave as many.
+pub record ReadWhole {I : Type 0} (tells : I → Bool) (given left : I → List ℕ) (may_give : I → ℕ) (old new : I) (bytes : List ℕ) : Type 0 where
+  pub told : ReadAll tells given left old new bytes
+  pub counted : may_give new + length bytes ≡ may_give old
 
 -- What is written for the words and the input, if nothing fails.
 abbrev pub IsAnswer : List (List ℕ) → List ℕ → List ℕ → Type 0

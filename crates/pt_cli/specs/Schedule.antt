@@ -12,6 +12,7 @@ use Rattle.ep_plan.specs.declared.line.Line.TheVariants as line
 use Rattle.pt_cli.specs.declared.errors.Reason.{Reason}
 use Rattle.pt_cli.specs.declared.errors.Reason.TheVariants as reason
 use Rattle.pt_cli.specs.declared.errors.Refusal.{Refusal}
+use Rattle.pt_cli.specs.declared.limits.TheConstants.{FEWEST_CHUNKS, LAST_THREAD, RECORDS_BYTES}
 use Rattle.pt_cli.specs.Text.{lines_of}
 
 -- ---- what the lines so far, the newest first, have come to
@@ -35,21 +36,21 @@ has_stepped (step ∷ past) = true
 
 -- ---- what the program does not take yet
 
--- A point, a stack, a thread that comes or goes, a thread above 15, a session of fewer than 16 chunks, and the write by
--- which all writes together take more than 65,536 bytes (this project's profile, so that no budget is spent).
+-- A point, a stack, a thread that comes or goes, a thread or a record beyond the bounds of the program as it is, and a
+-- session of too few chunks (this project's profile). The bounds are chosen so that no session can spend its budget.
 abbrev pub is_beyond : Past → Step → Bool
-is_beyond past (step.Accept session config) = nat_lt config.chunks 16
+is_beyond past (step.Accept session config) = nat_lt config.chunks FEWEST_CHUNKS
 is_beyond past (step.Enter thread) = true
 is_beyond past (step.Leave thread) = true
-is_beyond past (step.Open session thread) = nat_lt 15 thread
+is_beyond past (step.Open session thread) = nat_lt LAST_THREAD thread
 is_beyond past (step.Begin thread stamp write) =
-    nat_lt 15 thread || nat_lt 0 (length write.frames) || nat_lt 65536 (sizes past + size_of write)
-is_beyond past (step.Show thread session) = nat_lt 15 thread
-is_beyond past (step.End thread) = nat_lt 15 thread
-is_beyond past (step.Steal session thread) = nat_lt 15 thread
+    nat_lt LAST_THREAD thread || nat_lt 0 (length write.frames) || nat_lt RECORDS_BYTES (sizes past + size_of write)
+is_beyond past (step.Show thread session) = nat_lt LAST_THREAD thread
+is_beyond past (step.End thread) = nat_lt LAST_THREAD thread
+is_beyond past (step.Steal session thread) = nat_lt LAST_THREAD thread
 is_beyond past (step.Give session) = false
 is_beyond past (step.Point session stamp) = true
-is_beyond past (step.Close session thread) = nat_lt 15 thread
+is_beyond past (step.Close session thread) = nat_lt LAST_THREAD thread
 is_beyond past (step.Finish session stamp) = false
 
 -- ---- a line

@@ -2,7 +2,7 @@
 //!
 //! `words` reads the command line; `text` splits the input into lines as it comes; `schedule` takes the lines one after
 //! another, over the machine that makes their steps; `errors` has the lines that say why an input is refused; `top` is
-//! the call; `outcome` has the law that a text has one outcome. Which texts are schedules is defined in
+//! the call; `laws` has the law that a text has one outcome at most; `limits` bounds what the program takes yet. Which texts are schedules is defined in
 //! `specs/Schedule`, and what the program answers in `specs/Replay`. It stands on ep_plan, for what a line means,
 //! ep_core, for the machine, ep_model, for the steps, nt_write, for the streams, pt_io, for input and output, and
 //! ep_defs, for the types.
@@ -11,12 +11,12 @@
 #![tactic(auto)]
 
 mod errors;
-mod outcome;
+pub mod laws;
+mod limits;
 mod schedule;
 mod text;
 mod top;
 mod words;
 
 pub use errors::{Reason, Refusal};
-pub use outcome::a_text_has_one_outcome;
 pub use top::{Finished, tracepipe};

@@ -2,14 +2,17 @@
 ghost use Rattle.std.specs.Prelude.{◌≡◌, ◌≤◌, ◌<◌, ◌+◌, ◌^◌, ℕ, true, false, List, [], ◌∷◌, length, IsTrue, IfOk, IfErr, IfSome, IfNone, OnOk, OnErr};
 ghost use Rattle.std.specs.List.{list_all};
 ghost use Rattle.ep_defs.specs.Event.{is_valid_event};
-ghost use Rattle.ep_core.specs.Bounds.{AreDifferent, IsWithoutFrames};
+ghost use Rattle.ep_defs.specs.Definitions.{AreDistinct};
+ghost use Rattle.ep_defs.specs.declared.limits.TheConstants.{EVENTS, RECORD_BYTES};
+ghost use Rattle.ep_core.specs.Bounds.{IsWithoutFrames};
+ghost use Rattle.pt_cli.specs.declared.limits.TheConstants.{RECORDS_BYTES};
 ghost use Rattle.ep_core.specs.Machine.{Follows, steps_of};
 ghost use Rattle.ep_model.specs.today.Lawful.{kind_of};
 ghost use Rattle.ep_plan.specs.Lines.{IsLine};
 ghost use Rattle.ep_defs.specs.declared.event.EventDef.{EventDef};
 ghost use Rattle.ep_defs.specs.Session.{standard_info_of};
 ghost use Rattle.ep_model.specs.declared.step.Step.{Step};
-ghost use Rattle.ep_model.specs.History.{Past};
+ghost use Rattle.ep_model.specs.History.{Past, event_at};
 ghost use Rattle.ep_model.specs.today.Sizes.{sizes as sizes_of};
 ghost use Rattle.ep_plan.specs.declared.line.Line.{Line};
 ghost use Rattle.ep_plan.specs.declared.line.Line.TheVariants.{Event, Step as StepLine};
@@ -19,26 +22,13 @@ ghost use Rattle.pt_cli.specs.Schedule.{definitions_of, past_of, has_stepped, is
 ghost use Rattle.pt_cli.specs.Machines.{IsMachineOf, IsUnlawful};
 
 use crate::errors::{Reason, Refusal};
+use crate::limits::{FEWEST_CHUNKS, LAST_THREAD, RECORDS_BYTES};
 use ep_core::{Machine, StepFault};
-use ep_defs::{Duplicate, EventDef, standard_info};
+use ep_defs::limits::RECORD_BYTES;
+use ep_defs::{EventDef, copies, standard_info};
 use ep_model::Step;
 use ep_plan::{Line, LineFault, a_line_means_one_thing, read_line};
 use std::alloc::{AllocError, AllocFailed, Global};
-
-/// The longest line of a schedule, in bytes without its line feed.
-pub(crate) const LONGEST_LINE: usize = 262_144;
-
-/// The last thread that is taken yet.
-const LAST_THREAD: u32 = 15;
-
-/// The fewest chunks of a session that is taken yet.
-const FEWEST_CHUNKS: u32 = 16;
-
-/// How many bytes all writes take at most where they are kept.
-const MOST_BYTES: u64 = 65_536;
-
-/// The bytes that a write takes beside its payload.
-const RECORD_BYTES: u64 = 68;
 
 /// Why a line was not taken.
 #[derive(Clone, Copy, Debug)]
@@ -79,7 +69,7 @@ impl Schedule {
     ghost use Rattle.ep_model.specs.History.{is_finished};
     ghost use Rattle.pt_cli.specs.Reading.{Stands, lines_in};
 
-    /// Before the first line.
+    /// An empty schedule.
     pub(crate) fn new(alloc: Global) -> Schedule
         ensures fresh { Stands [] result }
         ensures none { lines_in result ≡ 0 }
@@ -175,9 +165,9 @@ impl Schedule {
     }
 }
 
-// Whether the step is one that is not taken yet, where the writes before it take so many bytes.
+// Whether the step is one that is not taken yet, where the records of the writes before it take this many bytes.
 fn is_beyond(step: &Step, sizes: u64) -> bool
-    requires { sizes ≤ 65536 }
+    requires { sizes ≤ RECORDS_BYTES }
     ensures { (past : Past) → sizes_of past ≡ sizes → result ≡ is_beyond past step.now }
 {
     match step {
@@ -185,7 +175,7 @@ fn is_beyond(step: &Step, sizes: u64) -> bool
         Step::Begin { thread, write, .. } => {
             *thread > LAST_THREAD
                 || !write.frames.as_slice().is_empty()
-                || sizes + size_of(step) > MOST_BYTES
+                || sizes + size_of(step) > RECORDS_BYTES as u64
         }
         Step::Open { thread, .. }
         | Step::Show { thread, .. }
@@ -200,15 +190,15 @@ fn is_beyond(step: &Step, sizes: u64) -> bool
 // How many bytes the write of a step takes that begins one without a stack.
 fn size_of(step: &Step) -> u64
     ensures sum { (past : Past) → IsWithoutFrames step.now → sizes_of (step.now ∷ past) ≡ sizes_of past + result }
-    ensures few { result < 2 ^ 63 + 68 }
+    ensures few { result < 2 ^ 63 + RECORD_BYTES }
 {
     match step {
-        Step::Begin { write, .. } => RECORD_BYTES + write.payload.as_slice().len() as u64,
+        Step::Begin { write, .. } => (RECORD_BYTES + write.payload.as_slice().len()) as u64,
         _ => 0,
     }
 }
 
-// Makes a step behind so many lines, on a new machine where there is none.
+// Makes a step after this many lines, on a new machine where there is none.
 fn make(
     alloc: Global,
     machine: &mut Option<Machine>,
@@ -218,9 +208,9 @@ fn make(
 ) -> Result<(), Fault>
     requires stands { (past : Past) × IsMachineOf events.now past lines machine.old }
     requires count { lines < 2 ^ 63 }
-    requires few { length events.now ≤ 1000 }
+    requires few { length events.now ≤ EVENTS }
     requires valid { IsTrue (list_all is_valid_event events.now) }
-    requires different { AreDifferent events.now }
+    requires distinct { AreDistinct (event_at events.now) }
     requires without_frames { IsWithoutFrames step }
     ensures made { (past : Past) → IsMachineOf events.now past lines machine.old
         → OnOk result ((kind_of events.now past step ≡ None) × IsMachineOf events.now (step ∷ past) (lines + 1) machine.new) }
@@ -238,9 +228,9 @@ fn make(
 
 // A machine that has made no step.
 fn new_machine(alloc: Global, events: &[EventDef]) -> Result<Machine, Fault>
-    requires few { length events.now ≤ 1000 }
+    requires few { length events.now ≤ EVENTS }
     requires valid { IsTrue (list_all is_valid_event events.now) }
-    requires different { AreDifferent events.now }
+    requires distinct { AreDistinct (event_at events.now) }
     ensures fresh { IfOk result (λ machine. Follows events.now (standard_info_of 1 1) [] machine) }
     ensures counted { IfOk result (λ machine. steps_of machine ≡ 0) }
     ensures memory { IfErr result (λ fault. fault ≡ OutOfMemory) }
@@ -258,7 +248,7 @@ fn make_on(alloc: Global, machine: &mut Machine, step: Step, number: u64) -> Res
         → OnOk result ((kind_of events past step ≡ None) × Follows events (standard_info_of 1 1) (step ∷ past) machine.new) }
     ensures refused { (events : List EventDef) (past : Past) (refusal : Refusal) → Follows events (standard_info_of 1 1) past machine.old
         → result ≡ Err (Refused refusal) → IsUnlawful events past step number refusal }
-    ensures counted { steps_of machine.new ≤ steps_of machine.old + 1 }
+    ensures counted { OnOk result (steps_of machine.new ≡ steps_of machine.old + 1) }
 {
     match machine.step(alloc, step) {
         Ok(()) => Ok(()),
@@ -269,15 +259,4 @@ fn make_on(alloc: Global, machine: &mut Machine, step: Step, number: u64) -> Res
         })),
         Err(StepFault::OutOfMemory) => Err(Fault::OutOfMemory),
     }
-}
-
-// A copy of each definition.
-fn copies(alloc: Global, events: &[EventDef]) -> Result<Vec<EventDef>, AllocError>
-    ensures { IfOk result (λ copies. copies.items ≡ events.now) }
-{
-    let mut copies = Vec::with_capacity(alloc, events.len())?;
-    for event in events {
-        copies.push(event.copy(alloc)?)?;
-    }
-    Ok(copies)
 }

@@ -2,7 +2,8 @@
 ghost use Rattle.std.specs.Prelude.{◌≡◌, ◌≤◌, ◌<◌, ◌+◌, ◌^◌, ◌++◌, ◌≢◌, ℕ, List, [], ◌∷◌, length, IfSome, IfNone, OnOk};
 
 use crate::errors::{Reason, Refusal};
-use crate::schedule::{Fault, LONGEST_LINE, Schedule};
+use crate::limits::LINE_BYTES;
+use crate::schedule::{Fault, Schedule};
 use ep_plan::LineKind;
 use std::alloc::{AllocError, Global};
 
@@ -31,7 +32,7 @@ impl Reader {
     ghost use Rattle.pt_cli.specs.Outcomes.{IsOutcome};
     ghost use Rattle.pt_cli.specs.Reading.{HasRead, IsJudged, Stands, used};
 
-    /// Before the first byte.
+    /// A reader that has read nothing.
     pub(crate) fn new(alloc: Global) -> Reader
         ensures fresh { HasRead [] result }
         ensures none { used result ≡ 0 }
@@ -68,7 +69,7 @@ impl Reader {
         if byte == b'\n' {
             return self.end_line(alloc);
         }
-        if self.part.len() >= LONGEST_LINE {
+        if self.part.len() >= LINE_BYTES {
             self.refusal = Some(Refusal {
                 line: self.schedule.lines() + 1,
                 column: 1,

@@ -2,17 +2,17 @@
 ghost use Rattle.std.specs.Prelude.{◌≡◌, ◌≢◌, ◌⊎◌, ℕ, List, map, IsTrue, IfOk, OnOk, IsOkAnd};
 ghost use Rattle.std.specs.String.{string_bytes};
 ghost use Rattle.pt_io.specs.Faults.{HasRisen};
-ghost use Rattle.pt_io.specs.Taken.{TookPartOf};
+ghost use Rattle.pt_io.specs.Taken.{TookAll, TookPartOf};
 ghost use Rattle.pt_cli.specs.declared.errors.Refusal.{Refusal};
 ghost use Rattle.pt_cli.specs.declared.top.ReadFault.TheVariants.{OutOfMemory};
 ghost use Rattle.pt_cli.specs.Errors.{words_error};
 ghost use Rattle.pt_cli.specs.Schedule.{IsRefused};
 ghost use Rattle.pt_cli.specs.Reading.{IsJudged};
 ghost use Rattle.pt_cli.specs.Words.{IsReplay};
-ghost use Rattle.pt_cli.specs.Replay.{IsReplayed, IsUnfinished, Finishes, IsError, ReadAll, TookText, IsAnswer};
+ghost use Rattle.pt_cli.specs.Replay.{IsReplayed, IsUnfinished, Finishes, IsError, ReadWhole, IsAnswer};
 
 use crate::errors::{refusal_text, unfinished_text};
-use crate::outcome::a_text_has_one_outcome;
+use crate::laws::a_text_has_one_outcome;
 use crate::text::{Outcome, Reader};
 use crate::words::session_of;
 use pt_io::{Failed, Sink, Source};
@@ -21,7 +21,7 @@ use std::alloc::{AllocError, Global};
 /// How the program ended.
 #[derive(Clone, Copy, Debug)]
 pub struct Finished {
-    /// 0 done, 2 words refused, 3 input refused, 4 read fault, 5 write fault, 9 want of memory.
+    /// 0 done, 2 words refused, 3 input refused, 4 read fault, 5 write fault, 9 out of memory.
     pub status: u8,
     /// A peer's error code, 0 where there is none.
     pub code: u32,
@@ -41,18 +41,18 @@ pub fn tracepipe<I: Source, O: Sink>(
     output: &mut O,
 ) -> Finished
     ensures done { result.status ≡ 0 → (session : ℕ) × IsReplay (map string_bytes words.now) session × ((bytes : List ℕ) × (stream : List ℕ)
-        × ReadAll I.tells_given I.given I.left input.old input.new bytes
-        × IsReplayed session bytes stream × TookText O.tells_taken O.taken output.old output.new stream) }
+        × ReadWhole I.tells_given I.given I.left I.may_give input.old input.new bytes
+        × IsReplayed session bytes stream × TookAll O.tells_taken O.taken output.old output.new stream) }
 
     // Words that are not `replay`.
     ensures words { result.status ≡ 2 → ((session : ℕ) → IsReplay (map string_bytes words.now) session → ⊥)
-        × TookText O.tells_taken O.taken output.old output.new words_error × (input.new ≡ input.old) }
+        × TookAll O.tells_taken O.taken output.old output.new words_error × (input.new ≡ input.old) }
     ensures words_refused { ((session : ℕ) → IsReplay (map string_bytes words.now) session → ⊥) → (result.status ≡ 2) ⊎ (result.status ≡ 5) }
 
     // An input that is no schedule, or does not finish the session.
     ensures refused { result.status ≡ 3 → (session : ℕ) × IsReplay (map string_bytes words.now) session × ((bytes : List ℕ) × (text : List ℕ)
-        × ReadAll I.tells_given I.given I.left input.old input.new bytes
-        × IsError session bytes text × TookText O.tells_taken O.taken output.old output.new text) }
+        × ReadWhole I.tells_given I.given I.left I.may_give input.old input.new bytes
+        × IsError session bytes text × TookAll O.tells_taken O.taken output.old output.new text) }
 
     // An input that tells its bytes is judged by them, unless something fails.
     ensures refused_exactly { (session : ℕ) (refusal : Refusal) → IsReplay (map string_bytes words.now) session → IsTrue (I.tells_given input.old)
@@ -68,12 +68,12 @@ pub fn tracepipe<I: Source, O: Sink>(
     ensures all_read { result.status ≢ 4 → I.read_faults input.new ≡ I.read_faults input.old }
     ensures write_fault { result.status ≡ 5 → HasRisen (O.write_faults output.old) (O.write_faults output.new) }
     ensures written_part { result.status ≡ 5 → (bytes : List ℕ) × (text : List ℕ)
-        × ((session : ℕ) → IsReplay (map string_bytes words.now) session → ReadAll I.tells_given I.given I.left input.old input.new bytes)
+        × ((session : ℕ) → IsReplay (map string_bytes words.now) session → ReadWhole I.tells_given I.given I.left I.may_give input.old input.new bytes)
         × IsAnswer (map string_bytes words.now) bytes text
         × (IsTrue (O.tells_taken output.old) → TookPartOf text (O.taken output.old) (O.taken output.new)) }
     ensures all_written { result.status ≢ 5 → O.write_faults output.new ≡ O.write_faults output.old }
 
-    // Want of memory writes nothing.
+    // Out of memory: nothing was written.
     ensures memory { result.status ≡ 9 → output.new ≡ output.old }
     ensures statuses { (result.status ≡ 0) ⊎ (result.status ≡ 2) ⊎ (result.status ≡ 3) ⊎ (result.status ≡ 4) ⊎ (result.status ≡ 5) ⊎ (result.status ≡ 9) }
     ensures no_code { (result.code ≡ 0) × (result.at ≡ 0) }
@@ -104,7 +104,7 @@ fn ended_with(status: u8) -> Finished
 fn say<O: Sink>(output: &mut O, text: &[u8], status: u8) -> Finished
     requires { status ≢ 5 }
     ensures end { (result ≡ record { status = status; code = 0; at = 0 }) ⊎ (result ≡ record { status = 5; code = 0; at = 0 }) }
-    ensures took { result.status ≢ 5 → TookText O.tells_taken O.taken output.old output.new text.now }
+    ensures took { result.status ≢ 5 → TookAll O.tells_taken O.taken output.old output.new text.now }
     ensures same { result.status ≢ 5 → O.write_faults output.new ≡ O.write_faults output.old }
     ensures part { result.status ≡ 5 → IsTrue (O.tells_taken output.old) → TookPartOf text.now (O.taken output.old) (O.taken output.new) }
     ensures fault { result.status ≡ 5 → HasRisen (O.write_faults output.old) (O.write_faults output.new) }
@@ -118,9 +118,9 @@ fn say<O: Sink>(output: &mut O, text: &[u8], status: u8) -> Finished
 // Writes what the bytes that were read come to for a session.
 fn answer<O: Sink>(alloc: Global, reader: &Reader, session: u32, output: &mut O) -> Finished
     ensures done { (bytes : List ℕ) → IsJudged bytes reader.now → result.status ≡ 0 → (stream : List ℕ) × IsReplayed session bytes stream
-        × TookText O.tells_taken O.taken output.old output.new stream }
+        × TookAll O.tells_taken O.taken output.old output.new stream }
     ensures refused { (bytes : List ℕ) → IsJudged bytes reader.now → result.status ≡ 3 → (text : List ℕ) × IsError session bytes text
-        × TookText O.tells_taken O.taken output.old output.new text }
+        × TookAll O.tells_taken O.taken output.old output.new text }
     ensures part { (bytes : List ℕ) → IsJudged bytes reader.now → result.status ≡ 5 → (text : List ℕ)
         × (IsError session bytes text ⊎ IsReplayed session bytes text)
         × (IsTrue (O.tells_taken output.old) → TookPartOf text (O.taken output.old) (O.taken output.new)) }
@@ -139,7 +139,7 @@ fn answer<O: Sink>(alloc: Global, reader: &Reader, session: u32, output: &mut O)
 
 // Writes an error line, where there was memory for it.
 fn say_error<O: Sink>(output: &mut O, text: Result<String, AllocError>) -> Finished
-    ensures took { result.status ≡ 3 → IsOkAnd text (λ text. TookText O.tells_taken O.taken output.old output.new (string_bytes text)) }
+    ensures took { result.status ≡ 3 → IsOkAnd text (λ text. TookAll O.tells_taken O.taken output.old output.new (string_bytes text)) }
     ensures part { result.status ≡ 5 → IsOkAnd text (λ text. IsTrue (O.tells_taken output.old)
         → TookPartOf (string_bytes text) (O.taken output.old) (O.taken output.new)) }
     ensures write_fault { result.status ≡ 5 → HasRisen (O.write_faults output.old) (O.write_faults output.new) }
@@ -170,7 +170,7 @@ impl From<AllocError> for ReadFault {
 // Reads and judges all the bytes of the input, up to its end.
 fn read_all<I: Source>(alloc: Global, input: &mut I) -> Result<Reader, ReadFault>
     ensures all { IfOk result (λ reader. (bytes : List ℕ) × IsJudged bytes reader
-        × ReadAll I.tells_given I.given I.left input.old input.new bytes) }
+        × ReadWhole I.tells_given I.given I.left I.may_give input.old input.new bytes) }
     ensures read { OnOk result (I.read_faults input.new ≡ I.read_faults input.old) }
     ensures fault { result ≡ Err ReadFault.Failed → HasRisen (I.read_faults input.old) (I.read_faults input.new) }
     ensures memory { result ≡ Err ReadFault.OutOfMemory → I.read_faults input.new ≡ I.read_faults input.old }

@@ -4,7 +4,7 @@ use Rattle.std.specs.Prelude.{Result, Ok, Err, IsOkAnd, IfOk}
 use Rattle.std.specs.Prelude.{IsTrue}
 use Rattle.std.specs.String.{string_bytes}
 use Rattle.pt_io.specs.Taken.{TookPartOf}
-use Rattle.pt_cli.specs.Errors.{unfinished_error}
+use Rattle.pt_cli.specs.Errors.{refusal_error, unfinished_error}
 use Rattle.pt_cli.proofs.top.answer.Goals as goal
 
 -- What holds of the text that was made holds of the text that it is.
@@ -23,4 +23,15 @@ returns-in-Unfinished-clause-part g c = λ bytes judged five.
       unfinished_error c.args.session,
       inl (inr (c.in-Unfinished.ensures bytes judged, refl)),
       made-is c.unfinished_text.result string_bytes Took (unfinished_error c.args.session) (c.say_error-in-Unfinished.ensures.part five) c.unfinished_text.ensures,
+    )
+
+pub returns-in-Refused-clause-part : goal.returns-in-Refused-clause-part
+returns-in-Refused-clause-part g c = λ bytes judged five.
+    let sink = g.O.Sink in
+    let refusal = c.in-Refused.refusal in
+    let Took : List ℕ → Type 0 = λ text.
+    IsTrue (sink.tells_taken c.args.output.now) → TookPartOf text (sink.taken c.args.output.now) (sink.taken c.say_error.new.output) in (
+      refusal_error refusal,
+      inl (inl (refusal, c.in-Refused.ensures bytes judged, refl)),
+      made-is c.refusal_text.result string_bytes Took (refusal_error refusal) (c.say_error.ensures.part five) c.refusal_text.ensures,
     )

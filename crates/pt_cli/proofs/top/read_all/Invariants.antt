@@ -13,6 +13,7 @@ invariant-loop-count g l =
       read : HasRead bytes l.reader;
       given : IsTrue (source.tells_given l.fn.input) → source.given l.input ≡ source.given l.fn.input ++ bytes;
       left : IsTrue (source.tells_given l.fn.input) → source.left l.fn.input ≡ bytes ++ source.left l.input;
+      counted : source.may_give l.input + length bytes ≡ source.may_give l.fn.input;
       few : source.may_give l.input < 2 ^ 63 → used l.reader + source.may_give l.input < 2 ^ 63;
       room : length l.buffer ≡ 4096;
     }

@@ -53,7 +53,7 @@ returns-in-Ok-clause-refused_exactly g c = λ session refusal is tells refused.
     elim c.answer.ensures.statuses [
       | inl zero ↦
           let done = c.answer.ensures.done read.0 read.1 zero in
-          absurd (replayed-not_refused law.one_schedule law.not_both c.in-Some.session read.0 (g.I.Source.left c.args.input.now) done.0 refusal (read.2 tells).0 done.1 refused)
+          absurd (replayed-not_refused law.one_schedule law.not_both c.in-Some.session read.0 (g.I.Source.left c.args.input.now) done.0 refusal (read.2.told tells).0 done.1 refused)
       | inr (inl three) ↦ inl three
       | inr (inr (inl five)) ↦ inr (inr (inl five))
       | inr (inr (inr nine)) ↦ inr (inr (inr nine))
@@ -66,7 +66,7 @@ returns-in-Ok-clause-unfinished g c = λ session is tells unfinished.
     elim c.answer.ensures.statuses [
       | inl zero ↦
           let done = c.answer.ensures.done read.0 read.1 zero in
-          absurd (replayed-not_unfinished law.one_schedule law.not_both (map string_bytes c.args.words.now) c.in-Some.session session read.0 (g.I.Source.left c.args.input.now) done.0 c.in-Some.ensures.some is (read.2 tells).0 done.1 unfinished)
+          absurd (replayed-not_unfinished law.one_schedule law.not_both (map string_bytes c.args.words.now) c.in-Some.session session read.0 (g.I.Source.left c.args.input.now) done.0 c.in-Some.ensures.some is (read.2.told tells).0 done.1 unfinished)
       | inr (inl three) ↦ inl three
       | inr (inr (inl five)) ↦ inr (inr (inl five))
       | inr (inr (inr nine)) ↦ inr (inr (inr nine))
@@ -80,7 +80,7 @@ returns-in-Ok-clause-taken g c = λ session is tells finishes.
       | inl zero ↦ inl zero
       | inr (inl three) ↦
           let refused = c.answer.ensures.refused read.0 read.1 three in
-          absurd (error-not_finished law.one_schedule law.not_both (map string_bytes c.args.words.now) c.in-Some.session session read.0 (g.I.Source.left c.args.input.now) refused.0 c.in-Some.ensures.some is (read.2 tells).0 refused.1 finishes)
+          absurd (error-not_finished law.one_schedule law.not_both (map string_bytes c.args.words.now) c.in-Some.session session read.0 (g.I.Source.left c.args.input.now) refused.0 c.in-Some.ensures.some is (read.2.told tells).0 refused.1 finishes)
       | inr (inr (inl five)) ↦ inr (inr (inl five))
       | inr (inr (inr nine)) ↦ inr (inr (inr nine))
     ]

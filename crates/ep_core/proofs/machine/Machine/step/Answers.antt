@@ -17,5 +17,5 @@ returns-clause-made c events info past follows =
     let lawful = sym (c.objection.ensures.is events info past follows.stands) ∙ c.in_default.is in
     let well = sym c.is_err.ensures.value ∙ c.if-is_err.false in
     let stands = well_at (Stands events info (c.args.step ∷ past) c.make.new.self) c.make.result well (c.make.ensures.ok events info past (follows.stands.lawful, lawful) follows.stands) in
-    let count : c.make.new.self.steps ≡ length past = c.make.ensures.steps ∙ follows.count in
+    let count : c.make.new.self.steps ≡ length past = c.make.ensures.kept.0 ∙ follows.count in
     (lawful, record { count = omega (arith, count); stands = stands_counted events info (c.args.step ∷ past) c.make.new.self (c.make.new.self.steps + 1) stands })

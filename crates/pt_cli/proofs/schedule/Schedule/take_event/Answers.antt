@@ -1,7 +1,7 @@
 -- The definition is the next one, valid and unlike those before it.
 use Rattle.std.proofs.Common.{◌≡◌, ◌+◌, ◌++◌, [], ◌∷◌, ap, ◌∙◌, arith, length-append}
 use Rattle.pt_cli.specs.Schedule.{definitions_of, past_of}
-use Rattle.pt_cli.proofs.Definitions.{all-more, different-more}
+use Rattle.pt_cli.proofs.Definitions.{all-more, distinct-more}
 use Rattle.pt_cli.proofs.Standing.{machine-unused, lawful-unused}
 use Rattle.pt_cli.proofs.schedule.Schedule.take_event.Goals as goal
 
@@ -17,6 +17,6 @@ returns-clause-taken c = λ lines text index stands is_line.
       machine_is = machine-unused (definitions_of lines) (definitions_of lines ++ c.args.def ∷ []) (past_of lines) c.args.self.now.lines (c.args.self.now.lines + 1) c.args.self.now.machine law.0 stands.machine_is;
       few = omega (arith, length-append (definitions_of lines) (c.args.def ∷ []), law.1, law.2);
       valid = all-more (definitions_of lines) c.args.def stands.valid law.3;
-      different = different-more (definitions_of lines) c.args.def stands.different law.4;
+      distinct = distinct-more (definitions_of lines) c.args.def stands.distinct law.4;
       lawful = lawful-unused (definitions_of lines ++ c.args.def ∷ []) (past_of lines) law.0;
     }

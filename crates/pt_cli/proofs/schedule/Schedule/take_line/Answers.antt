@@ -1,5 +1,6 @@
 -- What is read of a line is what it says behind those before it.
-use Rattle.std.specs.Prelude.{◌∷◌, Result, Ok, Err, OnOk}
+use Rattle.std.specs.Prelude.{◌∷◌}
+use Rattle.std.proofs.lemmas.Result.{on_ok_weaker}
 use Rattle.ep_plan.specs.declared.line.Line.{Line}
 use Rattle.ep_plan.specs.declared.line.Line.TheVariants.{Event, Step}
 use Rattle.pt_cli.specs.Schedule.{CanBeMade, Takes}
@@ -13,11 +14,6 @@ returns-in-Ok-Step-clause-refused c = λ lines refusal stands is.
     c.take_step.ensures.refused lines refusal c.args.text.now stands is
     (says-read lines c.args.text.now (Step c.in-Ok-Step.step) c.args.self.now c.deref.result.now c.is_some.result stands c.deref.ensures.value c.is_some.ensures read)
 
--- What holds where a call went well gives what follows from it there.
-on_ok : {T E : Type 0} (r : Result T E) (P Q : Type 0) → (P → Q) → OnOk r P → OnOk r Q
-on_ok (Ok x) P Q follows holds = follows holds
-on_ok (Err e) P Q follows holds = tt
-
 pub returns-in-Ok-Step-clause-taken : goal.returns-in-Ok-Step-clause-taken
 returns-in-Ok-Step-clause-taken c = λ lines stands.
     let step = c.in-Ok-Step.step in
@@ -27,7 +23,7 @@ returns-in-Ok-Step-clause-taken c = λ lines stands.
     let Made : Type 0 = CanBeMade lines (Step step) × Stands (Step step ∷ lines) c.take_step.new.self in
     let Taken : Type 0 = (line : Line) × Takes lines c.args.text.now line × Stands (line ∷ lines) c.take_step.new.self in
     let taken : Made → Taken = λ made. (Step step, record { says = says; made = made.0 }, made.1) in
-    on_ok c.take_step.result Made Taken taken (c.take_step.ensures.taken lines stands)
+    on_ok_weaker c.take_step.result taken (c.take_step.ensures.taken lines stands)
 
 pub returns-in-Ok-Event-clause-taken : goal.returns-in-Ok-Event-clause-taken
 returns-in-Ok-Event-clause-taken c = λ lines stands.
@@ -39,4 +35,4 @@ returns-in-Ok-Event-clause-taken c = λ lines stands.
     let Made : Type 0 = Stands (Event index def ∷ lines) c.take_event.new.self in
     let Taken : Type 0 = (line : Line) × Takes lines c.args.text.now line × Stands (line ∷ lines) c.take_event.new.self in
     let taken : Made → Taken = λ made. (Event index def, record { says = says; made = tt }, made) in
-    on_ok c.take_event.result Made Taken taken (c.take_event.ensures.taken lines c.args.text.now index stands says)
+    on_ok_weaker c.take_event.result taken (c.take_event.ensures.taken lines c.args.text.now index stands says)

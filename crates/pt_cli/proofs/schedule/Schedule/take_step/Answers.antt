@@ -3,6 +3,7 @@ use Rattle.std.proofs.Common.{◌≡◌, ◌+◌, ◌≤◌, List, ◌∷◌, fa
 use Rattle.ep_defs.specs.declared.event.EventDef.{EventDef}
 use Rattle.ep_model.specs.today.Lawful.{kind_of}
 use Rattle.std.specs.Prelude.{None, Result, Ok, Err, IsErrAnd}
+use Rattle.pt_cli.specs.declared.limits.TheConstants.{RECORDS_BYTES}
 use Rattle.pt_cli.specs.declared.schedule.Fault.TheVariants.{Refused}
 use Rattle.pt_cli.specs.Schedule.{definitions_of, past_of, is_beyond}
 use Rattle.pt_cli.specs.Machines.{IsMachineOf, IsUnlawful}
@@ -25,17 +26,17 @@ returns-clause-taken c = λ lines stands.
     let More : List EventDef → Type 0 = λ events. IsMachineOf events (c.args.step ∷ past_of lines) (c.args.self.now.lines + 1) c.make.new.machine in
     let sum = c.size_of-size.ensures.sum (past_of lines) (beyond-frames (past_of lines) c.args.step taken) in
     let sizes_are = ap (λ n. n + c.size_of-size.result) stands.sizes_are ∙ sym sum in
-    let few = beyond-few (past_of lines) c.args.step taken (subst (λ n. n ≤ 65536) stands.sizes_are stands.are_few) in (
+    let few = beyond-few (past_of lines) c.args.step taken (subst (λ n. n ≤ RECORDS_BYTES) stands.sizes_are stands.are_few) in (
       (taken, lawful),
       record {
         count = omega (arith, stands.count);
         events_are = stands.events_are;
         sizes_are = sizes_are;
-        are_few = subst (λ n. n ≤ 65536) (sym sizes_are) few;
+        are_few = subst (λ n. n ≤ RECORDS_BYTES) (sym sizes_are) few;
         machine_is = subst More (sym events_are) made.1;
         few = stands.few;
         valid = stands.valid;
-        different = stands.different;
+        distinct = stands.distinct;
         lawful = (stands.lawful, lawful);
       },
     )

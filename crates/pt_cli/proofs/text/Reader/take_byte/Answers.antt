@@ -4,15 +4,16 @@ use Rattle.ep_plan.specs.declared.line.LineKind.TheVariants.{Long}
 use Rattle.pt_cli.specs.declared.errors.Reason.TheVariants.{Line}
 use Rattle.pt_cli.specs.Schedule.{IsRefused}
 use Rattle.pt_cli.specs.Reading.{AreGoodSoFar}
+use Rattle.pt_cli.specs.declared.limits.TheConstants.{LINE_BYTES}
 use Rattle.pt_cli.proofs.ReadSoFar.{is_some-false, so_far-good, good-so_far, read-byte, read-long}
 use Rattle.pt_cli.proofs.text.Reader.take_byte.Goals as goal
 
-pub returns-then-len-ge-LONGEST_LINE-clause-read :
-    goal.returns-then-len-ge-LONGEST_LINE-clause-read
-returns-then-len-ge-LONGEST_LINE-clause-read c = λ bytes read.
+pub returns-then-len-ge-LINE_BYTES-clause-read :
+    goal.returns-then-len-ge-LINE_BYTES-clause-read
+returns-then-len-ge-LINE_BYTES-clause-read c = λ bytes read.
     let reader = c.args.self.now in
     let good = so_far-good bytes reader.schedule reader.part.items reader.refusal (is_some-false reader.refusal (sym c.is_some.ensures ∙ c.if-is_some.false)) read in
-    let long : 262144 ≤ length reader.part.items = omega (arith, c.len.ensures, c.if-len-ge-LONGEST_LINE.true) in
+    let long : LINE_BYTES ≤ length reader.part.items = omega (arith, c.len.ensures, c.if-len-ge-LINE_BYTES.true) in
     let IsLong : ℕ → Type 0 = λ n.
     (rest : List ℕ) → IsRefused (bytes ++ c.args.byte ∷ [] ++ rest) (record { line = n + 1; column = 1; reason = Line Long }) in
     subst IsLong (sym c.lines.ensures) (read-long bytes reader.schedule reader.part.items good c.args.byte c.if-byte-eq10.false long)
@@ -22,7 +23,7 @@ returns-clause-read c = λ bytes read.
     let reader = c.args.self.now in
     let none = is_some-false reader.refusal (sym c.is_some.ensures ∙ c.if-is_some.false) in
     let good = so_far-good bytes reader.schedule reader.part.items reader.refusal none read in
-    let short : length reader.part.items < 262144 = omega (arith, c.len.ensures, c.if-len-ge-LONGEST_LINE.false) in
+    let short : length reader.part.items < LINE_BYTES = omega (arith, c.len.ensures, c.if-len-ge-LINE_BYTES.false) in
     let next = read-byte bytes reader.schedule reader.part.items good c.args.byte c.if-byte-eq10.false short in
     let pushed : c.push.new.self.items ≡ reader.part.items ++ c.args.byte ∷ [] = search (c.in_ok-push.ensures) in
     good-so_far (bytes ++ c.args.byte ∷ []) reader.schedule c.push.new.self.items reader.refusal none

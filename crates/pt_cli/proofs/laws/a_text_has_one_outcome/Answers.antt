@@ -2,7 +2,7 @@
 use Rattle.std.proofs.Common.{[]}
 use Rattle.pt_cli.specs.Text.{lines_of}
 use Rattle.pt_cli.proofs.OutcomeLaws.{good-one, refused-one, good-not_refused}
-use Rattle.pt_cli.proofs.outcome.a_text_has_one_outcome.Goals as goal
+use Rattle.pt_cli.proofs.laws.a_text_has_one_outcome.Goals as goal
 
 pub returns : goal.returns
 returns c =

@@ -1,4 +1,4 @@
-//! What the text of a schedule comes to is determined.
+//! Laws: what the text of a schedule comes to is determined.
 ghost use Rattle.std.specs.Prelude.{◌≡◌, ℕ, List};
 ghost use Rattle.ep_plan.specs.declared.line.Line.{Line};
 ghost use Rattle.pt_cli.specs.declared.errors.Refusal.{Refusal};
