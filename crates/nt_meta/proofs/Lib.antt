@@ -1,7 +1,9 @@
 pub mod DefSteps
 pub mod Definitions
 pub mod FieldSteps
+pub mod Forests
 pub mod Lengths
+pub mod Payloads
 pub mod PutFields
 pub mod PutPieces
 pub mod Spelled

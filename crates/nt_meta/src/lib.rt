@@ -9,11 +9,13 @@
 #![tactic(auto)]
 
 mod cursor;
+mod laws;
 pub mod limits;
 mod put;
 mod take;
 #[cfg(test)]
 mod tests;
 
+pub use laws::what_is_read_is_a_payload;
 pub use put::put_meta;
 pub use take::{TakenMeta, take_meta};
