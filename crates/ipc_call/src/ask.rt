@@ -1,0 +1,87 @@
+//! One request, and the reply to it.
+ghost use Rattle.std.specs.Prelude.{◌≡◌, ◌≢◌, ◌+◌, ◌++◌, ◌⊎◌, ℕ, List, length, IsTrue, IfOk, IfErr, OnOk, OnErr, Ok, Err};
+ghost use Rattle.pt_io.specs.Faults.{HasRisen};
+ghost use Rattle.pt_io.specs.Taken.{TookAll, TookPart};
+ghost use Rattle.ipc_frame.specs.Message.{found};
+ghost use Rattle.ipc_body.specs.Reply.{reply_of, IsReplyTo};
+ghost use Rattle.ipc_call.specs.Own.{said_size, own_bytes};
+ghost use Rattle.ipc_call.specs.Given.{Gave, HasFailed, IsSound};
+ghost use Rattle.ipc_call.specs.declared.fault.CallFault.TheVariants.{BadReply, LinkFault, OutOfMemory};
+
+use crate::fault::CallFault;
+use crate::pieces::read_more;
+use ipc_body::{Reply, ReplyFault, read_reply};
+use ipc_frame::limits::HEADER_BYTES;
+use ipc_frame::{Framed, take_message};
+use pt_io::{Failed, Link};
+use std::alloc::Global;
+
+/// Sends a request, and reads the reply to it and nothing more.
+pub(crate) fn ask<L: Link>(
+    alloc: Global,
+    link: &mut L,
+    request: &[u8],
+    wants_info: bool,
+) -> Result<Reply, CallFault>
+    ensures reply { IsTrue (L.tells_given link.old)
+        → IfOk result (λ reply. reply_of wants_info (own_bytes (L.left link.old)) ≡ Ok reply) }
+    ensures gave { OnOk result (Gave L.tells_given L.given L.left link.old link.new (own_bytes (L.left link.old))) }
+    ensures kind { IfOk result (IsReplyTo wants_info) }
+    ensures bad { (at : ℕ) → result ≡ Err (BadReply at) → IsTrue (L.tells_given link.old)
+        → reply_of wants_info (own_bytes (L.left link.old)) ≡ Err at }
+    ensures told { L.tells_given link.new ≡ L.tells_given link.old }
+    ensures whole { IsTrue (L.tells_given link.old)
+        → L.given link.new ++ L.left link.new ≡ L.given link.old ++ L.left link.old }
+
+    // What the link took.
+    ensures tells { L.tells_taken link.new ≡ L.tells_taken link.old }
+    ensures asked { OnOk result (TookAll L.tells_taken L.taken link.old link.new request.now) }
+    ensures asked_bad { (at : ℕ) → result ≡ Err (BadReply at)
+        → TookAll L.tells_taken L.taken link.old link.new request.now }
+    ensures part { TookPart L.tells_taken L.taken link.old link.new request.now }
+
+    // Faults.
+    ensures fault { result ≡ Err LinkFault → HasFailed L.read_faults L.write_faults link.old link.new }
+    ensures sound { result ≢ Err LinkFault → IsSound L.read_faults L.write_faults link.old link.new }
+    ensures only { IfErr result (λ fault. (fault ≡ LinkFault) ⊎ (fault ≡ OutOfMemory)
+        ⊎ ((at : ℕ) × (fault ≡ BadReply at))) }
+{
+    if let Err(Failed) = link.write(request) {
+        return Err(CallFault::LinkFault);
+    }
+    let bytes = receive(alloc, link)?;
+    match read_reply(alloc, &bytes, wants_info) {
+        Ok(reply) => Ok(reply),
+        Err(ReplyFault::Bad { at }) => Err(CallFault::BadReply { at }),
+        Err(ReplyFault::OutOfMemory) => Err(CallFault::OutOfMemory),
+    }
+}
+
+// Reads the bytes of a reply, or as many of them as come before the link ends.
+fn receive<L: Link>(alloc: Global, link: &mut L) -> Result<Vec<u8>, CallFault>
+    ensures own { IsTrue (L.tells_given link.old) → IfOk result (λ bytes. bytes.items ≡ own_bytes (L.left link.old)) }
+    ensures gave { IfOk result (λ bytes. Gave L.tells_given L.given L.left link.old link.new bytes.items) }
+    ensures told { L.tells_given link.new ≡ L.tells_given link.old }
+    ensures whole { IsTrue (L.tells_given link.old)
+        → L.given link.new ++ L.left link.new ≡ L.given link.old ++ L.left link.old }
+    ensures fault { result ≡ Err LinkFault → HasRisen (L.read_faults link.old) (L.read_faults link.new) }
+    ensures sound { result ≢ Err LinkFault → L.read_faults link.new ≡ L.read_faults link.old }
+    ensures only { OnErr result ((result ≡ Err LinkFault) ⊎ (result ≡ Err OutOfMemory)) }
+    ensures writes { L.write_side link.new ≡ L.write_side link.old }
+{
+    let mut bytes = Vec::new(alloc);
+    read_more(link, &mut bytes, HEADER_BYTES)?;
+    let lacking = lacking_bytes(&bytes);
+    read_more(link, &mut bytes, lacking)?;
+    Ok(bytes)
+}
+
+// How many bytes the message of this header has behind it.
+fn lacking_bytes(head: &[u8]) -> usize
+    ensures { length head.now + result ≡ said_size head.now (found head.now) }
+{
+    match take_message(head) {
+        Framed::Need(more) => more,
+        Framed::Message { .. } | Framed::BadMagic | Framed::BadSize(_) => 0,
+    }
+}

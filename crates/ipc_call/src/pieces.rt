@@ -1,0 +1,74 @@
+//! Reading some bytes of a link, and copying all that it has left.
+ghost use Rattle.std.specs.Prelude.{◌≡◌, ◌≢◌, ◌++◌, ◌⊎◌, ℕ, List, [], IsTrue, OnOk, OnErr, Err};
+ghost use Rattle.pt_io.specs.Faults.{HasRisen};
+ghost use Rattle.pt_io.specs.Taken.{TookAll, TookPart};
+ghost use Rattle.ipc_call.specs.Given.{Gave, IsFull};
+ghost use Rattle.ipc_call.specs.declared.fault.CallFault.TheVariants.{LinkFault, WriteFault, OutOfMemory};
+
+use crate::fault::CallFault;
+use pt_io::{Failed, Link, Sink};
+
+/// How many bytes are read at once.
+const PIECE_BYTES: usize = 4_096;
+
+/// Appends so many bytes of the link, or as many as come before it ends.
+pub(crate) fn read_more<L: Link>(
+    link: &mut L,
+    bytes: &mut Vec<u8>,
+    count: usize,
+) -> Result<(), CallFault>
+    ensures gave { (more : List ℕ) × Gave L.tells_given L.given L.left link.old link.new more
+        × OnOk result ((bytes.new.items ≡ bytes.old.items ++ more)
+        × IsFull L.tells_given L.left link.old link.new more count) }
+    ensures told { L.tells_given link.new ≡ L.tells_given link.old }
+    ensures whole { IsTrue (L.tells_given link.old)
+        → L.given link.new ++ L.left link.new ≡ L.given link.old ++ L.left link.old }
+    ensures fault { result ≡ Err LinkFault → HasRisen (L.read_faults link.old) (L.read_faults link.new) }
+    ensures sound { result ≢ Err LinkFault → L.read_faults link.new ≡ L.read_faults link.old }
+    ensures only { OnErr result ((result ≡ Err LinkFault) ⊎ (result ≡ Err OutOfMemory)) }
+    ensures writes { L.write_side link.new ≡ L.write_side link.old }
+{
+    let mut lacking = count;
+    let mut piece = [0; PIECE_BYTES];
+    while lacking > 0 {
+        let most = lacking.min(PIECE_BYTES);
+        match link.read(&mut piece[..most]) {
+            Ok(0) => return Ok(()),
+            Ok(read) => {
+                bytes.extend_from_slice(&piece[..read])?;
+                lacking -= read;
+            }
+            Err(Failed) => return Err(CallFault::LinkFault),
+        }
+    }
+    Ok(())
+}
+
+/// Copies all that the link has left to the output, piece by piece.
+pub(crate) fn copy<L: Link, O: Sink>(link: &mut L, output: &mut O) -> Result<(), CallFault>
+    ensures gave { (more : List ℕ) × Gave L.tells_given L.given L.left link.old link.new more
+        × TookPart O.tells_taken O.taken output.old output.new more
+        × OnOk result (TookAll O.tells_taken O.taken output.old output.new more
+        × (IsTrue (L.tells_given link.old) → L.left link.new ≡ [])) }
+    ensures told { L.tells_given link.new ≡ L.tells_given link.old }
+    ensures whole { IsTrue (L.tells_given link.old)
+        → L.given link.new ++ L.left link.new ≡ L.given link.old ++ L.left link.old }
+    ensures link_fault { result ≡ Err LinkFault → HasRisen (L.read_faults link.old) (L.read_faults link.new) }
+    ensures sound { result ≢ Err LinkFault → L.read_faults link.new ≡ L.read_faults link.old }
+    ensures write_fault { result ≡ Err WriteFault → HasRisen (O.write_faults output.old) (O.write_faults output.new) }
+    ensures written { result ≢ Err WriteFault → O.write_faults output.new ≡ O.write_faults output.old }
+    ensures only { OnErr result ((result ≡ Err LinkFault) ⊎ (result ≡ Err WriteFault)) }
+    ensures writes { L.write_side link.new ≡ L.write_side link.old }
+{
+    let mut piece = [0; PIECE_BYTES];
+    loop {
+        let read = match link.read(&mut piece) {
+            Ok(0) => return Ok(()),
+            Ok(read) => read,
+            Err(Failed) => return Err(CallFault::LinkFault),
+        };
+        if let Err(Failed) = output.write(&piece[..read]) {
+            return Err(CallFault::WriteFault);
+        }
+    }
+}
