@@ -10,7 +10,12 @@ rounds=${1:-20}
 work=$(mktemp -d) || exit 1
 trap 'rm -rf "$work"' EXIT
 mkdir -p "$work/crates/measure/src" "$work/crates/measure/proofs/pair/tied_turns" || exit 1
-cp -r "$here/crates/ep_locks" "$here/crates/ep_tie" "$work/crates/" || exit 1
+for crate in ep_locks ep_tie; do
+    mkdir "$work/crates/$crate" || exit 1
+    for part in src specs proofs; do
+        cp -r "$here/crates/$crate/$part" "$work/crates/$crate/" || exit 1
+    done
+done
 echo 'Handles allowed: Threads, Wait, Net.' >"$work/HANDLES"
 cat >"$work/crates.txt" <<'CRATES'
 ep_locks: atomic_table
