@@ -15,3 +15,6 @@ mod object;
 
 pub use head::{ObjectHead, ObjectKind, take_head};
 pub use object::{BlockKind, padding, put_block, put_start};
+
+#[cfg(test)]
+mod tests;
