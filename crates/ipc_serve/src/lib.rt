@@ -13,3 +13,6 @@ mod decision;
 mod replies;
 
 pub use decision::{Action, decide};
+
+#[cfg(test)]
+mod tests;
