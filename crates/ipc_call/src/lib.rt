@@ -11,6 +11,8 @@ mod ask;
 mod calls;
 mod fault;
 mod pieces;
+#[cfg(test)]
+mod tests;
 
 pub use calls::{collect, info, stop};
 pub use fault::CallFault;
