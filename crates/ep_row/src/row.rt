@@ -55,10 +55,12 @@ impl Model for Row {
 
 impl Row {
     ghost use Rattle.ep_row.specs.Row.{new_row, slot_of, mask_of, opening_of, HasOpen, with_begin};
+    ghost use Rattle.ep_row.specs.AtRest.{KeepsRest, KeepsRestWith, KeepsRestOpened, KeepsRestAnew, RestsAnew};
 
     /// The row of a thread that has made no write, in a program of so many events.
     pub fn new(alloc: Global, thread: u64, events: u32) -> Result<Row, AllocError>
-        ensures { IfOk result (λ row. row ≡ new_row thread events) }
+        ensures row { IfOk result (λ row. row ≡ new_row thread events) }
+        ensures rest { IfOk result RestsAnew }
     {
         let masks = vec![in alloc; 0u64; events as usize]?;
         let slots = Vec::from_slice(alloc, &[None; SESSIONS])?;
@@ -152,6 +154,7 @@ impl Row {
         ensures slots { IfOk result (λ made. self.new.slots ≡ slice_set self.old.slots slot (Some (opening_of made.0))) }
         ensures masks { OnOk result (SetsBits slot (gets events.now config.now) self.old.masks self.new.masks) }
         ensures others { OnOk result (self.new ≡ record self.old { masks = self.new.masks; slots = self.new.slots }) }
+        ensures rest { OnOk result (KeepsRestOpened events.now slot config.now self.old self.new) }
         ensures err { OnErr result (self.new ≡ self.old) }
     {
         let made = pair(alloc, session, self.thread, self.index, config.chunks)?;
@@ -195,6 +198,7 @@ impl Row {
         ensures slots { self.new.slots ≡ slice_set self.old.slots slot (Some (opening_of buffer.new)) }
         ensures due { ClearsBit slot self.old.due self.new.due }
         ensures others { self.new ≡ record self.old { due = self.new.due; slots = self.new.slots } }
+        ensures rest { KeepsRest self.old self.new }
     {
         let shown = buffer.show(pool, self.stamp, write);
         self.due = with_bit(self.due, slot, false);
@@ -217,6 +221,7 @@ impl Row {
         ensures slots { self.new.slots ≡ slice_set self.old.slots slot None }
         ensures masks { SetsBits slot (λ _. false) self.old.masks self.new.masks }
         ensures others { self.new ≡ record self.old { masks = self.new.masks; slots = self.new.slots } }
+        ensures rest { KeepsRest self.old self.new }
     {
         clear_masks(self.masks.as_mut_slice(), slot);
         self.slots[slot as usize] = None;
@@ -240,6 +245,7 @@ impl Row {
         requires few { self.old.index < WRITES }
         ensures due { result ≡ mask_of self.old write.now.event }
         ensures row { self.new ≡ with_begin self.old stamp write.now }
+        ensures rest { KeepsRestWith write.now self.old self.new }
     {
         self.index += 1;
         self.in_write = true;
@@ -252,7 +258,8 @@ impl Row {
     pub fn end(&mut self)
         requires in_write { self.old.in_write ≡ true }
         requires seen { self.old.due ≡ 0 }
-        ensures { self.new ≡ record self.old { in_write = false } }
+        ensures row { self.new ≡ record self.old { in_write = false } }
+        ensures rest { KeepsRest self.old self.new }
     {
         self.in_write = false;
     }
@@ -261,7 +268,8 @@ impl Row {
     pub fn leave(&mut self)
         requires quiet { self.old.in_write ≡ false }
         requires stays { self.old.left ≡ false }
-        ensures { self.new ≡ record self.old { left = true } }
+        ensures row { self.new ≡ record self.old { left = true } }
+        ensures rest { KeepsRest self.old self.new }
     {
         self.left = true;
     }
@@ -270,7 +278,8 @@ impl Row {
     pub fn enter(&mut self, thread: u64)
         requires left { self.old.left ≡ true }
         requires off { All IsNone self.old.slots }
-        ensures { self.new ≡ record self.old { thread = thread; index = 0; left = false } }
+        ensures row { self.new ≡ record self.old { thread = thread; index = 0; left = false } }
+        ensures rest { KeepsRestAnew self.old self.new }
     {
         self.thread = thread;
         self.index = 0;

@@ -1,0 +1,61 @@
+-- What holds of a thread's row whenever its lock is free, over the list of the thread's writes so far (this project's profile). The list stands nowhere: a plan says its members, or a past. The configurations, by slot, are those of the sessions that are open.
+use Rattle.std.specs.Prelude.{◌≡◌, ℕ, ◌+◌, ◌-◌, ◌<◌, ◌≤◌, Bool, true, false, ◌&&◌, ◌==◌, if◌then◌else◌, List, [], ◌∷◌, ◌++◌, length, Some, is_some, slice_get, slice_index}
+use Rattle.std.specs.Int.{bit_at}
+use Rattle.std.specs.Option.{option_map_or, ForSome}
+use Rattle.ep_defs.specs.declared.limits.TheConstants.{SESSIONS, WRITES}
+use Rattle.ep_defs.specs.declared.event.EventDef.{EventDef}
+use Rattle.ep_defs.specs.declared.session.Config.{Config}
+use Rattle.ep_defs.specs.declared.session.Write.{Write}
+use Rattle.ep_model.specs.History.{admits_write, admitted_from}
+use Rattle.ep_row.specs.declared.row.Opening.{Opening}
+use Rattle.ep_row.specs.Bits.{one_if}
+use Rattle.ep_row.specs.Row.{RowState, slot_of, gets}
+
+-- The last write of the list is one that the session gets.
+abbrev pub gets_last : List EventDef → Config → List Write → Bool
+gets_last events config writes =
+    option_map_or (λ write. admits_write events (Some config) write) (slice_get writes (length writes - 1)) false
+
+-- The session was opened within the list, and was shown each write since that it gets, but for the one that is due.
+pub record OpenAtRest (events : List EventDef) (config : Config) (writes : List Write) (due : ℕ) (opening : Opening) : Type 0 where
+  pub from : opening.from ≤ length writes
+  pub shown : opening.shown + due ≡ length (admitted_from events (Some config) opening.from writes)
+
+-- The row agrees with the thread's writes so far.
+pub record RowAtRest (events : List EventDef) (configs : ℕ → Config) (writes : List Write) (row : RowState) : Type 0 where
+  pub index : row.index ≡ length writes
+  pub few : row.index ≤ WRITES
+  -- a mask bit for each slot that is on and whose session gets the event
+  pub masks : (place slot : ℕ) → place < length events → slot < SESSIONS → bit_at (slice_index row.masks place) slot ≡ one_if (is_some (slot_of row slot) && gets events (configs slot) place)
+  -- a slot is due only in a write that its session gets
+  pub due : (slot : ℕ) → slot < SESSIONS → bit_at row.due slot ≡ 1 → (row.in_write ≡ true) × (is_some (slot_of row slot) ≡ true) × (gets_last events (configs slot) writes ≡ true)
+  pub slots : (slot : ℕ) → slot < SESSIONS → ForSome (slot_of row slot) (λ opening. OpenAtRest events (configs slot) writes (bit_at row.due slot) opening)
+  pub left : row.left ≡ true → row.in_write ≡ false
+
+-- What a call makes of a row that is at rest is at rest, over the same writes and configurations.
+abbrev pub KeepsRest : RowState → RowState → Type 0
+KeepsRest old new =
+    (events : List EventDef) (configs : ℕ → Config) (writes : List Write) → length events ≡ length old.masks → RowAtRest events configs writes old → RowAtRest events configs writes new
+
+-- The same over one write more.
+abbrev pub KeepsRestWith : Write → RowState → RowState → Type 0
+KeepsRestWith write old new =
+    (events : List EventDef) (configs : ℕ → Config) (writes : List Write) → length events ≡ length old.masks → RowAtRest events configs writes old → RowAtRest events configs (writes ++ write ∷ []) new
+
+-- The configurations with that of a session that is opened in a slot.
+abbrev pub with_config : (ℕ → Config) → ℕ → Config → ℕ → Config
+with_config configs slot config s = if s == slot then config else configs s
+
+-- A row on which a session was opened is at rest where it was before.
+abbrev pub KeepsRestOpened : List EventDef → ℕ → Config → RowState → RowState → Type 0
+KeepsRestOpened events slot config old new =
+    (configs : ℕ → Config) (writes : List Write) → RowAtRest events configs writes old → RowAtRest events (with_config configs slot config) writes new
+
+-- The row of a thread that has made no write is at rest.
+abbrev pub RestsAnew : RowState → Type 0
+RestsAnew row = (events : List EventDef) (configs : ℕ → Config) → length events ≡ length row.masks → RowAtRest events configs [] row
+
+-- A row that another thread takes is at rest where it was before.
+abbrev pub KeepsRestAnew : RowState → RowState → Type 0
+KeepsRestAnew old new =
+    (events : List EventDef) (configs : ℕ → Config) (writes : List Write) → length events ≡ length old.masks → RowAtRest events configs writes old → RowAtRest events configs [] new
