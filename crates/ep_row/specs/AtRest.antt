@@ -7,6 +7,9 @@ use Rattle.ep_defs.specs.declared.event.EventDef.{EventDef}
 use Rattle.ep_defs.specs.declared.session.Config.{Config}
 use Rattle.ep_defs.specs.declared.session.Write.{Write}
 use Rattle.ep_model.specs.History.{admits_write, admitted_from}
+use Rattle.std.specs.List.{All}
+use Rattle.ep_chunk.specs.Record.{Record}
+use Rattle.ep_slot.specs.Slot.{SlotState}
 use Rattle.ep_row.specs.declared.row.Opening.{Opening}
 use Rattle.ep_row.specs.Bits.{one_if}
 use Rattle.ep_row.specs.Row.{RowState, slot_of, gets}
@@ -59,3 +62,28 @@ RestsAnew row = (events : List EventDef) (configs : ℕ → Config) → length e
 abbrev pub KeepsRestAnew : RowState → RowState → Type 0
 KeepsRestAnew old new =
     (events : List EventDef) (configs : ℕ → Config) (writes : List Write) → length events ≡ length old.masks → RowAtRest events configs writes old → RowAtRest events configs [] new
+
+-- ---- a slot at rest
+
+-- The write of which a record was made.
+abbrev pub write_of : Record → Write
+write_of r = record { event = r.event; activity = r.activity; related = r.related; frames = r.frames; payload = r.payload }
+
+-- The record's number is its place, from 1, among the writes from the opening on that the session gets.
+abbrev pub IsNumbered : List EventDef → Config → List Write → ℕ → Record → Type 0
+IsNumbered events config writes from r =
+    slice_get (admitted_from events (Some config) from writes) (r.number - 1) ≡ Some (write_of r)
+
+-- What holds of a slot whenever its lock is free, over all writes of the thread, also those that are to come. That its counts and numbers agree holds of every slot (`IsKept` of ep_slot).
+abbrev pub SlotAtRest : List EventDef → Config → List Write → SlotState → Type 0
+SlotAtRest events config writes slot = All (IsNumbered events config writes slot.from) slot.records
+
+-- A slot to which a row at rest showed the last of its writes is at rest where it was before, whatever writes come after.
+abbrev pub KeepsSlotRest : RowState → ℕ → Write → SlotState → SlotState → Type 0
+KeepsSlotRest row place write old new =
+    (events : List EventDef) (configs : ℕ → Config) (writes more : List Write) → RowAtRest events configs writes row → slice_get writes (length writes - 1) ≡ Some write → SlotAtRest events (configs place) (writes ++ more) old → SlotAtRest events (configs place) (writes ++ more) new
+
+-- What was stolen of a slot at rest is numbered, and the slot stays at rest.
+abbrev pub KeepsStolenRest : SlotState → SlotState → List Record → Type 0
+KeepsStolenRest old new stolen =
+    (events : List EventDef) (config : Config) (writes : List Write) → SlotAtRest events config writes old → SlotAtRest events config writes new × All (IsNumbered events config writes old.from) stolen

@@ -55,7 +55,7 @@ impl Model for Row {
 
 impl Row {
     ghost use Rattle.ep_row.specs.Row.{new_row, slot_of, mask_of, opening_of, HasOpen, with_begin};
-    ghost use Rattle.ep_row.specs.AtRest.{KeepsRest, KeepsRestWith, KeepsRestOpened, KeepsRestAnew, RestsAnew};
+    ghost use Rattle.ep_row.specs.AtRest.{KeepsRest, KeepsRestWith, KeepsRestOpened, KeepsRestAnew, KeepsSlotRest, KeepsStolenRest, RestsAnew};
 
     /// The row of a thread that has made no write, in a program of so many events.
     pub fn new(alloc: Global, thread: u64, events: u32) -> Result<Row, AllocError>
@@ -199,6 +199,7 @@ impl Row {
         ensures due { ClearsBit slot self.old.due self.new.due }
         ensures others { self.new ≡ record self.old { due = self.new.due; slots = self.new.slots } }
         ensures rest { KeepsRest self.old self.new }
+        ensures numbered { KeepsSlotRest self.old slot write.now buffer.old buffer.new }
     {
         let shown = buffer.show(pool, self.stamp, write);
         self.due = with_bit(self.due, slot, false);
@@ -296,6 +297,7 @@ impl Row {
         ensures slot { buffer.new ≡ with_steal buffer.old }
         ensures agree { Agrees buffer.new hand.new }
         ensures kept { IsKept buffer.old }
+        ensures numbered { KeepsStolenRest buffer.old buffer.new (records_of result.chain) }
     {
         buffer.steal(hand)
     }
