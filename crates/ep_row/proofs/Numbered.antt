@@ -1,17 +1,16 @@
 -- Which write a record was made of.
-use Rattle.std.proofs.Common.{◌≡◌, ℕ, zero, suc, ◌+◌, ◌-◌, ◌<◌, ◌≤◌, Bool, true, false, List, [], ◌∷◌, ◌++◌, length, drop, Option, None, Some, refl, ap, sym, ◌∙◌, subst, arith, inl, inr, append_assoc, length-append}
+use Rattle.std.proofs.Common.{◌≡◌, ℕ, suc, ◌+◌, ◌-◌, ◌≤◌, Bool, true, false, List, [], ◌∷◌, ◌++◌, length, drop, None, Some, refl, ap, sym, ◌∙◌, subst, arith, inl, inr, append_assoc, length-append}
 use Rattle.std.specs.Prelude.{slice_get, filter, if◌then◌else◌}
 use Rattle.std.specs.List.{All}
-use Rattle.std.proofs.lemmas.Bool.{cases_lt, true≢false}
+use Rattle.std.proofs.lemmas.Bool.{cases_lt}
 use Rattle.std.proofs.lemmas.List.{drop-append-le, drop_all}
 use Rattle.std.proofs.lemmas.List.Elements.{filter-append, All-push}
 use Rattle.ep_defs.specs.declared.event.EventDef.{EventDef}
 use Rattle.ep_defs.specs.declared.session.Config.{Config}
 use Rattle.ep_defs.specs.declared.session.Write.{Write}
-use Rattle.ep_chunk.specs.Record.{Record}
 use Rattle.ep_model.specs.History.{admits_write, admitted_from}
 use Rattle.ep_slot.specs.Slot.{SlotState, recorded, with_record, with_refusal}
-use Rattle.ep_row.specs.AtRest.{IsNumbered, SlotAtRest, write_of}
+use Rattle.ep_row.specs.AtRest.{IsNumbered, SlotAtRest}
 
 -- A list by its last member.
 record Ended (writes : List Write) (write : Write) : Type 0 where

@@ -1,9 +1,9 @@
 -- What each call makes of a row at rest is at rest.
 use Rattle.std.proofs.Common.{◌≡◌, ℕ, zero, suc, ◌+◌, ◌-◌, ◌<◌, ◌≤◌, Bool, true, false, List, [], ◌∷◌, ◌++◌, length, drop, Option, None, Some, refl, ap, sym, ◌∙◌, subst, arith, inl, inr, get_or, length-append}
-use Rattle.std.specs.Prelude.{◌&&◌, ◌==◌, is_some, IsNone, slice_get, slice_index, slice_set, filter, if◌then◌else◌}
+use Rattle.std.specs.Prelude.{◌&&◌, is_some, IsNone, slice_get, slice_index, slice_set, filter, if◌then◌else◌}
 use Rattle.std.specs.Int.{bit_at}
 use Rattle.std.specs.Option.{option_map_or}
-use Rattle.std.proofs.lemmas.Bool.{true≢false, false≢true, and_parts, cases_eq, cases_lt, eqb-true, eqb-false, eq-eqb, ne_eqb}
+use Rattle.std.proofs.lemmas.Bool.{true≢false, false≢true, and_parts, cases_eq, cases_lt, eq-eqb, ne_eqb}
 use Rattle.std.proofs.lemmas.Nat.Bits.{bit_at-lt, bit_at-zero}
 use Rattle.std.proofs.lemmas.List.{drop-append-le, drop_all, get_or_default, get_or-set_other, get_or-replicate}
 use Rattle.std.proofs.lemmas.List.Elements.{filter-append, All-get_or}
@@ -15,7 +15,7 @@ use Rattle.ep_model.specs.History.{admits_write, admitted_from}
 use Rattle.ep_row.specs.declared.row.Opening.{Opening}
 use Rattle.ep_row.specs.Bits.{one_if, SetsBits, ClearsBit}
 use Rattle.ep_row.specs.Row.{RowState, slot_of, mask_of, gets, with_begin, new_row}
-use Rattle.ep_row.specs.AtRest.{gets_last, OpenAtRest, RowAtRest, with_config}
+use Rattle.ep_row.specs.AtRest.{OpenAtRest, RowAtRest, with_config}
 
 -- The session gets the write, if there is one.
 abbrev gets_of : List EventDef → Config → Option Write → Bool

@@ -1,5 +1,5 @@
 -- What a thread's row is, and what each call makes of it (this project's profile).
-use Rattle.std.specs.Prelude.{◌≡◌, ℕ, zero, suc, ◌+◌, ◌<◌, Bool, true, false, List, [], ◌∷◌, length, Option, None, Some, slice_index, slice_index_or, slice_set, replicate, unwrap_or}
+use Rattle.std.specs.Prelude.{◌≡◌, ℕ, zero, suc, ◌+◌, Bool, true, false, List, Option, None, Some, slice_index, slice_index_or, replicate}
 use Rattle.std.specs.Option.{option_map_or}
 use Rattle.ep_defs.specs.declared.event.EventDef.{EventDef}
 use Rattle.ep_defs.specs.declared.session.Config.{Config}

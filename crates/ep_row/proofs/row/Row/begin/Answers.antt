@@ -1,6 +1,6 @@
-use Rattle.std.proofs.Common.{◌≡◌, ◌∙◌, ◌≤◌, ◌<◌, ◌++◌, [], ◌∷◌, false, ℕ, length, ap, sym, subst, arith}
+use Rattle.std.proofs.Common.{◌∙◌, ◌≤◌, ◌<◌, ◌++◌, [], ◌∷◌, ℕ, length, ap, sym, subst, arith}
 use Rattle.ep_row.specs.contracts.row.Row.{the_view}
-use Rattle.ep_row.specs.Row.{RowState, mask_of, with_begin}
+use Rattle.ep_row.specs.Row.{RowState, with_begin}
 use Rattle.ep_row.specs.AtRest.{RowAtRest}
 use Rattle.ep_row.proofs.Resting.{begin-rests, mask-is}
 use Rattle.ep_row.proofs.row.Row.begin.Goals as goal

@@ -1,7 +1,6 @@
-use Rattle.std.proofs.Common.{◌≡◌, ◌∙◌, ◌<◌, None, false, ℕ, List, Option, length, refl, ap, sym, subst, arith}
+use Rattle.std.proofs.Common.{◌≡◌, ◌∙◌, ◌<◌, None, false, ℕ, List, length, refl, ap, sym, subst, arith}
 use Rattle.std.proofs.lemmas.List.{with_items_is, get_or-set_same}
 use Rattle.ep_row.specs.contracts.row.Row.{the_view}
-use Rattle.ep_row.specs.declared.row.Opening.{Opening}
 use Rattle.ep_row.specs.Bits.{SetsBits}
 use Rattle.ep_row.specs.Row.{RowState}
 use Rattle.ep_row.specs.AtRest.{RowAtRest}

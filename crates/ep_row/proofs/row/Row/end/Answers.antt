@@ -1,4 +1,4 @@
-use Rattle.std.proofs.Common.{◌≡◌, ◌∙◌, ap, sym, subst}
+use Rattle.std.proofs.Common.{◌∙◌, ap, sym, subst}
 use Rattle.ep_row.specs.contracts.row.Row.{the_view}
 use Rattle.ep_row.specs.Row.{RowState}
 use Rattle.ep_row.specs.AtRest.{RowAtRest}

@@ -1,4 +1,4 @@
-use Rattle.std.proofs.Common.{◌≡◌, ◌∙◌, ap, sym, subst}
+use Rattle.std.proofs.Common.{◌∙◌, ap, sym, subst}
 use Rattle.std.specs.Prelude.{IsNone}
 use Rattle.std.specs.List.{All}
 use Rattle.ep_row.specs.contracts.row.Row.{the_view}

@@ -1,4 +1,4 @@
-use Rattle.std.proofs.Common.{◌≡◌, ◌∙◌, ℕ, List, Option, [], ap, sym, subst, length, replicate}
+use Rattle.std.proofs.Common.{◌≡◌, ◌∙◌, ℕ, List, Option, [], ap, sym, subst, length}
 use Rattle.std.proofs.lemmas.List.{length-replicate}
 use Rattle.ep_row.specs.AtRest.{RowAtRest}
 use Rattle.ep_row.proofs.Resting.{new-rests}

@@ -1,4 +1,4 @@
-use Rattle.std.proofs.Common.{◌≡◌, ◌∙◌, ◌<◌, None, Some, false, ℕ, List, Option, length, refl, ap, sym, subst, arith}
+use Rattle.std.proofs.Common.{◌≡◌, ◌∙◌, ◌<◌, None, Some, ℕ, List, length, refl, ap, sym, subst, arith}
 use Rattle.std.proofs.lemmas.List.{with_items_is, get_or-set_same}
 use Rattle.ep_row.specs.contracts.row.Row.{the_view}
 use Rattle.ep_row.specs.declared.row.Opening.{Opening}
