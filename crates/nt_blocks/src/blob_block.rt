@@ -71,7 +71,8 @@ impl BlobBlock {
 
     /// Whether so many bytes more keep the body at 102,400 bytes at most.
     pub fn fits(&self, blob: usize) -> bool
-        ensures { (drafts : List Draft) → IsMaking drafts self.now → IsTrue result ↔ (length (blob_body drafts) + blob ≤ WRITTEN_BYTES) }
+        ensures drafts { (drafts : List Draft) → IsMaking drafts self.now → IsTrue result ↔ (length (blob_body drafts) + blob ≤ WRITTEN_BYTES) }
+        ensures room { IsTrue result ↔ (HEADER_BYTES + length self.now.bytes + blob ≤ WRITTEN_BYTES) }
     {
         blob <= WRITTEN_BYTES - HEADER_BYTES - self.bytes.len()
     }
