@@ -13,3 +13,6 @@ mod bits;
 mod row;
 
 pub use row::{Opening, Row};
+
+#[cfg(test)]
+mod tests;
