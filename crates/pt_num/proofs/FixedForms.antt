@@ -1,13 +1,13 @@
 -- Numbers of a fixed width, read and put.
-use Rattle.std.proofs.Common.{◌≡◌, ℕ, zero, suc, ◌+◌, ◌*◌, ◌%◌, ◌^◌, ◌<◌, ◌≤◌, List, [], ◌∷◌, ◌++◌, length, take, drop, Ok, Err, refl, ap, ◌∙◌, sym, arith, get_or}
+use Rattle.std.proofs.Common.{◌≡◌, ℕ, zero, suc, ◌^◌, ◌<◌, ◌≤◌, List, [], ◌∷◌, ◌++◌, length, take, Ok, refl, ◌∙◌, sym, arith, get_or}
 use Rattle.std.specs.Int.{Width, w16, w32, w64, byte_len, from_le_bytes}
 use Rattle.std.proofs.lemmas.Nat.{le_bytes_2, le_bytes_4, le_bytes_8}
-use Rattle.std.proofs.lemmas.List.{length-take-le, get_or-take, length-append, drop_at}
-use Rattle.std.proofs.lemmas.Bool.{le-ltb, lt-ltb, cond-true, cond-false}
+use Rattle.std.proofs.lemmas.List.{length-take-le, length-append, drop_at}
+use Rattle.std.proofs.lemmas.Bool.{le-ltb, cond-false}
 use Rattle.byteorder.specs.Endian.{little_number}
 use Rattle.byteorder.specs.Numbers.{little_from-take, little_number-reads_back, length-bytes_low_first}
 use Rattle.pt_num.specs.Numbers.{fixed}
-use Rattle.pt_num.specs.Fields.{Field, fixed_at}
+use Rattle.pt_num.specs.Fields.{fixed_at}
 
 -- A byte at a place of the front is one of the bytes.
 pub front_fits : (n : ℕ) (bytes : List ℕ) → n ≤ length bytes → ((i : ℕ) → get_or bytes i 0 < 256) → (i : ℕ) → get_or (take n bytes) i 0 < 256

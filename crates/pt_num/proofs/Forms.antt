@@ -1,18 +1,17 @@
 -- What is read as a varuint is one, and what is none is refused.
-use Rattle.std.proofs.Common.{◌≡◌, ◌≢◌, ◌↔◌, ℕ, zero, suc, ◌+◌, ◌-◌, ◌*◌, ◌/◌, ◌%◌, ◌^◌, ◌<◌, ◌≤◌, true, false, List, [], ◌∷◌, ◌++◌, length, take, drop, Ok, Err, refl, ap, ◌∙◌, sym, subst, arith, get_or, inl, inr}
+use Rattle.std.proofs.Common.{◌≡◌, ◌↔◌, ℕ, zero, suc, ◌+◌, ◌*◌, ◌/◌, ◌%◌, ◌^◌, ◌<◌, ◌≤◌, true, List, [], ◌∷◌, ◌++◌, length, take, drop, Ok, Err, refl, ap, ◌∙◌, sym, subst, arith, get_or, inl, inr}
 use Rattle.std.specs.Prelude.{nat_le, IsTrue}
 use Rattle.std.specs.Int.{Width, w32, w64, is_in_range}
 use Rattle.std.specs.List.{list_all}
 use Rattle.std.proofs.Math.Nat.{one-le-pow, pow-suc, mul_assoc, mul-le-mul}
 use Rattle.std.proofs.lemmas.Bool.{cases_lt, lt-ltb, ltb-true, le-leb, leb-true, and_from, and_parts, false≢true}
-use Rattle.std.proofs.lemmas.Bool.Decides.{nat_tests}
-use Rattle.std.proofs.lemmas.List.{length-append, length-drop, take_at, append_cancel_right}
+use Rattle.std.proofs.lemmas.List.{length-append, length-drop, take_at}
 use Rattle.pt_num.specs.declared.varuint.Taken.{Taken}
 use Rattle.pt_num.specs.declared.varuint.Taken.TheVariants as taken
 use Rattle.pt_num.specs.Numbers.{are_groups, groups_value, last_byte, most_groups, short_groups, short_var, IsVar, IsShortVar}
 use Rattle.pt_num.specs.Begins.{Begins}
 use Rattle.pt_num.proofs.Groups.{short_groups-last, short_groups-next}
-use Rattle.pt_num.specs.Fields.{Field, Fault, Short, TooWide, NoZero, with_group, groups_at, var_at}
+use Rattle.pt_num.specs.Fields.{Field, Fault, Short, TooWide, with_group, groups_at, var_at}
 use Rattle.pt_num.specs.Taking.{Takes, IfValue, are_high}
 use Rattle.pt_num.proofs.Reading.{last_over, group_ends, group_more, groups_none}
 
@@ -236,12 +235,6 @@ wide_iff bytes more last taken.Short low takes =
 wide_iff bytes more last taken.TooWide low takes =
     (λ e. wide_is_over bytes bytes bytes more last low takes, λ over. refl)
 
--- A varuint of 32 bits that is taken is one.
-pub form_32 : (bytes : List ℕ) (answer : Taken ℕ) → ((i : ℕ) → get_or bytes i 0 < 256) → Takes (var_at w32 bytes) bytes answer → IfValue answer (λ value used. IsVar w32 value (take used bytes))
-form_32 bytes (taken.Value value used) fits takes = var_32 value used bytes fits takes.0 takes.1
-form_32 bytes taken.Short fits takes = tt
-form_32 bytes taken.TooWide fits takes = tt
-
 -- A varuint of 64 bits that is taken is one.
 pub form_64 : (bytes : List ℕ) (answer : Taken ℕ) → ((i : ℕ) → get_or bytes i 0 < 256) → Takes (var_at w64 bytes) bytes answer → IfValue answer (λ value used. IsVar w64 value (take used bytes))
 form_64 bytes (taken.Value value used) fits takes = var_64 value used bytes fits takes.0 takes.1
@@ -261,12 +254,6 @@ pub begins_64 : (bytes rest : List ℕ) (value : ℕ) → ((i : ℕ) → get_or 
 begins_64 bytes rest value fits e =
     let front = front_of bytes bytes rest 9 1 value (omega arith) fits e in
     (front.front, record { groups = front.groups; few = front.few; sum = front.sum; fits = front.low }, front.whole)
-
--- Pieces that are read alike, whatever follows, are the same where the bytes are.
-pub same_pieces : (n m : ℕ) (xs ys more other : List ℕ) (field : List ℕ → Field ℕ) → field (xs ++ more) ≡ Ok (n, more) → field (ys ++ other) ≡ Ok (m, other) → xs ++ more ≡ ys ++ other → (n ≡ m) × (xs ≡ ys)
-same_pieces n m xs ys more other field first second e =
-    let same = Ok-same n m more other (sym first ∙ ap field e ∙ second) in
-    (same.0, append_cancel_right xs ys more (e ∙ ap (λ (bytes : List ℕ). ys ++ bytes) (sym same.1)))
 
 -- ---- the short form
 

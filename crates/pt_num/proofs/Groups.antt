@@ -3,9 +3,9 @@ use Rattle.std.proofs.Common.{◌≡◌, ℕ, zero, suc, ◌+◌, ◌-◌, ◌*�
 use Rattle.std.specs.Prelude.{IsTrue}
 use Rattle.std.specs.Int.{w32, w64, is_in_range}
 use Rattle.std.proofs.Math.Nat.{div-lt_iff_lt-mul, pow-suc}
-use Rattle.std.proofs.lemmas.Bool.{lt-ltb, le-leb, and_from, false≢true}
+use Rattle.std.proofs.lemmas.Bool.{lt-ltb, and_from, false≢true}
 use Rattle.std.proofs.lemmas.Bool.Decides.{nat_tests}
-use Rattle.pt_num.specs.Numbers.{are_groups, groups_value, last_byte, short_groups, short_var, IsVar, IsShortVar}
+use Rattle.pt_num.specs.Numbers.{are_groups, groups_value, last_byte, short_groups, short_var, IsShortVar}
 
 -- A value below 128 is one group.
 pub short_groups-last : (n value : ℕ) → 0 < n → value < 128 → short_groups n value ≡ value ∷ []

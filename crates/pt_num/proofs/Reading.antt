@@ -1,9 +1,9 @@
 -- The groups of a varuint that is read.
-use Rattle.std.proofs.Common.{◌≡◌, ℕ, zero, suc, ◌+◌, ◌-◌, ◌*◌, ◌%◌, ◌^◌, ◌<◌, ◌≤◌, true, false, List, [], ◌∷◌, ◌++◌, length, take, drop, Ok, Err, refl, ap, ◌∙◌, sym, subst, arith, add-one, inl, inr, lit<}
+use Rattle.std.proofs.Common.{◌≡◌, ℕ, zero, suc, ◌+◌, ◌-◌, ◌*◌, ◌%◌, ◌^◌, ◌<◌, ◌≤◌, List, [], ◌∷◌, drop, Ok, Err, refl, ap, ◌∙◌, sym, arith, add-one, inl, inr, lit<}
 use Rattle.std.proofs.Math.Nat.{pow-le-pow_right, mul-le-mul_right, mul_comm, pow-suc}
 use Rattle.std.proofs.lemmas.Bool.{cases_lt}
 use Rattle.std.proofs.lemmas.Bool.Decides.{nat_tests}
-use Rattle.pt_num.specs.Fields.{Field, Fault, Short, TooWide, with_group, groups_at}
+use Rattle.pt_num.specs.Fields.{Field, Short, TooWide, with_group, groups_at}
 
 -- A value so far, and above it what the later groups have.
 abbrev pub above : ℕ → ℕ → Field ℕ → Field ℕ
@@ -56,16 +56,6 @@ pub record Reads (from : List ℕ) (most last place value scale : ℕ) : Type 0 
   pub scaled : scale ≡ 128 ^ place
   pub low : value < scale
   pub read : groups_at from (most - 1) last from ≡ above value scale (groups_at from (most - 1 - place) last (drop place from))
-
--- Nothing is read yet.
-pub reads_nothing : (from : List ℕ) (most last : ℕ) → 0 < most → Reads from most last 0 0 1
-reads_nothing from most last some =
-    record {
-      before = some;
-      scaled = refl;
-      low = omega arith;
-      read = let same : most - 1 - 0 ≡ most - 1 = omega arith in rw same (above-nothing (groups_at from (most - 1) last from));
-    }
 
 -- Nothing is left to read.
 pub reads_end : (from : List ℕ) (most last place value scale : ℕ) → drop place from ≡ [] → Reads from most last place value scale → groups_at from (most - 1) last from ≡ Err Short

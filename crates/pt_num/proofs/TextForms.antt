@@ -1,9 +1,8 @@
 -- Texts, read and put.
-use Rattle.std.proofs.Common.{◌≡◌, ◌↔◌, ℕ, zero, suc, ◌+◌, ◌-◌, ◌*◌, ◌/◌, ◌%◌, ◌^◌, ◌<◌, ◌≤◌, Bool, true, false, List, [], ◌∷◌, ◌++◌, ◌⊎◌, inl, inr, length, take, drop, Result, Ok, Err, refl, ap, ◌∙◌, sym, subst, arith, get_or, append_assoc, append-nil}
-use Rattle.std.specs.Prelude.{nat_eq, nat_le, nat_lt, IsTrue}
+use Rattle.std.proofs.Common.{◌≡◌, ◌↔◌, ℕ, zero, suc, ◌+◌, ◌-◌, ◌*◌, ◌/◌, ◌%◌, ◌^◌, ◌<◌, ◌≤◌, true, List, [], ◌∷◌, ◌++◌, inl, inr, length, take, drop, Ok, Err, refl, ap, ◌∙◌, sym, subst, arith, get_or, append_assoc, append-nil}
+use Rattle.std.specs.Prelude.{nat_eq, nat_le, IsTrue}
 use Rattle.std.specs.Int.{w16, w32, is_in_range}
-use Rattle.std.specs.List.{list_all, flat_map}
-use Rattle.std.proofs.lemmas.Bool.{cases_lt, le-leb, leb-true, and_from, and_parts, le-ltb, lt-ltb, cond-true, cond-false, eq-eqb, ne_eqb, false≢true}
+use Rattle.std.proofs.lemmas.Bool.{cases_lt, le-leb, leb-true, and_from, and_parts, le-ltb, lt-ltb, cond-true, cond-false, eq-eqb, ne_eqb}
 use Rattle.std.proofs.lemmas.Bool.Decides.{nat_tests}
 use Rattle.std.proofs.lemmas.List.{length-append, length-drop, length-take-le, take_at, drop_at, take-append-drop, drop-drop, drop_more, get_or-drop}
 use Rattle.byteorder.specs.Endian.{little_number}
@@ -12,7 +11,7 @@ use Rattle.pt_num.specs.declared.text.TakenText.TheVariants as text
 use Rattle.pt_num.specs.Numbers.{fixed}
 use Rattle.pt_num.specs.Texts.{units_bytes, units_in, text_z, are_units, are_wide, text_c, IsTextZ, IsTextC}
 use Rattle.pt_num.specs.Steps.{◌>>=◌, check}
-use Rattle.pt_num.specs.Fields.{Field, Fault, Short, TooWide, NoZero, fixed_at, with_unit, text_z_at, units_at, counted_units_at, text_c_at}
+use Rattle.pt_num.specs.Fields.{Field, Fault, Short, NoZero, fixed_at, with_unit, text_z_at, units_at, counted_units_at, text_c_at}
 use Rattle.pt_num.specs.Taking.{TakesText, IfUnits}
 use Rattle.pt_num.proofs.FixedForms.{fixed_16, front_fits, read_fixed}
 use Rattle.pt_num.specs.Begins.{Begins}
@@ -100,10 +99,6 @@ pub record Skims (bytes rest : List ℕ) (count : ℕ) : Type 0 where
   pub whole : bytes ≡ front ++ rest
   pub long : length front ≡ 2 * count
   pub read : text_z_at bytes ≡ before_units (units_in front) (text_z_at rest)
-
--- No unit is read yet.
-pub skims_nothing : (bytes : List ℕ) → Skims bytes bytes 0
-skims_nothing bytes = record { front = []; whole = refl; long = refl; read = refl }
 
 -- One unit more.
 pub skims_more : (bytes later : List ℕ) (count low high : ℕ) → 0 < low + 256 * high → Skims bytes (low ∷ high ∷ later) count → Skims bytes later (count + 1)

@@ -1,5 +1,5 @@
 -- Numbers as bytes (the NetTrace format document of PerfView (version 4)).
-use Rattle.std.specs.Prelude.{◌≡◌, ℕ, zero, suc, ◌+◌, ◌-◌, ◌*◌, ◌/◌, ◌%◌, ◌^◌, ◌<◌, ◌≤◌, Bool, false, ◌&&◌, ◌⊎◌, List, [], ◌∷◌, ◌++◌, length, nat_lt, if◌then◌else◌, IsTrue}
+use Rattle.std.specs.Prelude.{◌≡◌, ℕ, zero, suc, ◌+◌, ◌*◌, ◌/◌, ◌%◌, ◌^◌, ◌<◌, ◌≤◌, Bool, false, ◌&&◌, ◌⊎◌, List, [], ◌∷◌, length, nat_lt, if◌then◌else◌, IsTrue}
 use Rattle.std.specs.Int.{Width, byte_len, to_le_bytes, is_in_range}
 
 -- A number of fixed width, its low byte first (the NetTrace format document of PerfView (version 4): "all numbers are little-endian").

@@ -4,6 +4,7 @@ ghost use Rattle.std.specs.Prelude.{◌≡◌, ℕ, ◌^◌, ◌<◌, ◌++◌, 
 ghost use Rattle.std.specs.Int.{w16, w32, w64};
 ghost use Rattle.pt_num.specs.Begins.{AreBytes, Begins};
 ghost use Rattle.pt_num.specs.Numbers.{fixed, short_var, IsVar, IsShortVar};
+ghost use Rattle.pt_num.specs.Pieces.{Exactly};
 ghost use Rattle.pt_num.specs.Texts.{IsTextC, IsTextZ};
 ghost use Rattle.pt_num.specs.Fields.{fixed_at, text_c_at, text_z_at, var_at};
 
@@ -20,20 +21,38 @@ pub fn what_is_put_is_taken()
 
 /// What is read begins with a form of its value.
 pub fn what_is_taken_is_a_form()
+    ensures fixed16 { (n : ℕ) (bytes rest : List ℕ) → AreBytes bytes → fixed_at w16 bytes ≡ Ok (n, rest)
+        → Begins (Exactly (fixed w16 n)) bytes rest }
+    ensures fixed32 { (n : ℕ) (bytes rest : List ℕ) → AreBytes bytes → fixed_at w32 bytes ≡ Ok (n, rest)
+        → Begins (Exactly (fixed w32 n)) bytes rest }
+    ensures fixed64 { (n : ℕ) (bytes rest : List ℕ) → AreBytes bytes → fixed_at w64 bytes ≡ Ok (n, rest)
+        → Begins (Exactly (fixed w64 n)) bytes rest }
     ensures var32 { (n : ℕ) (bytes rest : List ℕ) → AreBytes bytes → var_at w32 bytes ≡ Ok (n, rest)
         → Begins (IsVar w32 n) bytes rest }
     ensures var64 { (n : ℕ) (bytes rest : List ℕ) → AreBytes bytes → var_at w64 bytes ≡ Ok (n, rest)
         → Begins (IsVar w64 n) bytes rest }
     ensures text_z { (units bytes rest : List ℕ) → AreBytes bytes → text_z_at bytes ≡ Ok (units, rest)
         → Begins (IsTextZ units) bytes rest }
+    ensures text_c { (units bytes rest : List ℕ) → AreBytes bytes → text_c_at bytes ≡ Ok (units, rest)
+        → Begins (IsTextC units) bytes rest }
 {}
 
-/// No varuint begins another: bytes begin with one form at most.
+/// No number and no text begins another: bytes begin with one form at most.
 pub fn no_form_begins_another()
+    ensures fixed16 { (n m : ℕ) (more other : List ℕ) → n < 2 ^ 16 → m < 2 ^ 16
+        → fixed w16 n ++ more ≡ fixed w16 m ++ other → (n ≡ m) × (more ≡ other) }
+    ensures fixed32 { (n m : ℕ) (more other : List ℕ) → n < 2 ^ 32 → m < 2 ^ 32
+        → fixed w32 n ++ more ≡ fixed w32 m ++ other → (n ≡ m) × (more ≡ other) }
+    ensures fixed64 { (n m : ℕ) (more other : List ℕ) → n < 2 ^ 64 → m < 2 ^ 64
+        → fixed w64 n ++ more ≡ fixed w64 m ++ other → (n ≡ m) × (more ≡ other) }
     ensures var32 { (n m : ℕ) (xs ys more other : List ℕ) → IsVar w32 n xs → IsVar w32 m ys → xs ++ more ≡ ys ++ other
         → (n ≡ m) × (xs ≡ ys) }
     ensures var64 { (n m : ℕ) (xs ys more other : List ℕ) → IsVar w64 n xs → IsVar w64 m ys → xs ++ more ≡ ys ++ other
         → (n ≡ m) × (xs ≡ ys) }
+    ensures text_z { (units others xs ys more other : List ℕ) → IsTextZ units xs → IsTextZ others ys
+        → xs ++ more ≡ ys ++ other → (units ≡ others) × (xs ≡ ys) }
+    ensures text_c { (units others xs ys more other : List ℕ) → IsTextC units xs → IsTextC others ys
+        → xs ++ more ≡ ys ++ other → (units ≡ others) × (xs ≡ ys) }
 {}
 
 /// A number has one short form.

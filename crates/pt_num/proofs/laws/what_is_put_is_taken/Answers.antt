@@ -1,7 +1,5 @@
-use Rattle.std.proofs.Common.{◌++◌, List, ℕ, ap, arith}
+use Rattle.std.proofs.Common.{arith}
 use Rattle.std.specs.Int.{w16, w32, w64}
-use Rattle.pt_num.specs.Texts.{text_z}
-use Rattle.pt_num.specs.Fields.{text_z_at}
 use Rattle.pt_num.proofs.FixedForms.{read_fixed}
 use Rattle.pt_num.proofs.Forms.{read_32, read_64}
 use Rattle.pt_num.proofs.TextForms.{read_z, read_c}

@@ -1,4 +1,4 @@
-use Rattle.std.proofs.Common.{◌≡◌, ◌/◌, ◌%◌, List, [], ◌∷◌, ◌++◌, ℕ, ap, ◌∙◌, arith, append_assoc, sym}
+use Rattle.std.proofs.Common.{◌≡◌, ◌/◌, ◌%◌, List, [], ◌∷◌, ◌++◌, ℕ, ap, ◌∙◌, arith, append_assoc}
 use Rattle.pt_num.specs.Numbers.{fixed}
 use Rattle.pt_num.proofs.text.push_unit.Goals as goal
 

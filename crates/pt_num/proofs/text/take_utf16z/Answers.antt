@@ -1,4 +1,4 @@
-use Rattle.std.proofs.Common.{◌<◌, ◌+◌, ◌*◌, length, drop, arith, get_or}
+use Rattle.std.proofs.Common.{◌<◌, ◌+◌, ◌*◌, arith, get_or}
 use Rattle.std.proofs.lemmas.List.{length-drop}
 use Rattle.pt_num.specs.declared.text.TakenText.TheVariants.{Units, Short}
 use Rattle.pt_num.proofs.TextForms.{unit_first, skims_more, skims_end, skims_cut, form_z, short_z}
