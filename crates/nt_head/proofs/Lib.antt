@@ -1,3 +1,4 @@
+pub mod Fronts
 pub mod Heads
 pub mod PutHeads
 pub mod Steps

@@ -1,5 +1,5 @@
 -- One field of a header after another.
-use Rattle.std.proofs.Common.{◌≡◌, ℕ, ◌+◌, ◌*◌, ◌-◌, ◌%◌, ◌^◌, ◌<◌, ◌≤◌, Bool, true, false, List, [], ◌∷◌, length, get_or, take, drop, Option, Some, None, Result, Ok, Err, refl, ap, ◌∙◌, sym, subst, arith}
+use Rattle.std.proofs.Common.{◌≡◌, ℕ, ◌+◌, ◌*◌, ◌-◌, ◌%◌, ◌^◌, ◌<◌, ◌≤◌, Bool, true, List, [], ◌∷◌, length, get_or, take, drop, Option, Some, Result, Ok, Err, refl, ap, ◌∙◌, sym, subst, arith}
 use Rattle.std.specs.Prelude.{IfOk, IfErr, IsErrAnd, unwrap_or}
 use Rattle.std.specs.Option.{option_map_or}
 use Rattle.nt_head.proofs.Heads.{state-ext}
@@ -13,7 +13,7 @@ use Rattle.nt_head.specs.declared.take.Stop.TheVariants as stop
 use Rattle.pt_num.specs.Steps.{◌>>=◌}
 use Rattle.pt_num.specs.Fields.{Field, Fault, Short, TooWide, bytes_at, fixed_at, var_at}
 use Rattle.nt_head.specs.Head.{HeadFields, Sequence, number_after, state_after}
-use Rattle.nt_head.specs.Places.{Reads, ReadsNew, ReadsSequence, Stops}
+use Rattle.nt_head.specs.Places.{Reads, ReadsNew, Stops}
 use Rattle.nt_head.specs.Reading.{has_flag, if_set, sequence_at, fields_at, head_at}
 
 -- A field that is there is read.
@@ -115,9 +115,9 @@ unfolding fields_at
 carry_size bytes flags a1 a2 a3 a4 a5 a6 a7 m q t k i y r e0 e1 e2 e3 e4 e5 e6 e7 = record { carry = λ fault e. rw (e0.read, e1, e2, e3, e4, e5, e6, e7, e) refl }
 
 -- All fields are read.
-pub all_read : (bytes : List ℕ) (flags a1 a2 a3 a4 a5 a6 a7 a8 : ℕ) (m : Option ℕ) (q : Option Sequence) (t : Option ℕ) (k : Option ℕ) (i : ℕ) (y : Option (List ℕ)) (r : Option (List ℕ)) (z : Option ℕ) → Flags bytes flags → if_set (has_flag 1 flags) (var_at w32) (drop 1 bytes) ≡ Ok (m, drop a1 bytes) → if_set (has_flag 2 flags) sequence_at (drop a1 bytes) ≡ Ok (q, drop a2 bytes) → if_set (has_flag 4 flags) (var_at w64) (drop a2 bytes) ≡ Ok (t, drop a3 bytes) → if_set (has_flag 8 flags) (var_at w32) (drop a3 bytes) ≡ Ok (k, drop a4 bytes) → var_at w64 (drop a4 bytes) ≡ Ok (i, drop a5 bytes) → if_set (has_flag 16 flags) (bytes_at ID_BYTES) (drop a5 bytes) ≡ Ok (y, drop a6 bytes) → if_set (has_flag 32 flags) (bytes_at ID_BYTES) (drop a6 bytes) ≡ Ok (r, drop a7 bytes) → if_set (has_flag 128 flags) (var_at w32) (drop a7 bytes) ≡ Ok (z, drop a8 bytes) → fields_at bytes ≡ Ok (record { metadata = m; sequence = q; thread = t; stack = k; stamp_increment = i; activity = y; related = r; sorted = has_flag 64 flags; size = z }, drop a8 bytes)
+pub fields_made : (bytes b0 b1 b2 b3 b4 b5 b6 b7 b8 : List ℕ) (flags : ℕ) (m : Option ℕ) (q : Option Sequence) (t : Option ℕ) (k : Option ℕ) (i : ℕ) (y : Option (List ℕ)) (r : Option (List ℕ)) (z : Option ℕ) → fixed_at w8 bytes ≡ Ok (flags, b0) → if_set (has_flag 1 flags) (var_at w32) b0 ≡ Ok (m, b1) → if_set (has_flag 2 flags) sequence_at b1 ≡ Ok (q, b2) → if_set (has_flag 4 flags) (var_at w64) b2 ≡ Ok (t, b3) → if_set (has_flag 8 flags) (var_at w32) b3 ≡ Ok (k, b4) → var_at w64 b4 ≡ Ok (i, b5) → if_set (has_flag 16 flags) (bytes_at ID_BYTES) b5 ≡ Ok (y, b6) → if_set (has_flag 32 flags) (bytes_at ID_BYTES) b6 ≡ Ok (r, b7) → if_set (has_flag 128 flags) (var_at w32) b7 ≡ Ok (z, b8) → fields_at bytes ≡ Ok (record { metadata = m; sequence = q; thread = t; stack = k; stamp_increment = i; activity = y; related = r; sorted = has_flag 64 flags; size = z }, b8)
 unfolding fields_at
-all_read bytes flags a1 a2 a3 a4 a5 a6 a7 a8 m q t k i y r z e0 e1 e2 e3 e4 e5 e6 e7 e8 = rw (e0.read, e1, e2, e3, e4, e5, e6, e7, e8) refl
+fields_made bytes b0 b1 b2 b3 b4 b5 b6 b7 b8 flags m q t k i y r z e0 e1 e2 e3 e4 e5 e6 e7 e8 = rw (e0, e1, e2, e3, e4, e5, e6, e7, e8) refl
 
 -- An id is read.
 pub id_read : (bytes id : List ℕ) (at : ℕ) → at + 16 ≤ length bytes → id ≡ take (at + 16 - at) (drop at bytes) → Reads (bytes_at ID_BYTES) bytes at (at + 16) id

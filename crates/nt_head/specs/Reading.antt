@@ -1,13 +1,12 @@
 -- The header at the front of some bytes (the NetTrace format document of PerfView (version 4), "compressed header"; what is refused is this project's profile).
-use Rattle.std.specs.Prelude.{◌≡◌, ℕ, ◌+◌, ◌≤◌, ◌/◌, ◌%◌, Bool, true, false, List, length, drop, Option, Some, None, Result, Ok, Err, ◌==◌, unwrap_or}
-use Rattle.std.specs.Option.{option_map_or}
+use Rattle.std.specs.Prelude.{◌≡◌, ℕ, ◌≤◌, ◌/◌, ◌%◌, Bool, true, false, List, length, drop, Option, Some, None, Ok, Err, ◌==◌}
 use Rattle.std.specs.Int.{w8, w32, w64}
 use Rattle.nt_head.specs.declared.head.HeadState.{HeadState}
 use Rattle.nt_head.specs.declared.take.TakenHead.{TakenHead}
 use Rattle.nt_head.specs.declared.take.TakenHead.TheVariants as taken
 use Rattle.nt_head.specs.declared.limits.TheConstants.{ID_BYTES}
 use Rattle.pt_num.specs.Steps.{◌>>=◌}
-use Rattle.pt_num.specs.Fields.{Field, Fault, Short, TooWide, bytes_at, fixed_at, var_at}
+use Rattle.pt_num.specs.Fields.{Field, Short, TooWide, bytes_at, fixed_at, var_at}
 use Rattle.nt_head.specs.Head.{HeadFields, Sequence, state_after}
 
 -- A field that a flag announces.

@@ -10,6 +10,7 @@
 #![tactic(auto)]
 
 mod head;
+mod laws;
 pub mod limits;
 mod put;
 mod take;
@@ -17,5 +18,6 @@ mod take;
 mod tests;
 
 pub use head::{HeadState, state_fits};
+pub use laws::{no_form_begins_another, what_is_put_is_taken, what_is_taken_is_a_form};
 pub use put::{push_head, put_head};
 pub use take::{TakenHead, take_head};

@@ -24,6 +24,7 @@ pub enum TakenHead {
 /// What the header at the front of the bytes says, after a blob that said `previous`. It takes no memory.
 pub fn take_head(bytes: &[u8], previous: &HeadState) -> TakenHead
     ensures read { TakesHead (head_at previous.now bytes.now) bytes.now result }
+    ensures form { IfHead result (λ state used. IsHead previous.now state (take used bytes.now)) }
 {
     let mut at = 0;
     match read_head(bytes, &mut at, previous) {

@@ -1,3 +1,4 @@
+pub mod Fronts
 pub mod Named
 pub mod PutPieces
 pub mod Sizes

@@ -1,8 +1,7 @@
 -- The name of an object's type.
-use Rattle.std.proofs.Common.{◌≡◌, ◌≢◌, ℕ, ◌+◌, ◌-◌, Bool, true, false, List, take, drop, get_or, Option, Some, None, refl, ap, ◌∙◌, sym, arith}
+use Rattle.std.proofs.Common.{◌≡◌, ◌≢◌, ℕ, ◌+◌, ◌-◌, List, take, drop, get_or, Option, Some, refl, ap, ◌∙◌, sym, arith}
 use Rattle.std.proofs.lemmas.Bool.{eq-eqb, ne_eqb}
 use Rattle.nt_object.specs.declared.head.ObjectKind.{ObjectKind}
-use Rattle.nt_object.specs.declared.head.ObjectHead.{ObjectHead}
 use Rattle.nt_object.specs.declared.head.ObjectHead.TheVariants as head
 use Rattle.nt_object.specs.Reading.{after_name, kind_named, named_at, versions_at}
 

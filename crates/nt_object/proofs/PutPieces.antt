@@ -1,6 +1,6 @@
 -- Steps of what is appended piece by piece.
-use Rattle.std.proofs.Common.{◌≡◌, ℕ, ◌≤◌, Result, Ok, Err, List, [], ◌∷◌, ◌++◌, length, take, drop, sym, ap, ◌∙◌, append_assoc, arith}
-use Rattle.std.proofs.lemmas.List.{length-take, take-append-le, take-append-drop}
+use Rattle.std.proofs.Common.{◌≡◌, ℕ, ◌≤◌, Result, Ok, Err, List, [], ◌∷◌, ◌++◌, length, take, drop, sym, ap, ◌∙◌, refl, append_assoc, arith}
+use Rattle.std.proofs.lemmas.List.{length-take, take_at, take-append-le, take-append-drop}
 use Rattle.std.specs.Int.{w32}
 use Rattle.std.specs.Result.{OnErr}
 use Rattle.pt_num.specs.Numbers.{fixed}
@@ -48,6 +48,15 @@ Keeps-trans before now after first second =
     ap (λ (xs : List ℕ). take (length before) xs) (sym front)
     ∙ take-append-le (length before) now (drop (length now) after) short
     ∙ first
+
+-- Four pieces, one after another.
+four_grouped : (old first second third fourth : List ℕ) → (((old ++ first) ++ second) ++ third) ++ fourth ≡ old ++ (first ++ (second ++ (third ++ fourth)))
+four_grouped old first second third fourth = simp append_assoc
+
+-- What was there before four pieces are put stays.
+pub begun_kept : (old first second third fourth o1 o2 o3 o4 : List ℕ) → o1 ≡ old ++ first → o2 ≡ o1 ++ second → o3 ≡ o2 ++ third → o4 ≡ o3 ++ fourth → Keeps old o4
+begun_kept old first second third fourth o1 o2 o3 o4 e1 e2 e3 e4 =
+    rw (e4, e3, e2, e1, four_grouped old first second third fourth) (take_at old (first ++ (second ++ (third ++ fourth))) (length old) refl)
 
 -- What stays on an error.
 pub on_error : {A E : Type 0} (r : Result A E) {P : Type 0} → P → OnErr r P

@@ -1,14 +1,15 @@
 -- Sizes of what is put.
-use Rattle.std.proofs.Common.{◌≡◌, ◌+◌, ◌*◌, ℕ, List, [], ◌∷◌, ◌++◌, length, refl, arith}
+use Rattle.std.proofs.Common.{◌≡◌, ◌*◌, ℕ, List, [], ◌∷◌, length, replicate, refl, arith}
 use Rattle.std.specs.List.{flat_map}
-use Rattle.std.specs.Prelude.{IsTrue, nat_eq, nat_lt, ◌&&◌}
-use Rattle.std.specs.Int.{Width, w16, w32, w64, byte_len}
-use Rattle.std.proofs.lemmas.List.{length-append}
+use Rattle.std.specs.Prelude.{IsTrue}
+use Rattle.std.specs.Int.{w16}
+use Rattle.std.proofs.lemmas.List.{length-append, length-replicate}
 use Rattle.std.proofs.lemmas.Bool.{and_parts, eqb-true}
 use Rattle.ep_defs.specs.declared.session.TraceInfo.{TraceInfo}
 use Rattle.ep_defs.specs.Session.{is_info}
 use Rattle.pt_num.specs.Numbers.{fixed}
-use Rattle.nt_object.specs.Object.{trace_payload}
+use Rattle.nt_object.specs.declared.object.BlockKind.{BlockKind}
+use Rattle.nt_object.specs.Object.{trace_payload, block_bytes, block_len, padded, padding_begins, to_multiple_of_4}
 use Rattle.nt_object.specs.Stream.{stream_start}
 
 -- A unit takes two bytes.
@@ -30,3 +31,10 @@ payload_size info date = simp (length-append, dates) (omega (arith, date))
 pub start_size : (info : TraceInfo) → IsTrue (is_info info) → length (stream_start info) ≡ 102
 unfolding fixed
 start_size info h = omega (arith, length-append (trace_payload info) (6 ∷ []), payload_size info (date_8 info h))
+
+-- A block takes the bytes of its parts.
+pub block_size : (at : ℕ) (kind : BlockKind) (body : List ℕ) → length (block_bytes (padded at kind body)) ≡ block_len at kind (length body)
+unfolding fixed
+block_size at kind body =
+    let zeros : List ℕ = replicate (to_multiple_of_4 (padding_begins at kind)) 0 in
+    simp (length-append, length-replicate) (omega arith)

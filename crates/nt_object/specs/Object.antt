@@ -5,6 +5,7 @@ use Rattle.std.specs.Int.{w16, w32, w64}
 use Rattle.ep_defs.specs.declared.session.TraceInfo.{TraceInfo}
 use Rattle.nt_object.specs.declared.object.BlockKind.{BlockKind}
 use Rattle.nt_object.specs.declared.object.BlockKind.TheVariants as kind
+use Rattle.nt_object.specs.declared.limits.TheConstants.{BLOCK_BYTES}
 use Rattle.pt_num.specs.Numbers.{fixed}
 
 -- Tags: 5 begins an object or its type, 1 is the null reference, 6 ends an object.
@@ -54,6 +55,10 @@ to_multiple_of_4 at = (4 - at % 4) % 4
 -- Where the padding of a block begins: after three tags, three numbers, the name, the tag and the size.
 abbrev pub padding_begins : ℕ → BlockKind → ℕ
 padding_begins at kind = at + 3 + 12 + length (block_name kind) + 1 + 4
+
+-- How many bytes a block takes that is to stand at this offset and has a body of this length.
+abbrev pub block_len : ℕ → BlockKind → ℕ → ℕ
+block_len at kind body = BLOCK_BYTES + length (block_name kind) + to_multiple_of_4 (padding_begins at kind) + body
 
 -- The block may stand at this offset of a stream.
 pub record CanStand (at : ℕ) (block : Block) : Type 0 where

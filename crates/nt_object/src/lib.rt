@@ -1,7 +1,8 @@
 //! Objects of a NetTrace stream (version 4), and its start, both ways.
 //!
 //! A stream is a head of 32 bytes, the Trace object, blocks, and a null reference. `object` writes the start and a whole
-//! block, `head` reads what an object begins with, `limits` has the sizes and tags. It stands on pt_num and ep_defs.
+//! block, `head` reads what an object begins with, `limits` has the sizes and tags, and `laws` what holds of the
+//! definitions alone. It stands on pt_num and ep_defs.
 //! What objects and streams are is `specs/Object` and `specs/Stream`, and what an object's head is taken as
 //! `specs/Reading`; `specs/Making` serves private functions.
 //!
@@ -10,10 +11,12 @@
 #![tactic(auto)]
 
 mod head;
+mod laws;
 pub mod limits;
 mod object;
 
 pub use head::{ObjectHead, ObjectKind, take_head};
+pub use laws::{no_form_begins_another, what_is_put_is_taken};
 pub use object::{BlockKind, padding, put_block, put_start};
 
 #[cfg(test)]

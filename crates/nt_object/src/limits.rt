@@ -3,6 +3,12 @@
 /// Bytes of the stream's head and its Trace object.
 pub const START_BYTES: usize = 102;
 
+/// Bytes of the stream's head, before its Trace object.
+pub const HEAD_BYTES: usize = 32;
+
+/// Bytes of a block besides its type's name, its padding and its body: tags, versions, the name's length and the size.
+pub const BLOCK_BYTES: usize = 21;
+
 /// The version of a Trace object, and the least that a reader must know.
 pub const TRACE_VERSION: u32 = 4;
 

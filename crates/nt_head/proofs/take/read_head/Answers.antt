@@ -1,7 +1,7 @@
 use Rattle.std.proofs.Common.{◌<◌, get_or, length, sym, refl, arith}
 use Rattle.std.proofs.lemmas.Bool.{eqb-true, eqb-false}
 use Rattle.nt_head.specs.Reading.{has_flag}
-use Rattle.nt_head.proofs.Steps.{head_stops, stops_answer, stop_flags, flags_read, carry_metadata, carry_numbers, carry_thread, carry_stack, carry_increment, carry_activity, carry_related, carry_size, all_read, state_read, head_read}
+use Rattle.nt_head.proofs.Steps.{head_stops, stops_answer, stop_flags, flags_read, carry_metadata, carry_numbers, carry_thread, carry_stack, carry_increment, carry_activity, carry_related, carry_size, fields_made, state_read, head_read}
 use Rattle.nt_head.proofs.take.read_head.Goals as goal
 
 pub returns-then-is_empty-clause-stop : goal.returns-then-is_empty-clause-stop
@@ -105,7 +105,7 @@ returns-clause-ok c =
     let e6 = (rw c.has_flag-5.ensures at c.in_ok-activity.ensures.ok.read) in
     let e7 = (rw c.has_flag-6.ensures at c.in_ok-related.ensures.ok.read) in
     let e8 = (rw c.has_flag-7.ensures at c.in_ok-size.ensures.ok.read) in
-    let fields = all_read c.args.bytes.now _ _ _ _ _ _ _ _ _ _ _ _ _ _ _ _ _ flags e1 e2 e3 e4 e5 e6 e7 e8 in
+    let fields = fields_made c.args.bytes.now _ _ _ _ _ _ _ _ _ _ _ _ _ _ _ _ _ _ flags.read e1 e2 e3 e4 e5 e6 e7 e8 in
     record {
       within = c.in_ok-size.ensures.ok.within;
       read =
