@@ -1,13 +1,14 @@
 //! The program: it makes the real objects of the outside and hands them to the logic.
 //!
 //! It stands on pt_cli, whose call `tracepipe` it makes, and on pt_io, whose traits it fulfils. What it adds is the
-//! trusted edge: standard input and output as a source and a sink that tell nothing of content. Everything that can be
-//! said of bytes is said below it, over any source and any sink.
+//! trusted edge: standard input and output as a source and a sink, and Unix sockets as links, that tell nothing of
+//! content. Everything that can be said of bytes is said below it, over any source, sink and link.
 //!
 //! Its one contract: the adapters keep the clauses of the traits.
 #![tactic(auto)]
 
 mod arguments;
+mod socket;
 mod standard;
 
 use arguments::words;

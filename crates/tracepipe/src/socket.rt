@@ -1,0 +1,211 @@
+//! Unix sockets as links, and the way to them. They are trusted: no clause can say what the system gives or takes.
+ghost use Rattle.std.specs.Prelude.{◌≡◌, ◌+◌, ◌^◌, ◌<◌, ◌≤◌, [], length, false, IsErr, IfOk, OnOk, OnErr};
+ghost use Rattle.pt_io.specs.Faults.{HasRisen};
+
+use pt_io::{Caller, Failed, Link, Sink, Source};
+use std::io::{Read, Write};
+use std::marker::Model;
+use std::net::{Net, Shutdown};
+use std::os::unix::net::UnixStream;
+
+/// How many bytes a socket gives at most.
+const MOST: u64 = (1 << 63) - 1;
+
+/// A Unix stream socket as a link. It tells nothing of its bytes.
+#[derive(Debug, Drop)]
+pub struct SocketLink {
+    stream: UnixStream,
+    may_give: u64,
+    read_faults: u64,
+    write_faults: u64,
+}
+
+impl Model for SocketLink {
+    ghost use Rattle.std.specs.Prelude.{◌<◌, ◌^◌};
+    ghost use Rattle.tracepipe.specs.Sockets.{SocketState};
+
+    ghost Value = { SocketState };
+
+    ghost view = { λ s. record {
+      may_give = s.may_give;
+      read_faults = s.read_faults;
+      write_faults = s.write_faults;
+    } };
+
+    ghost invariant = { λ s. s.may_give < 2 ^ 63 };
+}
+
+impl SocketLink {
+    ghost use Rattle.std.specs.Prelude.{◌≡◌};
+    ghost use Rattle.tracepipe.specs.Sockets.{fresh_socket};
+
+    /// A link over this socket, which has not failed.
+    fn new(stream: UnixStream) -> SocketLink
+        ensures { result ≡ fresh_socket }
+    {
+        SocketLink {
+            stream,
+            may_give: MOST,
+            read_faults: 0,
+            write_faults: 0,
+        }
+    }
+}
+
+impl Source for SocketLink {
+    ghost tells_given = { λ _. false };
+
+    ghost given = { λ _. [] };
+
+    ghost left = { λ _. [] };
+
+    ghost may_give = { λ s. s.may_give };
+
+    ghost read_faults = { λ s. s.read_faults };
+
+    ghost write_side = { λ s. record { tells = false; taken = []; faults = s.write_faults } };
+
+    /// Gives what the socket gives. It fails where the socket does, and where all that it may give was given.
+    fn read(&mut self, buf: &mut [u8]) -> Result<usize, Failed>
+        requires { 0 < length buf.old }
+
+        ensures spent { self.old.may_give ≡ 0 → IsErr result }
+        ensures writes { self.new.write_faults ≡ self.old.write_faults }
+
+        // What the trait says.
+        ensures within { IfOk result (λ n. n ≤ length buf.new) }
+        ensures few { self.old.may_give < 2 ^ 63 }
+        ensures falls { IfOk result (λ n. self.new.may_give + n ≡ self.old.may_give) }
+        ensures failed { OnErr result (HasRisen self.old.read_faults self.new.read_faults) }
+        ensures read { OnOk result (self.new.read_faults ≡ self.old.read_faults) }
+        ensures later { self.old.read_faults ≤ self.new.read_faults }
+        ensures falls_err { OnErr result (self.new.may_give ≡ self.old.may_give) }
+    {
+        if self.may_give > 0 {
+            let most = (buf.len() as u64).min(self.may_give) as usize;
+            if let Ok(count) = self.stream.read(&mut buf[..most]) {
+                self.may_give -= count as u64;
+                return Ok(count);
+            }
+        }
+        self.read_faults = self.read_faults.saturating_add(1);
+        Err(Failed)
+    }
+}
+
+impl Sink for SocketLink {
+    ghost tells_taken = { λ _. false };
+
+    ghost taken = { λ _. [] };
+
+    ghost write_faults = { λ s. s.write_faults };
+
+    ghost read_side = { λ s. record {
+      tells = false;
+      given = [];
+      left = [];
+      may_give = s.may_give;
+      faults = s.read_faults;
+    } };
+
+    /// Writes the whole piece, or fails. A socket whose peer has gone fails, and sends no signal.
+    fn write(&mut self, piece: &[u8]) -> Result<(), Failed>
+        ensures gives { self.new.may_give ≡ self.old.may_give }
+        ensures reads { self.new.read_faults ≡ self.old.read_faults }
+
+        // What the trait says.
+        ensures failed { OnErr result (HasRisen self.old.write_faults self.new.write_faults) }
+        ensures wrote { OnOk result (self.new.write_faults ≡ self.old.write_faults) }
+        ensures later { self.old.write_faults ≤ self.new.write_faults }
+    {
+        if self.stream.write_all(piece).is_ok() {
+            return Ok(());
+        }
+        self.write_faults = self.write_faults.saturating_add(1);
+        Err(Failed)
+    }
+}
+
+impl Link for SocketLink {
+    ghost use Rattle.std.specs.Prelude.{refl};
+
+    /// Ends both directions of the socket. One that its peer has ended stays as it is.
+    fn shut(&mut self)
+        ensures { self.new ≡ self.old }
+    {
+        let _ended = self.stream.shutdown(Shutdown::Both);
+    }
+
+    ghost reads = { λ _. refl };
+
+    ghost writes = { λ _. refl };
+}
+
+/// The way to the Unix sockets of this machine. A target is the path of one.
+#[derive(Drop)]
+pub struct SocketCaller<N: Net + Send> {
+    network: N,
+    links: u64,
+    faults: u64,
+}
+
+impl<N: Net + Send> Model for SocketCaller<N> {
+    ghost use Rattle.tracepipe.specs.Sockets.{CallerState};
+
+    ghost Value = { CallerState };
+
+    ghost view = { λ s. record { links = s.links; faults = s.faults } };
+}
+
+impl<N: Net + Send> SocketCaller<N> {
+    ghost use Rattle.tracepipe.specs.Sockets.{fresh_caller};
+
+    /// A caller that has called nobody.
+    pub fn new(network: N) -> SocketCaller<N>
+        ensures { result ≡ fresh_caller }
+    {
+        SocketCaller {
+            network,
+            links: 0,
+            faults: 0,
+        }
+    }
+}
+
+impl<N: Net + Send> Caller for SocketCaller<N> {
+    ghost use Rattle.tracepipe.specs.Sockets.{fresh_socket, MOST_LINKS};
+
+    type Link = SocketLink;
+
+    ghost leads_to = { λ _ _. Unit {0} };
+
+    ghost links = { λ s. s.links };
+
+    ghost call_faults = { λ s. s.faults };
+
+    /// Connects to the socket at a path. It fails where no socket listens there, where the path is no path of a socket,
+    /// and where no more links can be counted.
+    fn call(&mut self, target: &str) -> Result<SocketLink, Failed>
+        ensures full { self.old.links ≡ MOST_LINKS → IsErr result }
+        ensures fresh { IfOk result (λ link. link ≡ fresh_socket) }
+
+        // What the trait says.
+        ensures counted { OnOk result (self.new.links ≡ self.old.links + 1) }
+        ensures uncounted { OnErr result (self.new.links ≡ self.old.links) }
+        ensures failed { OnErr result (HasRisen self.old.faults self.new.faults) }
+        ensures called { OnOk result (self.new.faults ≡ self.old.faults) }
+        ensures later { self.old.faults ≤ self.new.faults }
+    {
+        if let Some(links) = self.links.checked_add(1) {
+            if let Ok(stream) = UnixStream::connect(&self.network, target) {
+                self.links = links;
+                return Ok(SocketLink::new(stream));
+            }
+        }
+        self.faults = self.faults.saturating_add(1);
+        Err(Failed)
+    }
+}
+
+#[cfg(test)]
+mod tests;
