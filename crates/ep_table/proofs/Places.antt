@@ -61,11 +61,6 @@ count_none p (x ∷ xs) h = grind (arith, common_steps, count_none p xs)
 pub position-None : {X : Type 0} (p : X → Bool) (xs : List X) → position p xs ≡ None → count_by p xs ≡ 0
 position-None p xs h = count_none p xs (grind (arith, common_steps))
 
--- A live session of this id is a session of this id.
-pub live_is_of : (id : ℕ) (seat : Option Seat) → is_live_as id seat ≡ true → is_of id seat ≡ true
-live_is_of id None h = h
-live_is_of id (Some seat) h = grind (arith, common_steps)
-
 -- At most as many pass the narrower test.
 pub live-le-of : (id : ℕ) (seats : List (Option Seat)) → count_by (is_live_as id) seats ≤ count_by (is_of id) seats
 live-le-of id [] = lit≤ tt

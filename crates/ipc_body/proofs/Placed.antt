@@ -1,14 +1,14 @@
 -- Fields of a reply at their offsets.
-use Rattle.std.proofs.Common.{◌≡◌, ℕ, ◌+◌, ◌-◌, ◌*◌, ◌<◌, ◌≤◌, Bool, true, false, List, length, take, drop, Result, Ok, Err, nat_lt, refl, ap, sym, ◌∙◌, arith, subst, length-drop}
-use Rattle.std.specs.Int.{Width, w32, w64, byte_len}
+use Rattle.std.proofs.Common.{◌≡◌, ℕ, ◌+◌, ◌-◌, ◌*◌, ◌≤◌, Bool, true, false, List, length, take, drop, Result, Ok, Err, nat_lt, refl, ap, sym, ◌∙◌, arith, subst, length-drop}
+use Rattle.std.specs.Int.{Width, w64, byte_len}
 use Rattle.std.specs.List.{slice_range}
-use Rattle.pt_num.specs.Fields.{Field, Short, NoZero, fixed_at, bytes_at, text_c_at}
+use Rattle.pt_num.specs.Fields.{Field, Short, fixed_at, bytes_at, text_c_at}
 use Rattle.pt_num.specs.Texts as num
 use Rattle.ep_defs.specs.Text as defs
 use Rattle.ipc_body.specs.declared.reply.Reply.TheVariants as reply
 use Rattle.ipc_body.specs.declared.reply.ReplyFault.{ReplyFault}
 use Rattle.ipc_body.specs.declared.reply.ReplyFault.TheVariants as fault
-use Rattle.ipc_body.specs.Reply.{Replies, placed, text_at, error_at, session_at, info_at, info_from}
+use Rattle.ipc_body.specs.Reply.{Replies, placed, text_at, info_at, info_from}
 use Rattle.ipc_body.proofs.Texts.{same_units}
 use Rattle.ipc_body.proofs.Provided.{drop-add}
 
@@ -34,27 +34,6 @@ placed-is {A} whole rest at used field value within there fits e =
 pub at-offset : {A : Type 0} (read : List ℕ → Field A) (whole rest : List ℕ) (at : ℕ) (r : Result (A × ℕ) ℕ) → rest ≡ drop at whole → placed whole at (read rest) ≡ r → placed whole at (read (drop at whole)) ≡ r
 at-offset {A} read whole rest at r there e = subst (λ (xs : List ℕ). placed whole at (read xs) ≡ r) there e
 
-pub error-is : (whole rest : List ℕ) (code : ℕ) → 20 ≤ length whole → rest ≡ drop 20 whole → fixed_at w32 rest ≡ Ok (code, drop 4 rest) → error_at whole ≡ Ok (reply.Error code, 24)
-error-is whole rest code within there e =
-    let p : placed whole 20 (fixed_at w32 (drop 20 whole)) ≡ Ok (code, 24) =
-    at-offset (fixed_at w32) whole rest 20 (Ok (code, 24)) there (placed-is whole rest 20 4 (fixed_at w32 rest) code within there (fixed-there w32 rest (drop 4 rest) code e) e) in
-    rw p refl
-
-pub session-is : (whole rest : List ℕ) (id : ℕ) → 20 ≤ length whole → rest ≡ drop 20 whole → fixed_at w64 rest ≡ Ok (id, drop 8 rest) → session_at whole ≡ Ok (reply.Session id, 28)
-session-is whole rest id within there e =
-    let p : placed whole 20 (fixed_at w64 (drop 20 whole)) ≡ Ok (id, 28) =
-    at-offset (fixed_at w64) whole rest 20 (Ok (id, 28)) there (placed-is whole rest 20 8 (fixed_at w64 rest) id within there (fixed-there w64 rest (drop 8 rest) id e) e) in
-    rw p refl
-
-pub error-cut : (whole rest : List ℕ) → rest ≡ drop 20 whole → fixed_at w32 rest ≡ Err Short → error_at whole ≡ Err (length whole)
-error-cut whole rest there e = let f : fixed_at w32 (drop 20 whole) ≡ Err Short = subst (λ (xs : List ℕ). fixed_at w32 xs ≡ Err Short) there e in rw f refl
-
-pub session-cut : (whole rest : List ℕ) → rest ≡ drop 20 whole → fixed_at w64 rest ≡ Err Short → session_at whole ≡ Err (length whole)
-session-cut whole rest there e = let f : fixed_at w64 (drop 20 whole) ≡ Err Short = subst (λ (xs : List ℕ). fixed_at w64 xs ≡ Err Short) there e in rw f refl
-
-pub info-cut : (whole rest : List ℕ) → rest ≡ drop 20 whole → fixed_at w64 rest ≡ Err Short → info_at whole ≡ Err (length whole)
-info-cut whole rest there e = let f : fixed_at w64 (drop 20 whole) ≡ Err Short = subst (λ (xs : List ℕ). fixed_at w64 xs ≡ Err Short) there e in rw f refl
-
 -- A text at its offset.
 pub text-is : (whole rest text : List ℕ) (at count used : ℕ) → at ≤ length whole → rest ≡ drop at whole → used ≤ length rest → 4 + 2 * count ≤ used →
     text_c_at rest ≡ Ok (num.units_in (take (2 * count) (drop 4 rest)), drop used rest) →
@@ -66,12 +45,6 @@ text-is whole rest text at count used within there fits least e t =
     t ∙ ap (λ (m : ℕ). defs.units_in (take m (drop (at + 4) whole))) k ∙ same_units (take (2 * count) (drop (at + 4) whole)) ∙ ap (λ (xs : List ℕ). num.units_in (take (2 * count) xs)) (sym d) in
     let f : text_c_at rest ≡ Ok (text, drop used rest) = e ∙ ap (λ (u : List ℕ). let r : Field (List ℕ) = Ok (u, drop used rest) in r) (sym same) in
     at-offset text_c_at whole rest at (Ok (text, at + used)) there (placed-is whole rest at used (text_c_at rest) text within there fits f)
-
-pub text-cut : (whole rest : List ℕ) (at : ℕ) → rest ≡ drop at whole → text_c_at rest ≡ Err Short → text_at whole at ≡ Err (length whole)
-text-cut whole rest at there e = at-offset text_c_at whole rest at (Err (length whole)) there (rw e refl)
-
-pub text-open : (whole rest : List ℕ) (at : ℕ) → rest ≡ drop at whole → text_c_at rest ≡ Err NoZero → text_at whole at ≡ Err at
-text-open whole rest at there e = at-offset text_c_at whole rest at (Err at) there (rw e refl)
 
 -- What a process says of itself, up to its texts.
 pub record HasFront (whole rest cookie : List ℕ) (process_id : ℕ) : Type 0 where
@@ -97,15 +70,6 @@ pub info-is : (whole rest cookie command_line system arch : List ℕ) (process_i
     info_at whole ≡ Ok (reply.Info (info_from process_id cookie command_line system arch), a3)
 info-is whole rest cookie command_line system arch process_id a1 a2 a3 f c s a =
     let n = number-is whole rest cookie process_id f in let k = cookie-is whole rest cookie process_id f in rw (n, k, c, s, a) refl
-
-pub info-no_cookie : (whole rest : List ℕ) (process_id : ℕ) → 20 ≤ length whole → rest ≡ drop 20 whole → fixed_at w64 rest ≡ Ok (process_id, drop 8 rest) → length whole < 44 →
-    info_at whole ≡ Err (length whole)
-info-no_cookie whole rest process_id within there e short =
-    let enough = fixed-there w64 rest (drop 8 rest) process_id e in
-    let n : placed whole 20 (fixed_at w64 (drop 20 whole)) ≡ Ok (process_id, 28) =
-    at-offset (fixed_at w64) whole rest 20 (Ok (process_id, 28)) there (placed-is whole rest 20 8 (fixed_at w64 rest) process_id within there enough e) in
-    let t : nat_lt (length (drop 28 whole)) 16 ≡ true = let d = length-drop 28 whole in let r = ap length there in let q = length-drop 20 whole in grind arith in
-    rw (n, t) refl
 
 pub info-no_line : (whole rest cookie : List ℕ) (process_id at : ℕ) → HasFront whole rest cookie process_id → text_at whole 44 ≡ Err at → info_at whole ≡ Err at
 info-no_line whole rest cookie process_id at f c =

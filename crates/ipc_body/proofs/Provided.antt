@@ -104,12 +104,6 @@ onto-push rules rule (Ok later) =
     ap (λ (all : List Rule). let r : Result (List Rule × List ℕ) RequestFault = Ok (all, later.1) in r) (append_assoc rules (rule ∷ []) later.0)
 onto-push rules rule (Err e) = refl
 
--- Nothing was read yet.
-pub read-begin : (count : ℕ) (whole : List ℕ) → AreRead count 0 0 whole []
-read-begin count whole =
-    let n : count - 0 ≡ count = omega arith in
-    record { within = omega arith; so_far = rw n (sym (onto-none (providers_at count whole))); many = refl; named = refl }
-
 named-push : (rules : List Rule) (rule : Rule) → are_named rules ≡ true → nat_lt 0 (length rule.name) ≡ true → are_named (rules ++ rule ∷ []) ≡ true
 named-push [] rule h n = rw n refl
 named-push (first ∷ rules) rule h n = grind (arith, common_steps, named-push rules rule)

@@ -1,4 +1,5 @@
 pub mod Answering
+pub mod Asked
 pub mod Asking
 pub mod Read
 pub mod Reply

@@ -11,12 +11,14 @@
 
 mod asking;
 pub mod commands;
+mod laws;
 pub mod limits;
 mod providers;
 mod reply;
 mod request;
 
 pub use asking::{Asked, collect_size, put_collect, put_info, put_stop};
+pub use laws::what_is_put_is_read;
 pub use reply::{ProcessInfo, Reply, ReplyFault, read_reply};
 pub use request::{Request, RequestFault, read_request};
 

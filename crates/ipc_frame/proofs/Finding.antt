@@ -9,32 +9,6 @@ le_true m n h = grind arith
 pub le_false : (m n : ℕ) → n < m → nat_le m n ≡ false
 le_false m n h = grind arith
 
-pub found-other : (bytes : List ℕ) → has_magic bytes ≡ false → found bytes ≡ Err OtherMagic
-found-other bytes e = rw e refl
-
-pub found-short : (bytes : List ℕ) → has_magic bytes ≡ true → length bytes < SET_AT → found bytes ≡ Err (Lacks (HEADER_BYTES - length bytes))
-found-short bytes e l = let f : nat_le SET_AT (length bytes) ≡ false = le_false _ _ (omega arith) in rw (e, f) refl
-
-pub found-small : (bytes : List ℕ) → has_magic bytes ≡ true → SET_AT ≤ length bytes → size_in bytes < HEADER_BYTES → found bytes ≡ Err (SmallSize (size_in bytes))
-found-small bytes e l s =
-    let t : nat_le SET_AT (length bytes) ≡ true = le_true _ _ (omega arith) in
-    let f : nat_le HEADER_BYTES (size_in bytes) ≡ false = le_false _ _ (omega arith) in rw (e, t, f) refl
-
-pub found-cut : (bytes : List ℕ) → has_magic bytes ≡ true → SET_AT ≤ length bytes → HEADER_BYTES ≤ size_in bytes → length bytes < HEADER_BYTES →
-    found bytes ≡ Err (Lacks (HEADER_BYTES - length bytes))
-found-cut bytes e l s c =
-    let t : nat_le SET_AT (length bytes) ≡ true = le_true _ _ (omega arith) in
-    let u : nat_le HEADER_BYTES (size_in bytes) ≡ true = le_true _ _ (omega arith) in
-    let f : nat_le HEADER_BYTES (length bytes) ≡ false = le_false _ _ (omega arith) in rw (e, t, u, f) refl
-
-pub found-part : (bytes : List ℕ) → has_magic bytes ≡ true → HEADER_BYTES ≤ size_in bytes → HEADER_BYTES ≤ length bytes → length bytes < size_in bytes →
-    found bytes ≡ Err (Lacks (size_in bytes - length bytes))
-found-part bytes e s h c =
-    let t : nat_le SET_AT (length bytes) ≡ true = le_true _ _ (omega arith) in
-    let u : nat_le HEADER_BYTES (size_in bytes) ≡ true = le_true _ _ (omega arith) in
-    let v : nat_le HEADER_BYTES (length bytes) ≡ true = le_true _ _ (omega arith) in
-    let f : nat_le (size_in bytes) (length bytes) ≡ false = le_false _ _ (omega arith) in rw (e, t, u, v, f) refl
-
 pub found-whole : (bytes : List ℕ) → has_magic bytes ≡ true → HEADER_BYTES ≤ size_in bytes → HEADER_BYTES ≤ length bytes → size_in bytes ≤ length bytes →
     found bytes ≡ Ok (parts_of bytes)
 found-whole bytes e s h c =
