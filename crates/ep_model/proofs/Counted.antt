@@ -1,13 +1,13 @@
 -- The fold of a session's budget counts the chunks that are held by places.
-use Rattle.std.proofs.Common.{◌≡◌, ℕ, ◌+◌, ◌-◌, ◌<◌, Bool, true, false, cond, inl, inr, List, [], ◌∷◌, ◌++◌, eqb, leb, refl, ap, sym, ◌∙◌, arith}
-use Rattle.std.specs.Prelude.{not, ◌&&◌, ◌||◌, nat_lt, nat_le}
+use Rattle.std.proofs.Common.{◌≡◌, ℕ, ◌+◌, Bool, true, false, cond, inl, inr, List, [], ◌∷◌, ◌++◌, eqb, refl, ap, sym, ◌∙◌, arith}
+use Rattle.std.specs.Prelude.{not, ◌&&◌, ◌||◌, nat_le}
 use Rattle.std.specs.List.{list_any}
 use Rattle.std.proofs.lemmas.Bool.{eq-eqb, ne_eqb, cases_Bool, cases_eq, not-false, not_from_false, or_parts, or_right, and_right}
 use Rattle.std.proofs.lemmas.List.{append-nil}
 use Rattle.ep_model.specs.declared.step.Step.TheVariants as step
-use Rattle.ep_model.specs.Budget.{Pending, no_pending, needs_chunk, chunks_begun, pending_with}
-use Rattle.ep_model.specs.Chunks.{Turn, Written, Taken, Given, takes_from, begins_for, gives, has_pending, last_chunk, needs_chunk_after, is_back, held, in_hand, is_refused_after, shown_after, is_refused, chunks_of, shown_size, turns}
-use Rattle.ep_model.specs.Fold.{Budget, no_budget, pending_of, lacks_chunk, with_record, with_steal, with_give, with_show, budget_of}
+use Rattle.ep_model.specs.Budget.{Pending, needs_chunk, pending_with}
+use Rattle.ep_model.specs.Chunks.{Turn, Written, Taken, Given, takes_from, begins_for, gives, has_pending, last_chunk, needs_chunk_after, is_back, held, in_hand, shown_after, is_refused, chunks_of, shown_size, turns}
+use Rattle.ep_model.specs.Fold.{Budget, no_budget, lacks_chunk, with_record, with_steal, with_give, with_show, budget_of}
 use Rattle.ep_model.specs.History.{Past}
 
 -- ---- tests of a turn more at the end

@@ -1,6 +1,6 @@
 -- What a finished session's entries tell is faithful.
 use Rattle.std.proofs.Common.{◌≡◌, ℕ, ◌+◌, Bool, true, false, cond, inl, inr, List, [], ◌∷◌, ◌++◌, length, map, filter, Some, eqb, refl, ap, sym, ◌∙◌, arith}
-use Rattle.std.specs.Prelude.{not, ◌&&◌, ◌||◌, unwrap_or}
+use Rattle.std.specs.Prelude.{not, ◌&&◌, ◌||◌}
 use Rattle.std.specs.List.{list_any, list_all, AllByRecursion}
 use Rattle.std.proofs.lemmas.Bool.{and_parts, and_from, or_left, or_right, not-false, eqb-true, eq-eqb, ne_eqb, cases_Bool, cases_eq, false_from_ne_true}
 use Rattle.std.proofs.lemmas.List.{append-nil, length_push}
@@ -10,12 +10,12 @@ use Rattle.ep_defs.specs.Gaps.{Known, gaps, sightings}
 use Rattle.ep_model.specs.declared.step.Step.TheVariants as step
 use Rattle.ep_model.specs.Chunks.{is_refused, refused, written}
 use Rattle.ep_model.specs.Entries.{has_stacks, awaits_point, is_named, entries, pending, told_number, point_entry}
-use Rattle.ep_model.specs.Faithful.{AreFaithful, kept, is_kept, is_among, events_of, last_sighting, numbered, share_of, shares_of}
+use Rattle.ep_model.specs.Faithful.{AreFaithful, kept, is_kept, is_among, events_of, last_sighting, share_of, shares_of}
 use Rattle.ep_model.specs.History.{Past, config_of, is_present, is_finished, opened, insert_ascending, is_open, opened_at, closed_at, writes_of, admitted, shows}
 use Rattle.ep_model.specs.Lawful.{IsLawful, objections, was_opened}
 use Rattle.ep_model.proofs.Admitted.{contents-long}
 use Rattle.ep_model.proofs.Numbers.{AreOwn}
-use Rattle.ep_model.proofs.Sessions.{none_there, any_inserted, any_more, open-opened, open-present, finished-absent}
+use Rattle.ep_model.proofs.Sessions.{none_there, any_inserted, open-opened, open-present, finished-absent}
 use Rattle.ep_model.proofs.Tally.{pending-own}
 use Rattle.ep_model.proofs.Told.{tally}
 

@@ -1,7 +1,7 @@
 -- Lists of steps in order, and the pasts that they make.
 use Rattle.std.proofs.Common.{◌≡◌, ℕ, ◌+◌, List, [], ◌∷◌, ◌++◌, Option, Some, None, refl, ap, ◌∙◌}
 use Rattle.std.specs.Prelude.{reverse}
-use Rattle.std.proofs.lemmas.List.{append-nil, append_assoc}
+use Rattle.std.proofs.lemmas.List.{append_assoc}
 use Rattle.std.proofs.lemmas.Grind.{reverse_onto}
 use Rattle.ep_defs.specs.declared.event.EventDef.{EventDef}
 use Rattle.ep_model.specs.declared.step.Step.{Step}
@@ -38,7 +38,3 @@ none_from_lawful events number past (step ∷ steps) lawful =
     let here = earlier-lawful events (reverse steps) (step ∷ past) whole in
     ap (λ kind. unlawful number kind (first_unlawful events (number + 1) (step ∷ past) steps)) here.1
     ∙ none_from_lawful events (number + 1) (step ∷ past) steps whole
-
--- A list of steps is lawful where none of them is unlawful.
-pub lawful-list : (events : List EventDef) (steps : List Step) → first_unlawful events 1 [] steps ≡ None → IsLawful events (reverse steps)
-lawful-list events steps none = rw append-nil at (lawful_from_none events 1 [] steps tt none)

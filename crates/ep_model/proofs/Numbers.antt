@@ -1,6 +1,5 @@
 -- Numbers that rise, with those that are missing between them.
-use Rattle.std.proofs.Common.{◌≡◌, ℕ, ◌+◌, ◌-◌, ◌%◌, ◌^◌, ◌<◌, ◌≤◌, Bool, true, false, inl, inr, List, [], ◌∷◌, ◌++◌, map, filter, Option, Some, None, eqb, refl, ap, sym, ◌∙◌, arith, add-zero, zero-add}
-use Rattle.std.specs.Prelude.{◌||◌}
+use Rattle.std.proofs.Common.{◌≡◌, ℕ, ◌+◌, ◌-◌, ◌%◌, ◌^◌, ◌<◌, ◌≤◌, true, false, inl, inr, List, [], ◌∷◌, ◌++◌, map, filter, Option, Some, eqb, refl, sym, ◌∙◌, arith, add-zero, zero-add}
 use Rattle.std.specs.List.{list_any, last_or, AllByRecursion}
 use Rattle.std.proofs.lemmas.Bool.{cases_Bool, cases_eq, eq-eqb, ne_eqb}
 use Rattle.std.proofs.Math.Nat.{add-mod_right, mod-eq_of_lt}

@@ -2,7 +2,6 @@
 use Rattle.std.proofs.Common.{◌≡◌, ℕ, ◌+◌, ◌≤◌, Bool, true, false, cond, inl, inr, List, [], ◌∷◌, ◌++◌, length, map, filter, None, eqb, leb, refl, ap, sym, ◌∙◌, arith}
 use Rattle.std.specs.Prelude.{not, ◌&&◌, ◌||◌, nat_lt}
 use Rattle.std.specs.List.{list_any, range_with_len, AllByRecursion}
-use Rattle.std.specs.Option.{option_map_or}
 use Rattle.std.proofs.lemmas.Bool.{and_parts, or_cases, or_parts, or_left, or_right, not-false, eq-eqb, ne_eqb, leb-false, lt-leb, cases_Bool, cases_eq, false_from_ne_true}
 use Rattle.ep_defs.specs.declared.limits.TheConstants.{THREADS}
 use Rattle.ep_defs.specs.declared.event.EventDef.{EventDef}
@@ -10,8 +9,7 @@ use Rattle.ep_defs.specs.Session.{is_valid_config}
 use Rattle.ep_model.specs.declared.step.Step.{Step}
 use Rattle.ep_model.specs.declared.step.Step.TheVariants as step
 use Rattle.ep_model.specs.History.{Past, config_of, accepted, is_present, present, entered, has_left, was_there, is_there, takes_row, rows, opened, insert_ascending, is_open, in_write, last_begun, is_due, shows}
-use Rattle.ep_model.specs.Budget.{record_size}
-use Rattle.ep_model.specs.Chunks.{in_hand, shown_size, turns, is_refused, is_hand_full, refused}
+use Rattle.ep_model.specs.Chunks.{in_hand, turns, is_refused, is_hand_full, refused}
 use Rattle.ep_model.specs.Lawful.{IsLawful, objection_to, objections, is_next_session, begins, has_due, is_open_somewhere}
 use Rattle.ep_model.specs.Entries.{awaits_point, is_named, entries, pending, told_number, point_entry}
 use Rattle.ep_model.specs.Only.{concerns, only}
@@ -93,9 +91,6 @@ told-only session thread (step.Steal s t ∷ past) =
 told-only session thread (step.Close s t ∷ past) =
     elim (cases_Bool (eqb s session)) [ inl same ↦ rw same (rw (same, shows-only session thread past, told-only session thread past) refl) | inr other ↦ rw other (told-only session thread past) ]
 told-only session thread (other ∷ past) = passes_over (λ p. told_number session thread p) (concerns session other) other (only session past) refl ∙ told-only session thread past
-
-size-only : (session thread : ℕ) (past : Past) → shown_size thread (only session past) ≡ shown_size thread past
-size-only session thread past = ap (λ last. option_map_or (λ begun. record_size begun.write) last 0) (last-only session thread past)
 
 turns-only : (session : ℕ) (past : Past) → turns session (only session past) ≡ turns session past
 turns-only session [] = refl

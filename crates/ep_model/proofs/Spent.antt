@@ -1,14 +1,13 @@
 -- A budget of one chunk, which 963 writes of 68 bytes fill.
-use Rattle.std.proofs.Common.{◌≡◌, ℕ, zero, suc, ◌+◌, ◌*◌, ◌≤◌, Bool, true, false, List, [], ◌∷◌, None, Some, refl, ap, ◌∙◌, arith}
+use Rattle.std.proofs.Common.{◌≡◌, ℕ, zero, suc, ◌+◌, ◌*◌, ◌≤◌, true, false, [], ◌∷◌, Some, refl, ap, ◌∙◌, arith}
 use Rattle.std.specs.Prelude.{nat_lt, nat_le}
 use Rattle.std.proofs.lemmas.Bool.{le-ltb, lt-leb}
 use Rattle.ep_defs.specs.Samples.{write_e}
 use Rattle.ep_model.specs.declared.step.Step.TheVariants as step
-use Rattle.ep_model.specs.Budget.{Pending}
 use Rattle.ep_model.specs.Chunks.{is_refused, refused, is_hand_full}
 use Rattle.ep_model.specs.Fold.{budget_of}
 use Rattle.ep_model.specs.History.{Past, config_of, accepted, is_present, has_left, opened, is_open, in_write, shows}
-use Rattle.ep_model.specs.Lawful.{IsLawful, objection_to, begins}
+use Rattle.ep_model.specs.Lawful.{IsLawful, begins}
 use Rattle.ep_model.specs.Schedules.{two_levels, config_with, one_small_chunk, writes_after, spent}
 use Rattle.ep_model.proofs.Counted.{refused-counted, hand-counted}
 

@@ -17,7 +17,7 @@ use Rattle.ep_model.specs.History.{Past, Begun, event_at, last_begun, shows}
 use Rattle.ep_model.specs.Entries.{has_stacks, event_entry, entry_if, entry_shown, pending}
 use Rattle.ep_model.specs.Faithful.{Contents, contents_of, events_in, events_of, is_kept, last_sighting, numbered}
 use Rattle.ep_model.proofs.Admitted.{numbered-append}
-use Rattle.ep_model.proofs.Numbers.{Runs, runs-push, runs-skip, runs-earlier, AreOwn, Sees, runs-sees, last-append}
+use Rattle.ep_model.proofs.Numbers.{Runs, runs-push, runs-skip, runs-earlier, AreOwn, runs-sees, last-append}
 
 -- ---- the thread's own events
 

@@ -1,11 +1,11 @@
 -- The tally of a session on a thread holds after each lawful past.
-use Rattle.std.proofs.Common.{◌≡◌, ℕ, ◌^◌, ◌<◌, Bool, true, false, cond, inl, inr, List, [], ◌∷◌, ◌++◌, map, filter, eqb, refl, ap, arith, zero-add}
-use Rattle.std.specs.Prelude.{◌&&◌, ◌||◌}
+use Rattle.std.proofs.Common.{◌≡◌, ℕ, ◌^◌, ◌<◌, Bool, true, false, cond, inl, inr, List, [], ◌∷◌, ◌++◌, map, filter, eqb, refl, arith, zero-add}
+use Rattle.std.specs.Prelude.{◌&&◌}
 use Rattle.std.specs.List.{list_any}
 use Rattle.std.proofs.lemmas.Bool.{and_parts, or_cases, or_parts, or_right, not-false, eqb-true, eq-eqb, ne_eqb, cases_Bool, cases_eq, false_from_ne_true}
 use Rattle.std.proofs.lemmas.List.{append-nil}
 use Rattle.ep_defs.specs.declared.event.EventDef.{EventDef}
-use Rattle.ep_defs.specs.Entry.{Entry, Event, Point}
+use Rattle.ep_defs.specs.Entry.{Event, Point}
 use Rattle.ep_model.specs.declared.step.Step.TheVariants as step
 use Rattle.ep_model.specs.Chunks.{is_refused, refused}
 use Rattle.ep_model.specs.Entries.{has_stacks, awaits_point, is_named, entries, pending, told_number, point_entry}

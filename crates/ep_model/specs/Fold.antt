@@ -1,5 +1,5 @@
 -- The chunk budget as code can follow it, step by step: a law says that it counts what `Chunks` says by places.
-use Rattle.std.specs.Prelude.{ℕ, ◌+◌, ◌-◌, Bool, ◌&&◌, not, List, [], ◌∷◌, nat_le, ◌==◌, if◌then◌else◌}
+use Rattle.std.specs.Prelude.{ℕ, ◌+◌, ◌-◌, Bool, ◌&&◌, [], ◌∷◌, nat_le, ◌==◌, if◌then◌else◌}
 use Rattle.ep_model.specs.declared.step.Step.TheVariants as step
 use Rattle.ep_model.specs.Budget.{Pending, no_pending, needs_chunk, chunks_begun, pending_with}
 use Rattle.ep_model.specs.Chunks.{chunks_of, shown_size}

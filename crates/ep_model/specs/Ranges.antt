@@ -1,5 +1,5 @@
 -- What the types of the code say of each step: its numbers have 32 bits, stamps 64, and a write's parts their own.
-use Rattle.std.specs.Prelude.{ℕ, ◌^◌, ◌<◌}
+use Rattle.std.specs.Prelude.{◌^◌, ◌<◌}
 use Rattle.ep_defs.specs.Ranges.{WriteFits}
 use Rattle.ep_model.specs.declared.step.Step.{Step}
 use Rattle.ep_model.specs.declared.step.Step.TheVariants as step

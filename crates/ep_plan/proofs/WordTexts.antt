@@ -19,9 +19,6 @@ pub record IsWord (text : List ℕ) : Type 0 where
 pub IsWord-number_text : (number : ℕ) → number < 2 ^ 64 → IsWord (number_text number)
 IsWord-number_text number small = record { some = number_text-some number small; no_space = number_text-lacks 32 number (omega arith) small }
 
-pub IsWord-hex_text : (number : ℕ) → number < 2 ^ 64 → IsWord (hex_text number)
-IsWord-hex_text number small = record { some = hex_text-some number small; no_space = hex_text-lacks 32 number (omega arith) small }
-
 pub IsWord-name : (name : List ℕ) → is_name name ≡ true → IsWord name
 IsWord-name name good = record {
   some = ltb-true 0 (length name) (and_parts (nat_lt 0 (length name)) (list_all is_name_byte name) good).0;

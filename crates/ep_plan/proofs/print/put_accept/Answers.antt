@@ -1,4 +1,4 @@
-use Rattle.std.proofs.Common.{◌≡◌, [], ◌∷◌, ◌++◌, map, codes, OnOk, sym, ap, ◌∙◌, subst, List, ℕ}
+use Rattle.std.proofs.Common.{◌≡◌, [], ◌∷◌, ◌++◌, map, codes, OnOk, sym, ◌∙◌, subst, List, ℕ}
 use Rattle.std.specs.List.{join_with_byte}
 use Rattle.ep_plan.specs.Words.{number_text, rule_text}
 use Rattle.ep_plan.proofs.Printed.{ok-line, accept-words, accept3-words}
