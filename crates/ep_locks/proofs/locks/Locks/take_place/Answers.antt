@@ -1,4 +1,4 @@
-use Rattle.std.proofs.Common.{rules, arith, ap}
+use Rattle.std.proofs.Common.{arith, ap}
 use Rattle.ep_locks.proofs.Turns.{tries_first}
 use Rattle.ep_locks.proofs.locks.Locks.take_place.Goals as goal
 
