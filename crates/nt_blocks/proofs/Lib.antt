@@ -1,4 +1,9 @@
 pub mod PutBlobs
 pub mod PutPieces
 pub mod Seeing
+pub mod Shorter
 pub mod Sizes
+pub mod TakeBlobs
+pub mod TakeLists
+pub mod TakeParts
+pub mod Turns

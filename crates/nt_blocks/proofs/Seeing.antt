@@ -1,5 +1,5 @@
 -- What ordered items say of a thread's numbers is what their entries say.
-use Rattle.std.proofs.Common.{◌≡◌, ℕ, zero, suc, Result, Ok, Err, Option, Some, None, List, [], ◌∷◌, ◌++◌, refl, sym, ap, ◌∙◌, append_assoc}
+use Rattle.std.proofs.Common.{◌≡◌, ℕ, Result, Ok, Err, Option, Some, None, List, [], ◌∷◌, ◌++◌, refl, sym, ap, ◌∙◌, append_assoc}
 use Rattle.std.proofs.lemmas.List.{append-nil}
 use Rattle.std.specs.List.{flat_map}
 use Rattle.ep_defs.specs.declared.item.ItemKind.{ItemKind}
@@ -15,7 +15,8 @@ pub bind_inv : {E A B : Type 0} (p : Result A E) (f : A → Result B E) (y : B) 
 bind_inv (Ok x) f y e = (x, refl, e)
 bind_inv (Err fault) f y e = absurd (cc)
 
-ok-same : {E A : Type 0} (x y : A) → ◌≡◌ {A = Result A E} (Ok x) (Ok y) → x ≡ y
+-- Answers that are the same have the same value.
+pub ok-same : {E A : Type 0} (x y : A) → ◌≡◌ {A = Result A E} (Ok x) (Ok y) → x ≡ y
 ok-same x y e = cc
 
 flat_map-append : (thread : ℕ) (a b : List Entry) → flat_map (sightings_in thread) (a ++ b) ≡ flat_map (sightings_in thread) a ++ flat_map (sightings_in thread) b

@@ -1,5 +1,5 @@
 -- How long stacks and their bodies are.
-use Rattle.std.proofs.Common.{◌≡◌, ℕ, zero, suc, ◌+◌, ◌^◌, ◌<◌, ◌≤◌, List, [], ◌∷◌, ◌++◌, length, get_or, take, arith, length-append, ◌∙◌}
+use Rattle.std.proofs.Common.{◌≡◌, ℕ, zero, suc, ◌^◌, ◌<◌, ◌≤◌, List, [], ◌∷◌, ◌++◌, length, get_or, arith, length-append, ◌∙◌}
 use Rattle.std.proofs.lemmas.List.{take-append-le, take_all}
 use Rattle.std.specs.List.{flat_map}
 use Rattle.std.specs.Int.{w32}

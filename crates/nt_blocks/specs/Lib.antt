@@ -5,6 +5,7 @@ pub mod Making
 pub mod Ordered
 pub mod Refusals
 pub mod Seen
+pub mod Taking
 pub mod Value
 pub mod Verdict
 pub mod state

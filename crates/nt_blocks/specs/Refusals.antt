@@ -13,7 +13,7 @@ use Rattle.nt_head.specs.Head.{zero_state}
 use Rattle.nt_head.specs.Reading.{head_at}
 use Rattle.nt_meta.specs.Reading.{meta_at}
 use Rattle.nt_blocks.specs.declared.limits.TheConstants.{HEADER_BYTES, LAST_COUNT}
-use Rattle.nt_blocks.specs.Each.{One, Many, each_at}
+use Rattle.nt_blocks.specs.Each.{One, each_at}
 
 -- Why bytes of a stream are refused.
 pub data Reason : Type 0 where

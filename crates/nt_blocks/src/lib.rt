@@ -1,21 +1,24 @@
-//! The bodies of blocks: event and metadata blocks in the making, and stacks and points that are put.
+//! The bodies of blocks, both ways: event and metadata blocks in the making, stacks and points that are put, and what is
+//! taken from a body.
 //!
-//! `blob_block` makes a body of blobs, `put` puts stacks and points, `laws` has what holds of the definitions alone, and
-//! `limits` the bounds.
+//! `blob_block` makes a body of blobs, `put` puts stacks and points, `take` takes a body of any kind, `laws` has what
+//! holds of the definitions alone, and `limits` the bounds.
 //! It stands on nt_object, for the kinds of blocks, nt_head, for the headers of blobs, and nt_meta, for definitions of
 //! events. What a body is stands in `specs/Bodies`, what is read in one, or refused at which place, in
 //! `specs/Refusals`; `specs/Drafts` has the bodies that are written, `specs/Ordered` which items may follow which.
 //!
-//! Its one contract: what is put is the body of what was added.
+//! Its one contract: what is put is the body of what was added, and what is taken is what is read in the body.
 #![tactic(auto)]
 
 mod blob_block;
 mod laws;
 pub mod limits;
 mod put;
+mod take;
 #[cfg(test)]
 mod tests;
 
 pub use blob_block::BlobBlock;
 pub use laws::items_have_the_gaps_of_their_entries;
 pub use put::{put_point, put_stacks};
+pub use take::{BodyFault, take_body};

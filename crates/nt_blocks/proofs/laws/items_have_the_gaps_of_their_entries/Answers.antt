@@ -1,4 +1,4 @@
-use Rattle.std.proofs.Common.{◌≡◌, ap}
+use Rattle.std.proofs.Common.{ap}
 use Rattle.ep_defs.specs.Gaps.{missing, last_number}
 use Rattle.nt_blocks.specs.Ordered.{no_names, kinds_of}
 use Rattle.nt_blocks.proofs.Seeing.{told-seen}

@@ -1,4 +1,4 @@
-use Rattle.std.proofs.Common.{◌≡◌, ◌<◌, ◌^◌, List, ℕ, length, subst, sym}
+use Rattle.std.proofs.Common.{◌<◌, ◌^◌, List, ℕ, length, subst, sym}
 use Rattle.nt_blocks.proofs.PutPieces.{Keeps-trans, on_error}
 use Rattle.nt_blocks.proofs.Sizes.{stack-fits, keeps_three}
 use Rattle.nt_blocks.proofs.put.append_stacks.Goals as goal

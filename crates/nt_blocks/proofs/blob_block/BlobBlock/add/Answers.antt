@@ -1,8 +1,7 @@
-use Rattle.std.proofs.Common.{◌≡◌, List, [], length, refl, ap, sym, subst, ◌∙◌, arith}
+use Rattle.std.proofs.Common.{◌≡◌, [], length, refl, ap, sym, subst, ◌∙◌}
 use Rattle.std.proofs.lemmas.Bool.{false≢true}
-use Rattle.nt_head.specs.Head.{zero_state}
 use Rattle.nt_blocks.specs.Value.{Making}
-use Rattle.nt_blocks.specs.Drafts.{Draft, drafts_bytes}
+use Rattle.nt_blocks.specs.Drafts.{Draft}
 use Rattle.nt_blocks.specs.Making.{IsMaking}
 use Rattle.nt_blocks.proofs.PutBlobs.{none_exactly, first_stamps, later_stamps, made_more}
 use Rattle.nt_blocks.proofs.blob_block.BlobBlock.add.Goals as goal

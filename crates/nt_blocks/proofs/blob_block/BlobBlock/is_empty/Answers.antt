@@ -1,4 +1,4 @@
-use Rattle.std.proofs.Common.{◌≡◌, length, ap, ◌∙◌, arith}
+use Rattle.std.proofs.Common.{◌≡◌, length, ap, ◌∙◌}
 use Rattle.nt_head.specs.Head.{zero_state}
 use Rattle.nt_blocks.specs.Value.{Making}
 use Rattle.nt_blocks.specs.Drafts.{drafts_bytes}
