@@ -37,7 +37,7 @@ impl Chain {
         }
     }
 
-    /// A chain of one chunk. On want of memory the chunk comes back.
+    /// A chain of one chunk. Out of memory, it hands the chunk back.
     pub fn one(alloc: Global, chunk: Chunk) -> Result<Chain, Chunk>
         ensures ok { IfOk result (λ chain. chain ≡ chunk ∷ []) }
         ensures err { IfErr result (λ back. back ≡ chunk) }

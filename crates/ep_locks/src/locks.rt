@@ -31,7 +31,7 @@ impl<T, P: Guards<T>> Model for Locks<T, P> {
 }
 
 impl<T: Drop, P: Guards<T>> Locks<T, P> {
-    /// A lock for each value, by its place in the list. On want of memory the values are dropped. It waits for nobody.
+    /// A lock for each value, by its place in the list. Out of memory, it drops the values. It waits for nobody.
     pub fn new(alloc: Global, values: Vec<T>) -> Result<Locks<T, P>, AllocError>
         requires { (k : ℕ) (value : T) → slice_get values.items k ≡ Some value → P.holds k value }
         ensures { IfOk result (λ locks. locks.count ≡ vec_len values) }

@@ -63,7 +63,7 @@ impl<T: Drop + Send + Sync> Shelf<T> {
         })
     }
 
-    /// Places a value at an index of its own, and gives a token of it. On want of memory, or where every index below
+    /// Places a value at an index of its own, and gives a token of it. Out of memory, or where every index below
     /// 2^63 - 32 was given out, the value comes back. It may wait while another thread stores the memory that the value
     /// goes to.
     pub fn place<R: Wait>(&self, rt: &R, value: T) -> Result<Token<T>, T>

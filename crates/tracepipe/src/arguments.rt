@@ -9,7 +9,7 @@ use std::io::ErrorKind;
 use std::rt::Env;
 
 /// The words of the command line without the program's name. Where one of them is no UTF-8 there are none, so that they
-/// are refused as words. It fails for want of memory alone.
+/// are refused as words. It fails only where it is out of memory.
 pub fn words(rt: &(impl Env + AllocGlobal)) -> Result<Vec<String>, AllocError> {
     match env::args(rt) {
         Ok(all) => without_name(rt.alloc(), all),
@@ -18,7 +18,7 @@ pub fn words(rt: &(impl Env + AllocGlobal)) -> Result<Vec<String>, AllocError> {
     }
 }
 
-/// All but the first of the arguments, which is the program's name. It fails for want of memory alone.
+/// All but the first of the arguments, which is the program's name. It fails only where it is out of memory.
 fn without_name(alloc: Global, mut all: Args) -> Result<Vec<String>, AllocError>
     ensures { IfOk result (λ words. words.items ≡ drop 1 (into_iter_items all)) }
 {
