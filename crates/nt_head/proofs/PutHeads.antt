@@ -1,8 +1,17 @@
 -- The fields of a header, one after another.
-use Rattle.std.proofs.Common.{◌≡◌, ℕ, Bool, true, false, is_some, List, [], ◌∷◌, ◌++◌, refl, append_assoc}
+use Rattle.std.proofs.Common.{◌≡◌, ℕ, ◌+◌, ◌-◌, ◌%◌, ◌^◌, Bool, true, false, eqb, nat_eq, is_some, List, [], ◌∷◌, ◌++◌, refl, sym, ap, ◌∙◌, append_assoc}
 use Rattle.std.proofs.lemmas.List.{append-nil}
 use Rattle.std.specs.Bool.{then_some}
 use Rattle.std.specs.List.{concat}
+use Rattle.std.specs.Prelude.{not}
+use Rattle.std.specs.Int.{w32, w64}
+use Rattle.std.specs.Cmp.Lexicographic.{pointwise}
+use Rattle.std.proofs.lemmas.Bool.{and_parts}
+use Rattle.pt_num.specs.Numbers.{short_var}
+use Rattle.nt_head.specs.declared.head.HeadState.{HeadState}
+use Rattle.nt_head.specs.Head.{HeadFields, flag_byte}
+use Rattle.nt_head.specs.Head.{flag as worth_of}
+use Rattle.nt_head.specs.Fewest.{fewest_fields, has_sequence, head_bytes, if_there, keeps_fields, sequence_bytes, sequence_of}
 
 -- A value is there where its test holds.
 pub is_some-then_some : {A : Type 0} (there : Bool) (value : A) → is_some (then_some there value) ≡ there
@@ -13,3 +22,53 @@ is_some-then_some false value = refl
 pub nine_put : (old o1 o2 o3 o4 o5 o6 o7 o8 p1 p2 p3 p4 p5 p6 p7 p8 : List ℕ) (b : ℕ) → o1 ≡ old ++ b ∷ [] → o2 ≡ o1 ++ p1 → o3 ≡ o2 ++ p2 → o4 ≡ o3 ++ p3 → o5 ≡ o4 ++ p4 → o6 ≡ o5 ++ p5 → o7 ≡ o6 ++ p6 → o8 ≡ o7 ++ p7 → o8 ++ p8 ≡ old ++ concat ((b ∷ []) ∷ p1 ∷ p2 ∷ p3 ∷ p4 ∷ p5 ∷ p6 ∷ p7 ∷ p8 ∷ [])
 nine_put old o1 o2 o3 o4 o5 o6 o7 o8 p1 p2 p3 p4 p5 p6 p7 p8 b e1 e2 e3 e4 e5 e6 e7 e8 =
     rw (e8, e7, e6, e5, e4, e3, e2, e1) (simp (append_assoc, append-nil))
+
+-- A byte and a piece that are put in turn, which are these bytes.
+pub two_put : (old o1 new piece whole : List ℕ) (b : ℕ) {c : ℕ} → o1 ≡ old ++ b ∷ [] → new ≡ o1 ++ piece → b ≡ c → whole ≡ c ∷ piece → new ≡ old ++ whole
+two_put old o1 new piece whole b e0 e1 byte e2 = rw (e1, e0, e2, ← byte) (simp append_assoc)
+
+-- A field that is not new is not there.
+none_there : {A : Type 0} (bytes_of : A → List ℕ) (set : Bool) (x : A) → set ≡ false → if_there bytes_of (then_some set x) ≡ []
+none_there bytes_of set x none = rw none refl
+
+-- A test that doesn't pass, of what is new.
+not_new : (same : Bool) → same ≡ true → not same ≡ false
+not_new same is = rw is refl
+
+-- A test whose opposite passes.
+opposite : (test : Bool) → not test ≡ true → test ≡ false
+opposite true is = sym is
+opposite false is = refl
+
+-- Nine pieces, all but the first and the sixth of which are empty.
+two_left : (byte p1 p2 p3 p4 stamp p6 p7 p8 : List ℕ) → p1 ≡ [] → p2 ≡ [] → p3 ≡ [] → p4 ≡ [] → p6 ≡ [] → p7 ≡ [] → p8 ≡ [] → concat (byte ∷ p1 ∷ p2 ∷ p3 ∷ p4 ∷ stamp ∷ p6 ∷ p7 ∷ p8 ∷ []) ≡ byte ++ stamp
+two_left byte p1 p2 p3 p4 stamp p6 p7 p8 e1 e2 e3 e4 e6 e7 e8 = rw (e1, e2, e3, e4, e6, e7, e8) (ap (λ (bs : List ℕ). byte ++ bs) (append-nil stamp))
+
+-- Seven flags that are not set, and one.
+one_flag : (a b c d e f h g : Bool) → a ≡ false → b ≡ false → c ≡ false → d ≡ false → e ≡ false → f ≡ false → h ≡ false → worth_of 1 a + worth_of 2 b + worth_of 4 c + worth_of 8 d + worth_of 16 e + worth_of 32 f + worth_of 64 g + worth_of 128 h ≡ worth_of 64 g
+one_flag a b c d e f h true ea eb ec ed ee ef eh = rw (ea, eb, ec, ed, ee, ef, eh) refl
+one_flag a b c d e f h false ea eb ec ed ee ef eh = rw (ea, eb, ec, ed, ee, ef, eh) refl
+
+-- Where no field is new the header is the flag byte and the stamp's increment.
+pub nothing_new : (before now : HeadState) → keeps_fields before now ≡ true → head_bytes before now ≡ worth_of 64 now.sorted ∷ short_var w64 ((now.stamp + 2 ^ 64 - before.stamp) % 2 ^ 64)
+nothing_new before now keeps =
+    let fields : HeadFields = fewest_fields before now in
+    let sizes = and_parts _ (eqb before.size now.size) keeps in
+    let relateds = and_parts _ (pointwise nat_eq before.related now.related) sizes.0 in
+    let activities = and_parts _ (pointwise nat_eq before.activity now.activity) relateds.0 in
+    let stacks = and_parts _ (eqb before.stack now.stack) activities.0 in
+    let threads = and_parts _ (eqb before.thread now.thread) stacks.0 in
+    let parts = and_parts (eqb before.metadata now.metadata) (not (has_sequence before now)) threads.0 in
+    let metadata = not_new (eqb before.metadata now.metadata) parts.0 in
+    let sequence = opposite (has_sequence before now) parts.1 in
+    let thread = not_new (eqb before.thread now.thread) threads.1 in
+    let stack = not_new (eqb before.stack now.stack) stacks.1 in
+    let activity = not_new (pointwise nat_eq before.activity now.activity) activities.1 in
+    let related = not_new (pointwise nat_eq before.related now.related) relateds.1 in
+    let size = not_new (eqb before.size now.size) sizes.1 in
+    let byte : flag_byte fields ≡ worth_of 64 now.sorted =
+    one_flag _ _ _ _ _ _ _ now.sorted
+    (is_some-then_some _ now.metadata ∙ metadata) (is_some-then_some _ (sequence_of before now) ∙ sequence) (is_some-then_some _ now.thread ∙ thread) (is_some-then_some _ now.stack ∙ stack) (is_some-then_some _ now.activity ∙ activity) (is_some-then_some _ now.related ∙ related) (is_some-then_some _ now.size ∙ size) in
+    two_left (flag_byte fields ∷ []) (if_there (short_var w32) fields.metadata) (if_there sequence_bytes fields.sequence) (if_there (short_var w64) fields.thread) (if_there (short_var w32) fields.stack) (short_var w64 fields.stamp_increment) (if_there (λ id. id) fields.activity) (if_there (λ id. id) fields.related) (if_there (short_var w32) fields.size)
+    (none_there (short_var w32) _ now.metadata metadata) (none_there sequence_bytes _ (sequence_of before now) sequence) (none_there (short_var w64) _ now.thread thread) (none_there (short_var w32) _ now.stack stack) (none_there (λ id. id) _ now.activity activity) (none_there (λ id. id) _ now.related related) (none_there (short_var w32) _ now.size size)
+    ∙ ap (λ (b : ℕ). b ∷ short_var w64 fields.stamp_increment) byte

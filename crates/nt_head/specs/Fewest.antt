@@ -50,6 +50,17 @@ fewest_fields before now =
       size = if_new nat_eq before.size now.size;
     }
 
+-- For private functions: no field that may be absent is new.
+abbrev pub keeps_fields : HeadState → HeadState → Bool
+keeps_fields before now =
+    (before.metadata == now.metadata)
+    && not (has_sequence before now)
+    && (before.thread == now.thread)
+    && (before.stack == now.stack)
+    && pointwise nat_eq before.activity now.activity
+    && pointwise nat_eq before.related now.related
+    && (before.size == now.size)
+
 -- The bytes of a field that may be absent.
 abbrev pub if_there : {A : Type 0} → (A → List ℕ) → Option A → List ℕ
 if_there bytes_of field = option_map_or bytes_of field []

@@ -1,10 +1,10 @@
 //! Writing a header.
-ghost use Rattle.std.specs.Prelude.{◌≡◌, ◌+◌, ◌≤◌, ◌++◌, length, nat_eq, IsOk, IfOk, OnOk, OnErr, vec_len, vec_capacity};
+ghost use Rattle.std.specs.Prelude.{◌≡◌, ◌+◌, ◌-◌, ◌%◌, ◌^◌, ◌≤◌, ◌++◌, length, nat_eq, IsOk, IfOk, OnOk, OnErr, vec_len, vec_capacity};
 ghost use Rattle.std.specs.Int.{w32, w64};
 ghost use Rattle.std.specs.Bool.{then_some};
 ghost use Rattle.std.specs.Cmp.Lexicographic.{pointwise};
 ghost use Rattle.pt_num.specs.Numbers.{short_var};
-ghost use Rattle.nt_head.specs.Fewest.{has_sequence, head_bytes, if_there, sequence_bytes, sequence_of, KeepsSequence};
+ghost use Rattle.nt_head.specs.Fewest.{has_sequence, head_bytes, if_there, keeps_fields, sequence_bytes, sequence_of, KeepsSequence};
 ghost use Rattle.nt_head.specs.Head.{IsHead};
 ghost use Rattle.nt_head.specs.Head.{flag as worth_of};
 
@@ -50,6 +50,23 @@ pub fn push_head(out: &mut Vec<u8>, previous: &HeadState, now: &HeadState)
     ensures len { vec_len out.new ≤ vec_len out.old + HEAD_BYTES }
     ensures capacity { vec_capacity out.new ≡ vec_capacity out.old }
 {
+    // The usual blob follows an event of the same thread: it has a flag byte and the stamp's increment.
+    if says_nothing_new(previous, now) {
+        out.push_reserved(flag(64, now.sorted));
+        push_stamp(out, previous, now);
+    } else {
+        push_fields(out, previous, now);
+    }
+}
+
+// Appends the flag byte and the fields that are new.
+#[inline(never)]
+fn push_fields(out: &mut Vec<u8>, previous: &HeadState, now: &HeadState)
+    requires { vec_len out.old + HEAD_BYTES ≤ vec_capacity out.old }
+    ensures items { out.new.items ≡ out.old.items ++ head_bytes previous.now now.now }
+    ensures len { vec_len out.new ≤ vec_len out.old + HEAD_BYTES }
+    ensures capacity { vec_capacity out.new ≡ vec_capacity out.old }
+{
     let metadata = previous.metadata != now.metadata;
     let sequence = has_sequence(previous, now);
     let thread = previous.thread != now.thread;
@@ -71,10 +88,24 @@ pub fn push_head(out: &mut Vec<u8>, previous: &HeadState, now: &HeadState)
     push_sequence(out, sequence, previous, now);
     push_new64(out, thread, now.thread);
     push_new32(out, stack, now.stack);
-    push_var64(out, now.stamp.wrapping_sub(previous.stamp));
+    push_stamp(out, previous, now);
     push_new_id(out, activity, &now.activity);
     push_new_id(out, related, &now.related);
     push_new32(out, size, now.size);
+}
+
+// Whether the blob says what the blob before it says, but for the stamp and the next number.
+#[inline(always)]
+fn says_nothing_new(previous: &HeadState, now: &HeadState) -> bool
+    ensures { result ≡ keeps_fields previous.now now.now }
+{
+    previous.metadata == now.metadata
+        && !has_sequence(previous, now)
+        && previous.thread == now.thread
+        && previous.stack == now.stack
+        && is_same_id(&previous.activity, &now.activity)
+        && is_same_id(&previous.related, &now.related)
+        && previous.size == now.size
 }
 
 // Whether the number, the capture thread or the processor has to be said after the previous header.
@@ -124,6 +155,17 @@ fn push_new64(out: &mut Vec<u8>, there: bool, value: u64)
     if there {
         push_var64(out, value);
     }
+}
+
+// The stamp's increment.
+#[inline(always)]
+fn push_stamp(out: &mut Vec<u8>, previous: &HeadState, now: &HeadState)
+    requires { vec_len out.old + 10 ≤ vec_capacity out.old }
+    ensures items { out.new.items ≡ out.old.items ++ short_var w64 ((now.now.stamp + 2 ^ 64 - previous.now.stamp) % 2 ^ 64) }
+    ensures len { vec_len out.new ≤ vec_len out.old + 10 }
+    ensures capacity { vec_capacity out.new ≡ vec_capacity out.old }
+{
+    push_var64(out, now.stamp.wrapping_sub(previous.stamp));
 }
 
 #[inline(always)]
