@@ -2,7 +2,7 @@
 use Rattle.std.proofs.Common.{◌≡◌, ℕ, Option, Some, List, ap, subst}
 use Rattle.ep_defs.specs.declared.event.EventDef.{EventDef}
 use Rattle.ep_defs.specs.declared.session.TraceInfo.{TraceInfo}
-use Rattle.nt_write.specs.Ordered.{kinds_of}
+use Rattle.nt_blocks.specs.Ordered.{kinds_of}
 use Rattle.nt_write.specs.Canonical.{IsCanonical}
 use Rattle.ep_model.specs.History.{Past}
 use Rattle.ep_model.specs.today.Entries.{entries}

@@ -5,27 +5,11 @@ use Rattle.std.proofs.lemmas.List.{map-append, take_more, append-nil}
 use Rattle.ep_defs.specs.declared.event.EventDef.{EventDef}
 use Rattle.ep_defs.specs.declared.session.Write.{Write}
 use Rattle.ep_defs.specs.Entry.{EventEntry, Event}
-use Rattle.ep_defs.specs.Definitions.{AreDistinct}
-use Rattle.ep_defs.proofs.Sameness.{distinct-same}
-use Rattle.nt_write.specs.Writing.{AreDistinct as AreWriters, definition_at}
 use Rattle.ep_model.specs.History.{Past, Begun, event_at}
 use Rattle.ep_model.specs.today.Entries.{event_entry, entry_if, told_number}
 use Rattle.ep_core.specs.declared.buffer.Shown.{Shown}
 use Rattle.ep_core.specs.declared.buffer.Buffer.{Buffer}
 use Rattle.ep_core.specs.Machine.{shown_entries, thread_of, told_of, BufferFollows}
-
--- A definition's number is its place.
-pub definition_same : (events : List EventDef) (number : ℕ) → definition_at events number ≡ event_at events number
-definition_same events zero = refl
-definition_same events (suc place) = refl
-
--- Different definitions are distinct to the writer.
-pub distinct_events : (events : List EventDef) → length events ≤ 1000 → AreDistinct (event_at events) → AreWriters events
-distinct_events events few distinct =
-    record {
-      few = omega arith;
-      distinct = λ i j a b at_i at_j same. distinct-same (event_at events) distinct i j a b (sym (definition_same events i) ∙ at_i) (sym (definition_same events j) ∙ at_j) same;
-    }
 
 -- The entries of a write whose event is not defined, or is.
 pub no_entry : (events : List EventDef) (thread number : ℕ) (begun : Begun) → event_at events begun.write.event ≡ None → entry_if thread number begun (event_at events begun.write.event) ≡ []

@@ -6,7 +6,7 @@ use Rattle.ep_defs.specs.declared.item.Item.{Item}
 use Rattle.ep_defs.specs.declared.item.ItemKind.{ItemKind}
 use Rattle.ep_defs.specs.declared.item.ItemKind.TheVariants as item
 use Rattle.ep_defs.specs.Entry.{Entry}
-use Rattle.nt_write.specs.Ordered.{kinds_of, Tell}
+use Rattle.nt_blocks.specs.Ordered.{kinds_of, Tell}
 use Rattle.nt_write.specs.Canonical.{is_trace, is_plain}
 use Rattle.ep_model.specs.today.Faithful.{Share, totals, AreFaithful}
 

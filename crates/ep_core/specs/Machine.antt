@@ -94,7 +94,7 @@ pub record BufferFollows (events : List EventDef) (past : Past) (session : ℕ) 
 -- The writer stands for these entries, and has not failed.
 abbrev pub IsTelling : List EventDef → TraceInfo → List Entry → TraceWriter SinkState → Type 0
 IsTelling events info entries writer =
-    IsWriting (λ (s : SinkState). true) (λ (s : SinkState). s.taken) [] events info entries writer
+    IsWriting (λ (s : SinkState). true) (λ (s : SinkState). s.taken) [] (event_at events) info entries writer
 
 -- The session stands for what the past says of it.
 pub record LiveFollows (events : List EventDef) (info : TraceInfo) (past : Past) (live : Live) : Type 0 where

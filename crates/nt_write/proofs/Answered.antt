@@ -1,6 +1,6 @@
 -- What a call answered.
 use Rattle.std.proofs.Common.{◌≡◌, Ok, Err, None}
-use Rattle.std.specs.Prelude.{Option, Result, IfOk, OnOk, OnErr}
+use Rattle.std.specs.Prelude.{Option, Result, OnOk, OnErr}
 use Rattle.std.specs.Result.{result_err}
 
 -- What holds anyway holds on an error.
@@ -18,22 +18,12 @@ pub on_ok-then : {A E P Q : Type 0} (r : Result A E) → (P → Q) → OnOk r P 
 on_ok-then (Ok x) f p = f p
 on_ok-then (Err e) f p = tt
 
--- What follows of the value.
-pub if_ok-then : {A E : Type 0} (P Q : A → Type 0) (r : Result A E) → ((x : A) → P x → Q x) → IfOk r P → IfOk r Q
-if_ok-then P Q (Ok x) f p = f x p
-if_ok-then P Q (Err e) f p = tt
-
 -- What follows of two facts on success.
 pub on_ok-both : {A E P Q R : Type 0} (r : Result A E) → (P → Q → R) → OnOk r P → OnOk r Q → OnOk r R
 on_ok-both (Ok x) f p q = f p q
 on_ok-both (Err e) f p q = tt
 
--- On success no fault is kept.
-pub on_ok-fault : {A E P Q : Type 0} (r : Result A E) (fault : Option E) → fault ≡ result_err r → (fault ≡ None → P → Q) → OnOk r P → OnOk r Q
-on_ok-fault (Ok x) fault e f p = f e p
-on_ok-fault (Err x) fault e f p = tt
-
--- The same of two facts.
+-- On success no fault is kept, and what follows of two facts.
 pub on_ok-fault-both : {A E P Q R : Type 0} (r : Result A E) (fault : Option E) → fault ≡ result_err r → (fault ≡ None → P → Q → R) → OnOk r P → OnOk r Q → OnOk r R
 on_ok-fault-both (Ok x) fault e f p q = f e p q
 on_ok-fault-both (Err x) fault e f p q = tt

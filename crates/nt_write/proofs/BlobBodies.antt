@@ -1,7 +1,8 @@
 -- A body that is made of drafts is a body of blobs.
-use Rattle.std.proofs.Common.{◌≡◌, ℕ, ◌+◌, ◌^◌, ◌<◌, ◌≤◌, List, [], ◌∷◌, ◌++◌, length, refl, ap, sym, ◌∙◌, arith, length-append}
+use Rattle.std.proofs.Common.{◌≡◌, ℕ, zero, suc, ◌+◌, ◌^◌, ◌<◌, ◌≤◌, List, [], ◌∷◌, ◌++◌, length, refl, ap, sym, ◌∙◌, arith, length-append}
 use Rattle.std.proofs.lemmas.List.{append-nil}
-use Rattle.std.specs.Prelude.{map}
+use Rattle.std.specs.Prelude.{map, replicate}
+use Rattle.std.proofs.lemmas.List.Elements.{All-nil}
 use Rattle.std.specs.List.{concat, flat_map, AllByRecursion}
 use Rattle.std.specs.Int.{w16, w32, w64}
 use Rattle.ep_defs.specs.declared.event.EventDef.{EventDef}
@@ -11,13 +12,14 @@ use Rattle.ep_defs.specs.declared.item.ItemKind.TheVariants as item
 use Rattle.nt_head.specs.declared.head.HeadState.{HeadState}
 use Rattle.pt_num.specs.Numbers.{fixed}
 use Rattle.nt_head.specs.Head.{IsState, zero_state}
-use Rattle.nt_write.specs.Meta.{meta_payload}
-use Rattle.nt_write.specs.Bodies.{Blob, blob_bytes, AreChained, HoldsEvent, HoldsMeta, AreItems, IsBlobBody}
-use Rattle.nt_write.specs.Ordered.{kinds_of}
-use Rattle.nt_write.specs.Layout.{Draft, drafts_bytes, stamps, least, greatest, blob_body, meta_draft, meta_drafts}
+use Rattle.nt_meta.specs.Meta.{meta_payload}
+use Rattle.nt_blocks.specs.Bodies.{Blob, blob_bytes, AreChained, HoldsEvent, HoldsMeta, AreItems, IsBlobBody}
+use Rattle.nt_blocks.specs.Ordered.{kinds_of}
+use Rattle.nt_blocks.specs.Drafts.{Draft, drafts_bytes, stamps, least, greatest, blob_body, meta_draft, meta_drafts}
 use Rattle.nt_head.specs.Fewest.{head_bytes}
 use Rattle.nt_write.specs.Writable.{CanDefine}
 use Rattle.nt_head.proofs.Heads.{MayFollow, head-is, head-len}
+use Rattle.nt_write.proofs.Bytes.{AreLow, IsLow, bytes-of, low-meta, low-body}
 
 -- ---- blobs
 
@@ -73,8 +75,8 @@ kinds-at Holds at (blob ∷ blobs) [] h = absurd h
 kinds-at Holds at (blob ∷ blobs) (kind ∷ kinds) h = ap (λ (ks : List ItemKind). kind ∷ ks) (kinds-at Holds (at + length (blob_bytes blob)) blobs kinds h.1)
 
 -- A body of drafts that may be chained.
-pub blob_body-is : (Holds : Blob → ItemKind → Type 0) (at : ℕ) (drafts : List Draft) (kinds : List ItemKind) → CanChain zero_state drafts → HoldEach Holds (blobs_of zero_state drafts) kinds → IsBlobBody Holds at (items_at (at + 20) (blobs_of zero_state drafts) kinds) (blob_body drafts)
-blob_body-is Holds at drafts kinds can hold = record {
+pub blob_body-is : (Holds : Blob → ItemKind → Type 0) (at : ℕ) (drafts : List Draft) (kinds : List ItemKind) → CanChain zero_state drafts → AllByRecursion IsLow drafts → HoldEach Holds (blobs_of zero_state drafts) kinds → IsBlobBody Holds at (items_at (at + 20) (blobs_of zero_state drafts) kinds) (blob_body drafts)
+blob_body-is Holds at drafts kinds can low hold = record {
   flags = 1;
   least = least (stamps drafts);
   greatest = greatest (stamps drafts);
@@ -85,6 +87,7 @@ blob_body-is Holds at drafts kinds can hold = record {
   compressed = refl;
   chained = chain-is zero_state drafts can;
   hold = items-are Holds (at + 20) (blobs_of zero_state drafts) kinds hold;
+  bytes_fit = bytes-of (blob_body drafts) (low-body zero_state drafts low);
 }
 
 -- ---- lengths
@@ -157,12 +160,18 @@ pub record IsEventDraft (draft : Draft) : Type 0 where
   pub fits : IsState draft.state
   pub some : 0 < draft.state.metadata
   pub size : length draft.payload ≡ draft.state.size
+  pub low : IsLow draft
 
 -- Drafts of events may be chained after any blob whose stamp fits.
 pub events-chain : (before : HeadState) (drafts : List Draft) → before.stamp < 2 ^ 64 → AllByRecursion IsEventDraft drafts → CanChain before drafts
 events-chain before [] b h = tt
 events-chain before (draft ∷ drafts) b h =
     (record { fits = h.0.fits; stamp = b; number = λ z. absurd (omega (arith, h.0.some)) }, h.0.size, events-chain draft.state drafts h.0.fits.stamp h.1)
+
+-- They are bytes.
+pub events-low : (drafts : List Draft) → AllByRecursion IsEventDraft drafts → AllByRecursion IsLow drafts
+events-low [] h = tt
+events-low (draft ∷ drafts) h = (h.0.low, events-low drafts h.1)
 
 -- Their blobs hold the events.
 pub events-hold : (before : HeadState) (drafts : List Draft) → AllByRecursion IsEventDraft drafts → HoldEach HoldsEvent (blobs_of before drafts) (map event_kind drafts)
@@ -207,10 +216,23 @@ metas-chain before id (def ∷ defs) stamp number h = (
   metas-chain (meta_draft id def).state (id + 1) defs refl refl h.1,
 )
 
+-- Zeros are bytes.
+low-zeros : (n : ℕ) → AreLow (replicate n 0)
+low-zeros zero = tt
+low-zeros (suc n) = (omega arith, low-zeros n)
+
+-- They are bytes.
+pub metas-low : (id : ℕ) (defs : List EventDef) → AllByRecursion IsLow (meta_drafts id defs)
+metas-low id [] = tt
+metas-low id (def ∷ defs) = (record { activity = zeros; related = zeros; payload = low-meta id def }, metas-low (id + 1) defs)
+  where
+    zeros : AreLow zero_state.activity
+    zeros = low-zeros 16
+
 -- Their blobs hold the definitions, where the ids fit.
 pub metas-hold : (before : HeadState) (id : ℕ) (defs : List EventDef) → 0 < id → id + length defs ≤ 2 ^ 31 → AllByRecursion CanDefine defs → HoldEach HoldsMeta (blobs_of before (meta_drafts id defs)) (meta_kinds id defs)
 metas-hold before id [] some few h = tt
 metas-hold before id (def ∷ defs) some few h = (
-  (id, def, record { more = []; spelled = sym (append-nil (meta_payload id def)); not_zero = some; id_fits = omega arith; def_fits = h.0.fits }, refl),
+  (id, def, record { more = []; spelled = sym (append-nil (meta_payload id def)); not_zero = some; id_fits = omega arith; def_fits = h.0.fits; more_bytes = All-nil (λ byte. byte < 2 ^ 8) }, refl),
   metas-hold (meta_draft id def).state (id + 1) defs (omega arith) (omega arith) h.1,
 )

@@ -12,11 +12,12 @@ use Rattle.pt_num.specs.Numbers.{fixed}
 use Rattle.nt_object.specs.Object.{Block, block_bytes, padding_begins, to_multiple_of_4, CanStand}
 use Rattle.nt_object.specs.Stream.{start_len, blocks_bytes, CanFollow}
 use Rattle.nt_write.specs.Trace.{body_begins, BlocksHold}
-use Rattle.nt_write.specs.Bodies.{IsBody, stack_bytes, stack_body, stack_items, IsStackBody, thread_bytes, point_body, IsPointBody}
+use Rattle.nt_blocks.specs.Bodies.{IsBody, stack_bytes, stack_body, stack_items, IsStackBody, thread_bytes, point_body, IsPointBody}
 use Rattle.ep_defs.specs.Entry.{PointEntry}
-use Rattle.nt_write.specs.Ordered.{kinds_of}
+use Rattle.nt_blocks.specs.Ordered.{kinds_of}
 use Rattle.nt_write.specs.Layout.{with_block}
-use Rattle.nt_write.specs.Writable.{CanPoint}
+use Rattle.nt_write.specs.Writable.{CanPoint, IsStack}
+use Rattle.nt_write.proofs.Bytes.{AreLow, bytes-of, low-of, low-stack_body, low-point_body}
 use Rattle.nt_write.proofs.BlobBodies.{fixed_len-32, fixed_len-64}
 
 -- ---- a block more
@@ -101,6 +102,7 @@ point-is at point h = record {
   count_fits = omega (arith, h.few);
   threads_fit = h.fit;
   hold = refl;
+  bytes_fit = bytes-of (point_body point.stamp point.threads) (low-point_body point.stamp point.threads);
 }
 
 -- ---- stacks
@@ -116,7 +118,7 @@ stack-kinds at id [] = refl
 stack-kinds at id (stack ∷ stacks) = ap (λ (ks : List ItemKind). item.Stack id stack ∷ ks) (stack-kinds (at + length (stack_bytes stack)) (id + 1) stacks)
 
 -- Stacks whose ids fit are the body of a stack block.
-pub stacks-are : (at first : ℕ) (stacks : List (List ℕ)) → 0 < first → first + length stacks ≤ 2 ^ 31 → 0 < length stacks → AllByRecursion (λ stack. length stack ≤ 800) stacks → IsStackBody at (stack_items (at + 8) first stacks) (stack_body first stacks)
+pub stacks-are : (at first : ℕ) (stacks : List (List ℕ)) → 0 < first → first + length stacks ≤ 2 ^ 31 → 0 < length stacks → AllByRecursion IsStack stacks → IsStackBody at (stack_items (at + 8) first stacks) (stack_body first stacks)
 stacks-are at first stacks one few some short = record {
   first = first;
   stacks = stacks;
@@ -125,11 +127,16 @@ stacks-are at first stacks one few some short = record {
   count_fits = omega arith;
   sizes_fit = sizes stacks short;
   hold = refl;
+  bytes_fit = bytes-of (stack_body first stacks) (low-stack_body first stacks (lows stacks short));
 }
   where
-    sizes : (xs : List (List ℕ)) → AllByRecursion (λ stack. length stack ≤ 800) xs → AllByRecursion (λ stack. length stack < 2 ^ 32) xs
+    sizes : (xs : List (List ℕ)) → AllByRecursion IsStack xs → AllByRecursion (λ stack. length stack < 2 ^ 32) xs
     sizes [] h = tt
-    sizes (x ∷ xs) h = (omega (arith, h.0), sizes xs h.1)
+    sizes (x ∷ xs) h = (omega (arith, h.0.short), sizes xs h.1)
+
+    lows : (xs : List (List ℕ)) → AllByRecursion IsStack xs → AllByRecursion AreLow xs
+    lows [] h = tt
+    lows (x ∷ xs) h = (low-of x h.0.bytes, lows xs h.1)
 
 -- The length of what one member more adds at the end.
 flat_map-len-more : {A : Type 0} (f : A → List ℕ) (xs : List A) (x : A) → length (flat_map f (xs ++ x ∷ [])) ≡ length (flat_map f xs) + length (f x)

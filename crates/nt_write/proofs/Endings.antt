@@ -7,7 +7,7 @@ use Rattle.ep_defs.specs.declared.item.ItemKind.{ItemKind}
 use Rattle.ep_defs.specs.declared.item.ItemKind.TheVariants as item
 use Rattle.nt_object.specs.Object.{Block}
 use Rattle.ep_defs.specs.Entry.{EventEntry, PointEntry, Entry, Event, Point}
-use Rattle.nt_write.specs.Ordered.{Names, kinds_of}
+use Rattle.nt_blocks.specs.Ordered.{Names, kinds_of}
 use Rattle.nt_write.specs.Layout.{Layout, flushed, with_point, with_entry, with_entries}
 use Rattle.nt_write.specs.Writable.{CanTell, StacksFit}
 use Rattle.nt_write.proofs.Told.{AreTold, point-told, point-last}

@@ -1,115 +1,187 @@
 -- A writer entry by entry, and the stream that it makes.
-use Rattle.std.proofs.Common.{◌≡◌, ℕ, ◌+◌, ◌^◌, ◌<◌, Bool, List, [], ◌∷◌, ◌++◌, length, Some, None, refl, ap, sym, ◌∙◌, subst, arith, append_assoc}
+use Rattle.std.proofs.Common.{◌≡◌, ℕ, ◌+◌, ◌^◌, ◌<◌, ◌≤◌, Bool, true, false, cond, eqb, inl, inr, List, [], ◌∷◌, ◌++◌, length, Option, Some, None, ap, sym, ◌∙◌, subst, arith, append_assoc, length-append}
+use Rattle.std.proofs.lemmas.Bool.{cases_Bool}
 use Rattle.std.proofs.lemmas.List.{append-nil}
-use Rattle.std.specs.Prelude.{Result, IsTrue, OnOk, OnErr}
-use Rattle.std.specs.List.{AllByRecursion}
+use Rattle.std.proofs.lemmas.List.Sums.{fold-append}
+use Rattle.std.specs.Prelude.{Result, IsTrue, OnOk, OnErr, nat_lt}
 use Rattle.ep_defs.specs.declared.event.EventDef.{EventDef}
 use Rattle.ep_defs.specs.declared.session.TraceInfo.{TraceInfo}
+use Rattle.ep_defs.specs.Event.{is_same_event}
 use Rattle.ep_defs.specs.Session.{is_info}
+use Rattle.ep_defs.specs.Entry.{EventEntry, Entry, Event, Point}
 use Rattle.pt_io.specs.Taken.{IsPrefix}
-use Rattle.nt_write.specs.declared.blocks.BlobBlock.{BlobBlock}
-use Rattle.nt_object.specs.declared.object.BlockKind.TheVariants as block
+use Rattle.nt_object.specs.Stream.{stream_start, blocks_bytes}
+use Rattle.nt_stacks.specs.Stacks.{with_stack}
+use Rattle.nt_write.specs.declared.fault.Fault.{Fault}
 use Rattle.nt_write.specs.declared.ids.IdTable.{IdTable}
 use Rattle.nt_write.specs.declared.output.Output.{Output}
-use Rattle.nt_write.specs.declared.writer.Fault.{Fault}
+use Rattle.nt_write.specs.declared.pending.Pending.{Pending}
 use Rattle.nt_write.specs.declared.writer.TraceWriter.{TraceWriter}
-use Rattle.nt_object.specs.Stream.{stream_start, blocks_bytes}
-use Rattle.ep_defs.specs.Entry.{Entry}
-use Rattle.nt_write.specs.Layout.{Layout, empty_layout, new_metas, flushed, with_entry, with_entries}
-use Rattle.nt_write.specs.Writable.{CanTell, HasNoStack}
-use Rattle.nt_write.specs.Writing.{HasWritten, TookAll, TookSome, AreIds, IsAt}
-use Rattle.nt_write.specs.Making.{IsMaking, kind_of}
+use Rattle.nt_write.specs.Value.{StacksSeen, AreFew, no_stacks}
+use Rattle.nt_write.specs.Layout.{Layout, empty_layout, id_in, with_member, needs_flush, flushed, with_event, with_entry, with_entries}
+use Rattle.nt_write.specs.Writable.{CanTell, StacksFit, framed_after, framed}
+use Rattle.nt_write.specs.Canonical.{encoded, IsCanonical}
+use Rattle.nt_write.specs.Arriving.{roomy}
+use Rattle.nt_write.specs.Writing.{HasWritten, TookAll, TookSome, AreIds, IsPending, IsAt}
 use Rattle.nt_write.specs.Writer.{IsWriting, TookPart, TookStream}
 use Rattle.nt_write.proofs.Answered.{on_ok-then, on_err-then}
-use Rattle.nt_write.proofs.Prefixes.{prefix-more, prefix-behind, prefix-longer, some-longer}
-use Rattle.nt_write.proofs.Flushing.{flushed-extends}
+use Rattle.nt_write.proofs.Prefixes.{some-all, prefix-more, prefix-behind, prefix-longer, some-longer}
+use Rattle.nt_write.proofs.Flushing.{flushed-extends, flushed_if-extends}
+use Rattle.nt_write.proofs.Defining.{stack-new, stack-known}
 use Rattle.nt_write.proofs.BlockSteps.{all-more}
-use Rattle.nt_write.proofs.WrittenIsCanonical.{is-canonical, with_entries-more, no_stack_more, no_stacks-fit}
+use Rattle.nt_write.proofs.WrittenIsCanonical.{is-canonical, with_entries-more, stacks_fit-more}
 
--- Entries without stacks leave a layout without them.
-pub no_stacks-stay : (layout : Layout) (entries : List Entry) → layout.stacks ≡ [] → AllByRecursion HasNoStack entries → (with_entries layout entries).stacks ≡ []
-no_stacks-stay layout [] none h = none
-no_stacks-stay layout (entry ∷ entries) none h =
-    no_stacks-stay (with_entry layout entry) entries (no_stack_more layout entry none h.0) h.1
+-- ---- stacks and the events that have one
 
--- Where a writer is, no stack waits.
-pub writing-no_stacks : {S : Type 0} (tells : S → Bool) (taken : S → List ℕ) (before : List ℕ) (events : List EventDef) (info : TraceInfo) (entries : List Entry) (writer : TraceWriter S) → IsWriting tells taken before events info entries writer → (with_entries empty_layout entries).stacks ≡ []
-writing-no_stacks tells taken before events info entries writer h = no_stacks-stay empty_layout entries refl h.no_stacks
+-- The count with one entry more.
+framed-more : (entries : List Entry) (entry : Entry) → framed (entries ++ entry ∷ []) ≡ framed_after (framed entries) entry
+framed-more entries entry = fold-append framed_after 0 entries (entry ∷ [])
+
+-- A stack more makes the list longer by one at most.
+one-stack : (stacks : List (List ℕ)) (stack : List ℕ) → length (with_stack stacks stack) ≤ length stacks + 1
+one-stack stacks stack =
+    elim (cases_Bool (nat_lt (length stacks) (length (with_stack stacks stack)))) [
+      | inl e ↦ rw (stack-new stacks stack e) (omega (arith, length-append stacks (stack ∷ [])))
+      | inr e ↦ rw (stack-known stacks stack e) (omega arith)
+    ]
+
+-- So does an entry.
+one-stack-more : (layout : Layout) (entry : Entry) → length (with_entry layout entry).stacks ≤ length layout.stacks + 1
+one-stack-more layout (Event event) = by_test (needs_flush layout event)
+  where
+    by_test : (needed : Bool) → length (with_event (cond needed (flushed layout) layout) event).stacks ≤ length layout.stacks + 1
+    by_test true = one-stack layout.stacks event.stack
+    by_test false = one-stack layout.stacks event.stack
+one-stack-more layout (Point point) = omega arith
+
+-- And definitions.
+one-member : (definitions : List EventDef) (def : EventDef) → length (with_member is_same_event definitions def) ≤ length definitions + 1
+one-member definitions def =
+    elim (cases_Bool (eqb (id_in is_same_event def definitions) 0)) [
+      | inl e ↦ rw e (omega (arith, length-append definitions (def ∷ [])))
+      | inr e ↦ rw e (omega arith)
+    ]
+
+one-definition : (layout : Layout) (entry : Entry) → length (with_entry layout entry).definitions ≤ length layout.definitions + 1
+one-definition layout (Event event) = by_test (needs_flush layout event)
+  where
+    by_test : (needed : Bool) → length (with_event (cond needed (flushed layout) layout) event).definitions ≤ length layout.definitions + 1
+    by_test true = one-member layout.definitions event.def
+    by_test false = one-member layout.definitions event.def
+one-definition layout (Point point) = omega arith
+
+-- The stacks of a writer fit with one entry more.
+fits-with : {S : Type 0} (tells : S → Bool) (taken : S → List ℕ) (before : List ℕ) (defs : ℕ → Option EventDef) (info : TraceInfo) (entries : List Entry) (entry : Entry) (writer : TraceWriter S) → IsWriting tells taken before defs info entries writer → StacksFit empty_layout (entries ++ entry ∷ [])
+fits-with tells taken before defs info entries entry writer h =
+    let layout : Layout = with_entries empty_layout entries in
+    let known : length layout.stacks ≤ 2147483646 = subst (λ (ss : List (List ℕ)). length ss ≤ 2147483646) h.at.known (within (length writer.pending.stacks.known) writer.pending.stacks.framed h.at.few.few h.at.few.most) in
+    stacks_fit-more empty_layout entries entry h.stacks_fit
+    (subst (λ (l : Layout). length l.stacks < 2 ^ 31) (sym (with_entries-more empty_layout entries entry)) (below (length layout.stacks) (length (with_entry layout entry).stacks) known (one-stack-more layout entry)))
+  where
+    below : (n m : ℕ) → n ≤ 2147483646 → m ≤ n + 1 → m < 2 ^ 31
+    below n m h g = omega arith
+
+    within : (n m : ℕ) → n ≤ m → m ≤ 2147483646 → n ≤ 2147483646
+    within n m h g = omega arith
 
 -- Where a writer is does not depend on its fault.
-still-at : {S : Type 0} (tells : S → Bool) (taken : S → List ℕ) (start : List ℕ) (events : List EventDef) (layout : Layout) (old new : TraceWriter S) → IsAt tells taken start events layout old → new.output ≡ old.output → new.ids ≡ old.ids → new.metadata ≡ old.metadata → new.events ≡ old.events → IsAt tells taken start events layout new
-still-at tells taken start events layout old new h output ids metadata drafts =
+still-at : {S : Type 0} (tells : S → Bool) (taken : S → List ℕ) (start : List ℕ) (defs : ℕ → Option EventDef) (layout : Layout) (old new : TraceWriter S) → IsAt tells taken start defs layout old → new.output ≡ old.output → new.ids ≡ old.ids → new.pending ≡ old.pending → IsAt tells taken start defs layout new
+still-at tells taken start defs layout old new h output ids pending =
     record {
-      output = subst (λ (o : Output _). HasWritten tells taken start layout.blocks o) (sym output) h.output;
-      metadata = subst (λ (b : BlobBlock). IsMaking (new_metas layout) b) (sym metadata) h.metadata;
-      metadata_kind = ap kind_of metadata ∙ h.metadata_kind;
-      drafts = subst (λ (b : BlobBlock). IsMaking layout.events b) (sym drafts) h.drafts;
-      drafts_kind = ap kind_of drafts ∙ h.drafts_kind;
-      ids = subst (λ (t : IdTable). AreIds events layout.definitions t) (sym ids) h.ids;
-      flushed_few = h.flushed_few;
+      kept = record {
+        output = subst (λ (o : Output _). HasWritten tells taken start layout.blocks o) (sym output) h.kept.output;
+        pending = subst (λ (p : Pending). IsPending layout p) (sym pending) h.kept.pending;
+        ids = subst (λ (t : IdTable). AreIds defs layout.definitions t) (sym ids) h.kept.ids;
+        flushes = h.kept.flushes;
+      };
+      known = ap (λ (p : Pending). p.stacks.known) pending ∙ h.known;
+      few = subst (λ (p : Pending). AreFew p.stacks.known p.stacks.framed) (sym pending) h.few;
     }
 
 -- The writer that wrote one entry more.
-pub writing-more : {S : Type 0} (tells : S → Bool) (taken : S → List ℕ) (before : List ℕ) (events : List EventDef) (info : TraceInfo) (entries : List Entry) (entry : Entry) (old mid new : TraceWriter S) → IsWriting tells taken before events info entries old → new.fault ≡ None → CanTell entry → HasNoStack entry → IsAt tells taken (before ++ stream_start info) events (with_entry (with_entries empty_layout entries) entry) mid → new.output ≡ mid.output → new.ids ≡ mid.ids → new.metadata ≡ mid.metadata → new.events ≡ mid.events → IsWriting tells taken before events info (entries ++ entry ∷ []) new
-writing-more tells taken before events info entries entry old mid new h sound can none at output ids metadata drafts =
+pub writing-more : {S : Type 0} (tells : S → Bool) (taken : S → List ℕ) (before : List ℕ) (defs : ℕ → Option EventDef) (info : TraceInfo) (entries : List Entry) (entry : Entry) (old mid new : TraceWriter S) → IsWriting tells taken before defs info entries old → new.fault ≡ None → CanTell entry → mid.pending.stacks.framed ≡ framed_after old.pending.stacks.framed entry → IsAt tells taken (before ++ stream_start info) defs (with_entry (with_entries empty_layout entries) entry) mid → new.output ≡ mid.output → new.ids ≡ mid.ids → new.pending ≡ mid.pending → IsWriting tells taken before defs info (entries ++ entry ∷ []) new
+writing-more tells taken before defs info entries entry old mid new h sound can count at output ids pending =
     record {
       sound = sound;
       at =
-          subst (λ (layout : Layout). IsAt tells taken (before ++ stream_start info) events layout new)
+          subst (λ (layout : Layout). IsAt tells taken (before ++ stream_start info) defs layout new)
           (sym (with_entries-more empty_layout entries entry))
-          (still-at tells taken (before ++ stream_start info) events (with_entry (with_entries empty_layout entries) entry) mid new at output ids metadata drafts);
+          (still-at tells taken (before ++ stream_start info) defs (with_entry (with_entries empty_layout entries) entry) mid new at output ids pending);
+      framed_are = ap (λ (p : Pending). p.stacks.framed) pending ∙ count ∙ ap (λ (n : ℕ). framed_after n entry) h.framed_are ∙ sym (framed-more entries entry);
       info_fits = h.info_fits;
       can_tell = all-more CanTell entries entry h.can_tell can;
-      no_stacks = all-more HasNoStack entries entry h.no_stacks none;
+      stacks_fit = fits-with tells taken before defs info entries entry old h;
     }
 
+-- ---- a part of a stream
+
 -- Bytes that begin the blocks and the end begin the stream behind its start.
-pub part-of : {S : Type 0} (tells : S → Bool) (taken : S → List ℕ) (before : List ℕ) (info : TraceInfo) (entries : List Entry) (sink : S) → TookSome tells taken (before ++ stream_start info) (blocks_bytes (flushed (with_entries empty_layout entries)).blocks ++ 1 ∷ []) sink → TookPart tells taken before info entries sink
-part-of tells taken before info entries sink t =
+pub part-of : {S : Type 0} (tells : S → Bool) (taken : S → List ℕ) (before : List ℕ) (info : TraceInfo) (entries : List Entry) (sink : S) → IsCanonical info entries (encoded info entries) → TookSome tells taken (before ++ stream_start info) (blocks_bytes (flushed (with_entries empty_layout entries)).blocks ++ 1 ∷ []) sink → TookPart tells taken before info entries sink
+part-of tells taken before info entries sink canonical t =
     λ h.
     let some = t.some h in
     let start : List ℕ = stream_start info in
     let blocks : List ℕ = blocks_bytes (flushed (with_entries empty_layout entries)).blocks in
     let behind = prefix-behind start some.0 (blocks ++ 1 ∷ []) some.1 in
-    (start ++ some.0, (behind.0, behind.1 ∙ sym (append_assoc start blocks (1 ∷ []))), some.2 ∙ append_assoc before start some.0)
-
--- A part of what is flushed is a part of the stream.
-pub part-flushed : {S : Type 0} (tells : S → Bool) (taken : S → List ℕ) (before : List ℕ) (info : TraceInfo) (entries : List Entry) (bytes : List ℕ) (sink : S) → IsPrefix bytes (blocks_bytes (flushed (with_entries empty_layout entries)).blocks) → TookSome tells taken (before ++ stream_start info) bytes sink → TookPart tells taken before info entries sink
-part-flushed tells taken before info entries bytes sink p t =
-    let blocks : List ℕ = blocks_bytes (flushed (with_entries empty_layout entries)).blocks in
-    part-of tells taken before info entries sink
-    (some-longer tells taken (before ++ stream_start info) bytes (blocks ++ 1 ∷ []) sink (prefix-longer bytes blocks (blocks ++ 1 ∷ []) p (prefix-more blocks (1 ∷ []))) t)
+    (encoded info entries, start ++ some.0, canonical, (behind.0, behind.1 ∙ sym (append_assoc start blocks (1 ∷ []))), some.2 ∙ append_assoc before start some.0)
 
 -- A part of what is flushed with one entry more.
-pub part-more : {S : Type 0} (tells : S → Bool) (taken : S → List ℕ) (before : List ℕ) (info : TraceInfo) (entries : List Entry) (entry : Entry) (bytes : List ℕ) (sink : S) → IsPrefix bytes (blocks_bytes (with_entry (with_entries empty_layout entries) entry).blocks) → TookSome tells taken (before ++ stream_start info) bytes sink → TookPart tells taken before info (entries ++ entry ∷ []) sink
-part-more tells taken before info entries entry bytes sink p t =
+pub part-more : {S : Type 0} (tells : S → Bool) (taken : S → List ℕ) (before : List ℕ) (info : TraceInfo) (entries : List Entry) (entry : Entry) (bytes : List ℕ) (sink : S) → IsCanonical info (entries ++ entry ∷ []) (encoded info (entries ++ entry ∷ [])) → IsPrefix bytes (blocks_bytes (with_entry (with_entries empty_layout entries) entry).blocks) → TookSome tells taken (before ++ stream_start info) bytes sink → TookPart tells taken before info (entries ++ entry ∷ []) sink
+part-more tells taken before info entries entry bytes sink canonical p t =
     let next : Layout = with_entry (with_entries empty_layout entries) entry in
-    part-flushed tells taken before info (entries ++ entry ∷ []) bytes sink
-    (subst (λ (layout : Layout). IsPrefix bytes (blocks_bytes (flushed layout).blocks)) (sym (with_entries-more empty_layout entries entry))
-    (prefix-longer bytes (blocks_bytes next.blocks) (blocks_bytes (flushed next).blocks) p (flushed-extends next)))
-    t
+    let all : List Entry = entries ++ entry ∷ [] in
+    let blocks : List ℕ = blocks_bytes (flushed (with_entries empty_layout all)).blocks in
+    let begins : IsPrefix bytes blocks = subst (λ (layout : Layout). IsPrefix bytes (blocks_bytes (flushed layout).blocks)) (sym (with_entries-more empty_layout entries entry))
+    (prefix-longer bytes (blocks_bytes next.blocks) (blocks_bytes (flushed next).blocks) p (flushed-extends next)) in
+    part-of tells taken before info all sink canonical
+    (some-longer tells taken (before ++ stream_start info) bytes (blocks ++ 1 ∷ []) sink (prefix-longer bytes blocks (blocks ++ 1 ∷ []) begins (prefix-more blocks (1 ∷ []))) t)
 
 -- A part of the start is a part of the stream of no entries.
-pub part-start : {S : Type 0} (tells : S → Bool) (taken : S → List ℕ) (before : List ℕ) (info : TraceInfo) (sink : S) → TookSome tells taken before (stream_start info) sink → TookPart tells taken before info [] sink
-part-start tells taken before info sink t =
+pub part-start : {S : Type 0} (tells : S → Bool) (taken : S → List ℕ) (before : List ℕ) (info : TraceInfo) (sink : S) → IsTrue (is_info info) → TookSome tells taken before (stream_start info) sink → TookPart tells taken before info [] sink
+part-start tells taken before info sink fits t =
     λ h.
     let some = t.some h in
     let start : List ℕ = stream_start info in
-    let more : List ℕ = blocks_bytes (flushed empty_layout).blocks in
-    (some.0, prefix-longer some.0 start ((start ++ more) ++ 1 ∷ []) some.1 (more ++ 1 ∷ [], sym (append_assoc start more (1 ∷ []))), some.2)
+    let more : List ℕ = blocks_bytes (flushed empty_layout).blocks in (
+      encoded info [],
+      some.0,
+      is-canonical info [] fits tt (omega arith) tt,
+      prefix-longer some.0 start ((start ++ more) ++ 1 ∷ []) some.1 (more ++ 1 ∷ [], sym (append_assoc start more (1 ∷ []))),
+      some.2,
+    )
 
--- A writer has used few definitions.
-few-used : {S : Type 0} (tells : S → Bool) (taken : S → List ℕ) (start : List ℕ) (events : List EventDef) (layout : Layout) (writer : TraceWriter S) → IsAt tells taken start events layout writer → length layout.definitions < 2 ^ 31
-few-used tells taken start events layout writer h = omega (arith, h.ids.used, writer.ids.few)
+-- Where nothing more was written, the sink took a part of what is with an event more.
+pub nothing-more : {S : Type 0} (tells : S → Bool) (taken : S → List ℕ) (start : List ℕ) (defs : ℕ → Option EventDef) (layout : Layout) (event : EventEntry) (writer : TraceWriter S) → IsAt tells taken start defs layout writer → TookSome tells taken start (blocks_bytes (roomy layout event).blocks) writer.output.sink
+nothing-more tells taken start defs layout event writer h =
+    some-longer tells taken start (blocks_bytes layout.blocks) (blocks_bytes (roomy layout event).blocks) writer.output.sink
+    (flushed_if-extends (needs_flush layout event) layout)
+    (some-all tells taken start (blocks_bytes layout.blocks) writer.output.sink h.kept.output.took)
+
+-- ---- what is canonical
+
+-- What a writer's entries make is canonical.
+pub writing-canonical : {S : Type 0} (tells : S → Bool) (taken : S → List ℕ) (before : List ℕ) (defs : ℕ → Option EventDef) (info : TraceInfo) (entries : List Entry) (writer : TraceWriter S) → IsWriting tells taken before defs info entries writer → IsCanonical info entries (encoded info entries)
+writing-canonical tells taken before defs info entries writer h =
+    is-canonical info entries h.info_fits h.can_tell (omega (arith, h.at.kept.ids.used, writer.ids.few)) h.stacks_fit
+
+-- It is with one entry more that can be told.
+pub writing-canonical-more : {S : Type 0} (tells : S → Bool) (taken : S → List ℕ) (before : List ℕ) (defs : ℕ → Option EventDef) (info : TraceInfo) (entries : List Entry) (entry : Entry) (writer : TraceWriter S) → IsWriting tells taken before defs info entries writer → CanTell entry → IsCanonical info (entries ++ entry ∷ []) (encoded info (entries ++ entry ∷ []))
+writing-canonical-more tells taken before defs info entries entry writer h can =
+    let layout : Layout = with_entries empty_layout entries in
+    let more : length (with_entries empty_layout (entries ++ entry ∷ [])).definitions ≤ length layout.definitions + 1 =
+    subst (λ (l : Layout). length l.definitions ≤ length layout.definitions + 1) (sym (with_entries-more empty_layout entries entry)) (one-definition layout entry) in
+    is-canonical info (entries ++ entry ∷ []) h.info_fits (all-more CanTell entries entry h.can_tell can)
+    (omega (arith, more, h.at.kept.ids.used, writer.ids.few))
+    (fits-with tells taken before defs info entries entry writer h)
 
 -- A sink that took the blocks of a writer and the end took the stream of its entries.
-pub stream-done : {S : Type 0} (tells : S → Bool) (taken : S → List ℕ) (before : List ℕ) (events : List EventDef) (info : TraceInfo) (entries : List Entry) (writer : TraceWriter S) (sink : S) → IsWriting tells taken before events info entries writer → TookAll tells taken (before ++ stream_start info) (blocks_bytes (flushed (with_entries empty_layout entries)).blocks ++ 1 ∷ []) sink → TookStream tells taken before info entries sink
-stream-done tells taken before events info entries writer sink h t =
+pub stream-done : {S : Type 0} (tells : S → Bool) (taken : S → List ℕ) (before : List ℕ) (defs : ℕ → Option EventDef) (info : TraceInfo) (entries : List Entry) (writer : TraceWriter S) (sink : S) → IsWriting tells taken before defs info entries writer → TookAll tells taken (before ++ stream_start info) (blocks_bytes (flushed (with_entries empty_layout entries)).blocks ++ 1 ∷ []) sink → TookStream tells taken before info entries sink
+stream-done tells taken before defs info entries writer sink h t =
     λ told.
     let start : List ℕ = stream_start info in
     let blocks : List ℕ = blocks_bytes (flushed (with_entries empty_layout entries)).blocks in (
       (start ++ blocks) ++ 1 ∷ [],
-      is-canonical info entries h.info_fits h.can_tell (few-used tells taken (before ++ start) events (with_entries empty_layout entries) writer h.at) (no_stacks-fit empty_layout entries refl h.no_stacks),
+      writing-canonical tells taken before defs info entries writer h,
       t.all told ∙ append_assoc before start (blocks ++ 1 ∷ []) ∙ ap (λ (x : List ℕ). before ++ x) (sym (append_assoc start blocks (1 ∷ []))),
     )
 
@@ -129,44 +201,46 @@ output-begun tells taken before info sink output t same h =
     }
 
 -- A writer that has begun stands for no entries.
-pub begun : {S : Type 0} (tells : S → Bool) (taken : S → List ℕ) (before : List ℕ) (events : List EventDef) (info : TraceInfo) (sink : S) (writer : TraceWriter S) → IsTrue (is_info info) → writer.fault ≡ None → TookAll tells taken before (stream_start info) sink → writer.output.sink ≡ sink → HasWritten tells taken (taken sink) [] writer.output → AreIds events [] writer.ids → IsMaking [] writer.metadata → kind_of writer.metadata ≡ block.Metadata → IsMaking [] writer.events → kind_of writer.events ≡ block.Event → IsWriting tells taken before events info [] writer
-begun tells taken before events info sink writer fits sound t same h ids metadata metadata_kind drafts drafts_kind =
+pub begun : {S : Type 0} (tells : S → Bool) (taken : S → List ℕ) (before : List ℕ) (defs : ℕ → Option EventDef) (info : TraceInfo) (sink : S) (writer : TraceWriter S) → IsTrue (is_info info) → writer.fault ≡ None → TookAll tells taken before (stream_start info) sink → writer.output.sink ≡ sink → HasWritten tells taken (taken sink) [] writer.output → AreIds defs [] writer.ids → IsPending empty_layout writer.pending → writer.pending.stacks ≡ no_stacks → IsWriting tells taken before defs info [] writer
+begun tells taken before defs info sink writer fits sound t same h ids pending stacks =
     record {
       sound = sound;
       at =
           record {
-            output = output-begun tells taken before info sink writer.output t same h;
-            metadata = metadata;
-            metadata_kind = metadata_kind;
-            drafts = drafts;
-            drafts_kind = drafts_kind;
-            ids = ids;
-            flushed_few = omega arith;
+            kept = record {
+              output = output-begun tells taken before info sink writer.output t same h;
+              pending = pending;
+              ids = ids;
+              flushes = record { definitions = omega arith; stacks = omega arith };
+            };
+            known = ap (λ (s : StacksSeen). s.known) stacks;
+            few = subst (λ (s : StacksSeen). AreFew s.known s.framed) (sym stacks) (record { few = omega arith; most = omega arith });
           };
+      framed_are = ap (λ (s : StacksSeen). s.framed) stacks;
       info_fits = fits;
       can_tell = tt;
-      no_stacks = tt;
+      stacks_fit = tt;
     }
 
 -- ---- the end
 
 -- A writer that stands for entries has no fault.
-pub no_fault : {S : Type 0} (tells : S → Bool) (taken : S → List ℕ) (before : List ℕ) (events : List EventDef) (info : TraceInfo) (entries : List Entry) (writer : TraceWriter S) (fault : Fault) → IsWriting tells taken before events info entries writer → writer.fault ≡ Some fault → ⊥
-no_fault tells taken before events info entries writer fault h failed = differ (sym h.sound ∙ failed)
+pub no_fault : {S : Type 0} (tells : S → Bool) (taken : S → List ℕ) (before : List ℕ) (defs : ℕ → Option EventDef) (info : TraceInfo) (entries : List Entry) (writer : TraceWriter S) (fault : Fault) → IsWriting tells taken before defs info entries writer → writer.fault ≡ Some fault → ⊥
+no_fault tells taken before defs info entries writer fault h failed = differ (sym h.sound ∙ failed)
   where
     differ : None ≡ Some fault → ⊥
     differ e = cc
 
 -- What the sink of an ended writer took.
-pub ended : {S A : Type 0} (tells : S → Bool) (taken : S → List ℕ) (before : List ℕ) (events : List EventDef) (info : TraceInfo) (entries : List Entry) (old mid writer : TraceWriter S) (sink : S) (r result : Result A Fault) → IsWriting tells taken before events info entries old → writer ≡ mid → result ≡ r → sink ≡ writer.output.sink → OnOk r (TookAll tells taken (before ++ stream_start info) (blocks_bytes (flushed (with_entries empty_layout entries)).blocks ++ 1 ∷ []) mid.output.sink) → OnOk result (TookStream tells taken before info entries sink)
-ended {S} {A} tells taken before events info entries old mid writer sink r result h writer-is result-is sink-is ok =
+pub ended : {S A : Type 0} (tells : S → Bool) (taken : S → List ℕ) (before : List ℕ) (defs : ℕ → Option EventDef) (info : TraceInfo) (entries : List Entry) (old mid writer : TraceWriter S) (sink : S) (r result : Result A Fault) → IsWriting tells taken before defs info entries old → writer ≡ mid → result ≡ r → sink ≡ writer.output.sink → OnOk r (TookAll tells taken (before ++ stream_start info) (blocks_bytes (flushed (with_entries empty_layout entries)).blocks ++ 1 ∷ []) mid.output.sink) → OnOk result (TookStream tells taken before info entries sink)
+ended {S} {A} tells taken before defs info entries old mid writer sink r result h writer-is result-is sink-is ok =
     subst (λ (x : Result A Fault). OnOk x (TookStream tells taken before info entries sink)) (sym result-is)
     (subst (λ (s : S). OnOk r (TookStream tells taken before info entries s)) (sym (sink-is ∙ ap (λ (w : TraceWriter S). w.output.sink) writer-is))
-    (on_ok-then r (λ t. stream-done tells taken before events info entries old mid.output.sink h t) ok))
+    (on_ok-then r (λ t. stream-done tells taken before defs info entries old mid.output.sink h t) ok))
 
 -- What the sink of a writer took that broke off at its end.
-pub broken : {S A : Type 0} (tells : S → Bool) (taken : S → List ℕ) (before : List ℕ) (info : TraceInfo) (entries : List Entry) (mid writer : TraceWriter S) (sink : S) (r result : Result A Fault) → writer ≡ mid → result ≡ r → sink ≡ writer.output.sink → OnErr r (TookSome tells taken (before ++ stream_start info) (blocks_bytes (flushed (with_entries empty_layout entries)).blocks ++ 1 ∷ []) mid.output.sink) → OnErr result (TookPart tells taken before info entries sink)
-broken {S} {A} tells taken before info entries mid writer sink r result writer-is result-is sink-is part =
+pub broken : {S A : Type 0} (tells : S → Bool) (taken : S → List ℕ) (before : List ℕ) (info : TraceInfo) (entries : List Entry) (mid writer : TraceWriter S) (sink : S) (r result : Result A Fault) → IsCanonical info entries (encoded info entries) → writer ≡ mid → result ≡ r → sink ≡ writer.output.sink → OnErr r (TookSome tells taken (before ++ stream_start info) (blocks_bytes (flushed (with_entries empty_layout entries)).blocks ++ 1 ∷ []) mid.output.sink) → OnErr result (TookPart tells taken before info entries sink)
+broken {S} {A} tells taken before info entries mid writer sink r result canonical writer-is result-is sink-is part =
     subst (λ (x : Result A Fault). OnErr x (TookPart tells taken before info entries sink)) (sym result-is)
     (subst (λ (s : S). OnErr r (TookPart tells taken before info entries s)) (sym (sink-is ∙ ap (λ (w : TraceWriter S). w.output.sink) writer-is))
-    (on_err-then r (λ t. part-of tells taken before info entries mid.output.sink t) part))
+    (on_err-then r (λ t. part-of tells taken before info entries mid.output.sink canonical t) part))

@@ -1,5 +1,5 @@
 -- The ids of the definitions that were used, and the table that has them.
-use Rattle.std.proofs.Common.{◌≡◌, ◌≢◌, ℕ, zero, suc, ◌+◌, ◌<◌, ◌≤◌, Bool, true, false, cond, eqb, ◌⊎◌, inl, inr, List, [], ◌∷◌, ◌++◌, length, Option, Some, None, set, refl, ap, sym, ◌∙◌, subst, arith, length-append}
+use Rattle.std.proofs.Common.{◌≡◌, ◌≢◌, ℕ, zero, suc, ◌+◌, ◌<◌, Bool, true, false, cond, eqb, ◌⊎◌, inl, inr, List, [], ◌∷◌, ◌++◌, length, Option, Some, set, refl, ap, sym, ◌∙◌, arith, length-append}
 use Rattle.std.proofs.lemmas.List.{get_or-set_same, get_or-set_other}
 use Rattle.std.proofs.lemmas.Bool.{ne_eqb, cases_Bool}
 use Rattle.std.proofs.lemmas.Bool.Decides.{eqb_tells}
@@ -9,7 +9,9 @@ use Rattle.ep_defs.specs.declared.event.EventDef.{EventDef}
 use Rattle.ep_defs.specs.Event.{is_same_event}
 use Rattle.nt_write.specs.declared.ids.IdTable.{IdTable}
 use Rattle.nt_write.specs.Layout.{id_in, with_member}
-use Rattle.nt_write.specs.Writing.{definition_at, AreDistinct, AreIds, id_at}
+use Rattle.ep_defs.specs.Definitions.{AreDistinct}
+use Rattle.ep_defs.proofs.Sameness.{distinct-same}
+use Rattle.nt_write.specs.Writing.{AreIds, id_at}
 use Rattle.nt_write.proofs.Sameness.{event_sameness}
 
 -- Where no member passes the test, one more at the end has its place if it passes.
@@ -56,17 +58,17 @@ with_known definitions def known =
     ap (λ (b : Bool). cond b (definitions ++ def ∷ []) definitions) (ne_eqb (id_in is_same_event def definitions) 0 known)
 
 -- The numbers of two definitions that are the same are one.
-same-number : (events : List EventDef) (i j : ℕ) (a b : EventDef) → AreDistinct events → definition_at events i ≡ Some a → definition_at events j ≡ Some b → i ≢ j → is_same_event a b ≡ false
-same-number events i j a b d p q differ =
-    elim (cases_Bool (is_same_event a b)) [ inl e ↦ absurd (differ (d.distinct i j a b p q e)) | inr e ↦ e ]
+same-number : (defs : ℕ → Option EventDef) (i j : ℕ) (a b : EventDef) → AreDistinct defs → defs i ≡ Some a → defs j ≡ Some b → i ≢ j → is_same_event a b ≡ false
+same-number defs i j a b d p q differ =
+    elim (cases_Bool (is_same_event a b)) [ inl e ↦ absurd (differ (distinct-same defs d i j a b p q e)) | inr e ↦ e ]
 
 -- One number has one definition.
-one-definition : (events : List EventDef) (i j : ℕ) (a b : EventDef) → definition_at events i ≡ Some a → definition_at events j ≡ Some b → i ≡ j → a ≡ b
-one-definition events i j a b p q e = cc
+one-definition : (defs : ℕ → Option EventDef) (i j : ℕ) (a b : EventDef) → defs i ≡ Some a → defs j ≡ Some b → i ≡ j → a ≡ b
+one-definition defs i j a b p q e = cc
 
 -- The table with the next id at a number that had none.
-pub ids-given : (events definitions : List EventDef) (def : EventDef) (number : ℕ) (old new : IdTable) → AreIds events definitions old → AreDistinct events → definition_at events number ≡ Some def → number < length old.table.items → id_at old number ≡ 0 → new.table.items ≡ set old.table.items number (old.used + 1) → new.used ≡ old.used + 1 → AreIds events (definitions ++ def ∷ []) new
-ids-given events definitions def number old new h distinct at low free items used =
+pub ids-given : (defs : ℕ → Option EventDef) (definitions : List EventDef) (def : EventDef) (number : ℕ) (old new : IdTable) → AreIds defs definitions old → AreDistinct defs → defs number ≡ Some def → number < length old.table.items → id_at old number ≡ 0 → new.table.items ≡ set old.table.items number (old.used + 1) → new.used ≡ old.used + 1 → AreIds defs (definitions ++ def ∷ []) new
+ids-given defs definitions def number old new h distinct at low free items used =
     record {
       used = omega (arith, h.used, used, length-append definitions (def ∷ []));
       id_is = λ i other p. by-number i other p (eqb_tells i number);
@@ -75,19 +77,19 @@ ids-given events definitions def number old new h distinct at low free items use
     none : id_in is_same_event def definitions ≡ 0
     none = sym (h.id_is number def at) ∙ free
 
-    by-number : (i : ℕ) (other : EventDef) → definition_at events i ≡ Some other → ((eqb i number ≡ true) × (i ≡ number)) ⊎ ((eqb i number ≡ false) × (i ≢ number)) → id_at new i ≡ id_in is_same_event other (definitions ++ def ∷ [])
+    by-number : (i : ℕ) (other : EventDef) → defs i ≡ Some other → ((eqb i number ≡ true) × (i ≡ number)) ⊎ ((eqb i number ≡ false) × (i ≢ number)) → id_at new i ≡ id_in is_same_event other (definitions ++ def ∷ [])
     by-number i other p (inl same) =
         ap (λ (xs : List ℕ). slice_index xs i) items
         ∙ ap (λ (n : ℕ). slice_index (set old.table.items number (old.used + 1)) n) same.1
         ∙ get_or-set_same old.table.items number (old.used + 1) 0 low
         ∙ ap (λ (n : ℕ). n + 1) h.used
         ∙ sym (id-new definitions def none)
-        ∙ ap (λ (d : EventDef). id_in is_same_event d (definitions ++ def ∷ [])) (sym (one-definition events i number other def p at same.1))
+        ∙ ap (λ (d : EventDef). id_in is_same_event d (definitions ++ def ∷ [])) (sym (one-definition defs i number other def p at same.1))
     by-number i other p (inr differ) =
         ap (λ (xs : List ℕ). slice_index xs i) items
         ∙ get_or-set_other old.table.items number i (old.used + 1) 0 differ.1
         ∙ h.id_is i other p
-        ∙ sym (id-other definitions def other (same-number events i number other def distinct p at differ.1))
+        ∙ sym (id-other definitions def other (same-number defs i number other def distinct p at differ.1))
 
 -- Zeros are zero at each place, and past the last one.
 pub slice_index-zeros : (n i : ℕ) → let zeros : List ℕ = replicate n 0 in slice_index zeros i ≡ 0

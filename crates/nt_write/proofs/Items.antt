@@ -12,8 +12,8 @@ use Rattle.nt_object.specs.declared.object.BlockKind.TheVariants as block
 use Rattle.nt_object.specs.Object.{Block, block_bytes}
 use Rattle.nt_object.specs.Stream.{start_len}
 use Rattle.nt_write.specs.Trace.{body_begins, BlocksHold, IsTrace}
-use Rattle.nt_write.specs.Bodies.{Blob, blob_bytes, HoldsEvent, HoldsMeta, AreItems, IsBody, stack_bytes, stack_items}
-use Rattle.nt_write.specs.Ordered.{kinds_of}
+use Rattle.nt_blocks.specs.Bodies.{Blob, blob_bytes, HoldsEvent, HoldsMeta, AreItems, IsBody, stack_bytes, stack_items}
+use Rattle.nt_blocks.specs.Ordered.{kinds_of}
 use Rattle.nt_write.specs.Canonical.{is_trace, is_plain}
 use Rattle.nt_write.proofs.BlobBodies.{meta_kinds}
 use Rattle.nt_write.proofs.BlockSteps.{stack_kinds}

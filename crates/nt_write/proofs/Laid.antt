@@ -8,17 +8,19 @@ use Rattle.ep_defs.specs.declared.event.EventDef.{EventDef}
 use Rattle.ep_defs.specs.Event.{is_same_text, is_same_event}
 use Rattle.nt_object.specs.declared.object.BlockKind.TheVariants as block
 use Rattle.nt_object.specs.Object.{Block}
-use Rattle.nt_write.specs.Meta.{meta_payload}
-use Rattle.nt_write.specs.Bodies.{stack_body, point_body}
+use Rattle.nt_meta.specs.Meta.{meta_payload}
+use Rattle.nt_blocks.specs.Bodies.{stack_body, point_body}
 use Rattle.ep_defs.specs.Entry.{EventEntry, PointEntry, Entry, Event, Point}
-use Rattle.nt_write.specs.Ordered.{Names}
-use Rattle.nt_write.specs.Layout.{Layout, Draft, event_draft, blob_body, meta_draft, meta_drafts, empty_layout, id_in, with_member, with_stack, stack_id, new_metas, new_stack_body, with_block, with_block_of, flushed, passes, needs_flush, with_event, with_point, with_entry, with_entries}
-use Rattle.nt_write.specs.Writable.{CanDefine, CanWrite, CanPoint, CanTell}
+use Rattle.nt_blocks.specs.Ordered.{Names}
+use Rattle.nt_blocks.specs.Drafts.{Draft, blob_body, meta_draft, meta_drafts}
+use Rattle.nt_stacks.specs.Stacks.{with_stack, stack_id}
+use Rattle.nt_write.specs.Layout.{Layout, event_draft, empty_layout, id_in, with_member, new_metas, new_stack_body, with_block, with_block_of, flushed, passes, needs_flush, with_event, with_point, with_entry, with_entries}
+use Rattle.nt_write.specs.Writable.{CanDefine, IsStack, CanWrite, CanPoint, CanTell}
 use Rattle.nt_write.proofs.BlobBodies.{body-len, body-len-more, meta-state}
 use Rattle.nt_write.proofs.BlockSteps.{all-more, no_blocks, stack_body-len-none, stack-len-more}
 use Rattle.nt_write.proofs.Names.{named, IsNumbered, numbered-more, Members, members}
 use Rattle.nt_write.proofs.Sameness.{text_sameness, event_sameness}
-use Rattle.nt_write.proofs.Told.{AreTold, metas-told, stacks-told, events-told, point-told, IsShort, Pending, draft_of, entry_of, IsStacked, IsPending, pending-draft}
+use Rattle.nt_write.proofs.Told.{AreTold, metas-told, stacks-told, events-told, point-told, Pending, draft_of, entry_of, IsStacked, IsPending, pending-draft}
 
 -- ---- the parts of a layout
 
@@ -64,7 +66,7 @@ pub record IsSound (p : Parts) (entries : List Entry) : Type 0 where
   pub entries_are : entries ≡ told ++ map entry_of p.pending
   pub pending : AllByRecursion (IsPending (definitions_of p) (stacks_of p)) p.pending
   pub definitions : AllByRecursion CanDefine p.new_definitions
-  pub stacks : AllByRecursion IsShort p.new_stacks
+  pub stacks : AllByRecursion IsStack p.new_stacks
   pub few_definitions : length (definitions_of p) < 2 ^ 31
   pub few_stacks : length (stacks_of p) < 2 ^ 31
   pub small : AreSmall p
@@ -168,7 +170,7 @@ room-by-test layout event h =
 -- After a flush there is room for any event that can be written.
 room-after-flush : (layout : Layout) (event : EventEntry) → CanWrite event → HasRoom (flushed layout) event
 room-after-flush layout event h = record {
-  events = omega (arith, body-len [], h.payload);
+  events = omega (arith, body-len [], h.short);
   metas = λ e. rw (drop_all (length layout.definitions) layout.definitions (omega arith)) (whole (length (blob_body [])) (length (meta_payload (length layout.definitions + 1) event.def)) (body-len []) (h.def.short (length layout.definitions + 1)));
   stacks = λ lt. rw (drop_all (length layout.stacks) layout.stacks (omega arith)) (room (length (stack_body (length layout.stacks + 1) [])) (stack_body-len-none (length layout.stacks + 1)));
 }
@@ -177,7 +179,7 @@ room-after-flush layout event h = record {
     whole body n e le = omega arith
 
     room : (body : ℕ) → body ≡ 8 → body + (4 + length event.stack) ≤ 102400
-    room body e = omega (arith, h.stack)
+    room body e = omega (arith, h.stack.short)
 
 -- ---- a definition and a stack more
 
@@ -249,7 +251,7 @@ record StacksGrown (old new : List (List ℕ)) (stack : List ℕ) : Type 0 where
   pub more : List (List ℕ)
   pub list : with_stack (old ++ new) stack ≡ old ++ now
   pub grown : old ++ now ≡ old ++ new ++ more
-  pub short : AllByRecursion IsShort now
+  pub short : AllByRecursion IsStack now
   pub small : length (stack_body (length old + 1) now) ≤ 102400
   pub stacked : IsStacked (old ++ now) (stack_id (old ++ now) stack) stack
 
@@ -262,7 +264,7 @@ stacked-by stacks zero stack h = absurd (nothing h.some)
 stacked-by stacks (suc id) stack h = record { few = h.few; found = λ definitions. h.found }
 
 -- An event's stack is empty, new with room, or there already.
-stacks-grown : (old new : List (List ℕ)) (stack : List ℕ) → length stack ≤ 800 → AllByRecursion IsShort new → length (stack_body (length old + 1) new) ≤ 102400 → (length (old ++ new) < length (with_stack (old ++ new) stack) → length (stack_body (length old + 1) new) + (4 + length stack) ≤ 102400) → StacksGrown old new stack
+stacks-grown : (old new : List (List ℕ)) (stack : List ℕ) → IsStack stack → AllByRecursion IsStack new → length (stack_body (length old + 1) new) ≤ 102400 → (length (old ++ new) < length (with_stack (old ++ new) stack) → length (stack_body (length old + 1) new) + (4 + length stack) ≤ 102400) → StacksGrown old new stack
 stacks-grown old new [] short all small room = record {
   now = new;
   more = [];
@@ -303,7 +305,7 @@ stacks-grown old new (b ∷ bytes) short all small room =
           more = stack ∷ [];
           list = list;
           grown = sym (append_assoc old new (stack ∷ []));
-          short = all-more IsShort new stack all short;
+          short = all-more IsStack new stack all short;
           small = within (length (stack_body (length old + 1) (new ++ stack ∷ []))) (length (stack_body (length old + 1) new)) (4 + length stack) (stack-len-more (length old + 1) new stack) (room is_new);
           stacked = subst (λ (ss : List (List ℕ)). IsStacked ss (id_in is_same_text stack ss) stack) list (stacked-by (with_member is_same_text (old ++ new) stack) (id_in is_same_text stack (with_member is_same_text (old ++ new) stack)) stack m.numbered);
         }

@@ -1,8 +1,9 @@
 pub mod Answered
 pub mod BlobBodies
 pub mod BlockSteps
+pub mod Bounds
+pub mod Bytes
 pub mod Defining
-pub mod Definitions
 pub mod Endings
 pub mod Entries
 pub mod Flushing
@@ -12,9 +13,6 @@ pub mod Laid
 pub mod Names
 pub mod Placing
 pub mod Prefixes
-pub mod PutBlobs
-pub mod PutFields
-pub mod PutPieces
 pub mod Sameness
 pub mod Told
 pub mod WrittenIsCanonical

@@ -6,7 +6,7 @@ use Rattle.std.proofs.lemmas.Bool.{cases_Bool, eq-eqb, ne_eqb}
 use Rattle.ep_defs.specs.declared.event.EventDef.{EventDef}
 use Rattle.ep_defs.specs.declared.item.ItemKind.{ItemKind}
 use Rattle.ep_defs.specs.Entry.{EventEntry, Entry, Event}
-use Rattle.nt_write.specs.Ordered.{Disorder, Names, lookup, stack_of, tell, names_after, told_after}
+use Rattle.nt_blocks.specs.Ordered.{Disorder, Names, lookup, stack_of, tell, names_after, told_after}
 use Rattle.pt_num.specs.Steps.{◌>>=◌}
 use Rattle.nt_write.specs.Layout.{event_draft, id_in, with_member}
 use Rattle.nt_write.proofs.BlobBodies.{event_kind, meta_kinds}

@@ -1,5 +1,5 @@
 -- A block more at the end of a stream.
-use Rattle.std.proofs.Common.{◌≡◌, ℕ, ◌+◌, ◌-◌, ◌%◌, Bool, List, [], ◌∷◌, ◌++◌, length, refl, ap, sym, ◌∙◌, subst, arith, length-append}
+use Rattle.std.proofs.Common.{◌≡◌, ℕ, ◌+◌, ◌-◌, ◌%◌, Bool, List, [], ◌∷◌, ◌++◌, length, ap, sym, ◌∙◌, subst, arith, length-append}
 use Rattle.std.proofs.lemmas.List.{append-nil}
 use Rattle.std.proofs.lemmas.Grind.{flat_map-append}
 use Rattle.std.specs.Prelude.{replicate, IsTrue}
@@ -7,7 +7,7 @@ use Rattle.std.specs.List.{flat_map}
 use Rattle.pt_io.specs.Taken.{IsPrefix, TookPartOf}
 use Rattle.nt_object.specs.declared.object.BlockKind.{BlockKind}
 use Rattle.nt_write.specs.declared.output.Output.{Output}
-use Rattle.nt_object.specs.Object.{Block, block_bytes, block_name, padding_begins}
+use Rattle.nt_object.specs.Object.{Block, block_bytes, block_name}
 use Rattle.nt_object.specs.Stream.{start_len, blocks_bytes}
 use Rattle.nt_object.specs.Object.{padded}
 use Rattle.nt_write.specs.Layout.{with_block, with_block_of}

@@ -12,13 +12,15 @@ use Rattle.nt_object.specs.declared.object.BlockKind.{BlockKind}
 use Rattle.nt_object.specs.declared.object.BlockKind.TheVariants as block
 use Rattle.nt_head.specs.Head.{zero_state}
 use Rattle.nt_object.specs.Object.{Block}
-use Rattle.nt_write.specs.Bodies.{HoldsEvent, HoldsMeta, IsBody, stack_body, stack_items, point_body}
+use Rattle.nt_blocks.specs.Bodies.{HoldsEvent, HoldsMeta, IsBody, stack_body, stack_items, point_body}
 use Rattle.ep_defs.specs.Entry.{EventEntry, PointEntry, Entry, Event, Point}
-use Rattle.nt_write.specs.Ordered.{Names, no_names, stack_of, kinds_of}
-use Rattle.nt_write.specs.Layout.{Draft, event_draft, blob_body, meta_drafts, with_block, with_block_of}
-use Rattle.nt_write.specs.Writable.{CanDefine, CanWrite, CanPoint}
+use Rattle.nt_blocks.specs.Ordered.{Names, no_names, stack_of, kinds_of}
+use Rattle.nt_blocks.specs.Drafts.{Draft, blob_body, meta_drafts}
+use Rattle.nt_write.specs.Layout.{event_draft, with_block, with_block_of}
+use Rattle.nt_write.specs.Writable.{CanDefine, IsStack, CanWrite, CanPoint}
+use Rattle.nt_write.proofs.Bytes.{low-of}
 use Rattle.nt_write.specs.Canonical.{is_plain}
-use Rattle.nt_write.proofs.BlobBodies.{blobs_of, items_at, kinds-at, blob_body-is, event_kind, IsEventDraft, events-chain, events-hold, meta_kinds, metas-chain, metas-hold}
+use Rattle.nt_write.proofs.BlobBodies.{blobs_of, items_at, kinds-at, blob_body-is, event_kind, IsEventDraft, events-chain, events-low, events-hold, meta_kinds, metas-chain, metas-low, metas-hold}
 use Rattle.nt_write.proofs.BlockSteps.{AreBlocks, next_body, block-more, point-len, point-is, stack_kinds, stack-kinds, stacks-are}
 use Rattle.nt_write.proofs.Names.{Tells, tells-append, named, named-append, no_more, metas-tell, stacks-tell, event-tells, IsNumbered}
 use Rattle.nt_write.proofs.Items.{all-append, ArePlain, metas-plain, stacks-plain}
@@ -64,7 +66,7 @@ metas-told old (def ∷ new) stacks blocks told h can few fits =
     subst (λ (es : List Entry). AreTold (with_block_of block.Metadata drafts (blob_body drafts) blocks) es (record { definitions = named 1 (old ++ def ∷ new) []; stacks = stacks })) (append-nil told)
     (block-told block.Metadata (blob_body drafts) blocks told [] (record { definitions = named 1 old []; stacks = stacks }) (record { definitions = named 1 (old ++ def ∷ new) []; stacks = stacks })
     (items_at (at + 20) (blobs_of zero_state drafts) kinds) kinds h (omega (arith, fits))
-    (blob_body-is HoldsMeta at drafts kinds (metas-chain zero_state id (def ∷ new) refl refl can) hold)
+    (blob_body-is HoldsMeta at drafts kinds (metas-chain zero_state id (def ∷ new) refl refl can) (metas-low id (def ∷ new)) hold)
     (kinds-at HoldsMeta (at + 20) (blobs_of zero_state drafts) kinds hold)
     (subst (λ (ds : List (ℕ × EventDef)). Tells (record { definitions = named 1 old []; stacks = stacks }) kinds [] (record { definitions = ds; stacks = stacks })) (sym (named-next old (def ∷ new)))
     (metas-tell id (def ∷ new) (named 1 old []) stacks (λ i le. no_more 1 old i (omega arith))))
@@ -72,12 +74,8 @@ metas-told old (def ∷ new) stacks blocks told h can few fits =
 
 -- ---- stacks
 
--- A stack of at most 100 frames.
-abbrev pub IsShort : List ℕ → Type 0
-IsShort stack = length stack ≤ 800
-
 -- A block of the new stacks, where there are any, names them.
-pub stacks-told : (old new : List (List ℕ)) (definitions : List (ℕ × EventDef)) (blocks : List Block) (told : List Entry) → AreTold blocks told (record { definitions = definitions; stacks = named 1 old [] }) → AllByRecursion IsShort new → length (old ++ new) < 2 ^ 31 → length (stack_body (length old + 1) new) ≤ 102400 → AreTold (with_block_of block.Stack new (stack_body (length old + 1) new) blocks) told (record { definitions = definitions; stacks = named 1 (old ++ new) [] })
+pub stacks-told : (old new : List (List ℕ)) (definitions : List (ℕ × EventDef)) (blocks : List Block) (told : List Entry) → AreTold blocks told (record { definitions = definitions; stacks = named 1 old [] }) → AllByRecursion IsStack new → length (old ++ new) < 2 ^ 31 → length (stack_body (length old + 1) new) ≤ 102400 → AreTold (with_block_of block.Stack new (stack_body (length old + 1) new) blocks) told (record { definitions = definitions; stacks = named 1 (old ++ new) [] })
 stacks-told old [] definitions blocks told h can few fits =
     subst (λ (stacks : List (List ℕ)). AreTold blocks told (record { definitions = definitions; stacks = named 1 stacks [] })) (sym (append-nil old)) h
 stacks-told old (stack ∷ new) definitions blocks told h can few fits =
@@ -128,16 +126,21 @@ pending-draft definitions stacks p few few_stacks h = record {
       number = h.can.number;
       processor = omega arith;
       stack = omega (arith, h.stack.few);
-      size = omega (arith, h.can.payload);
+      size = omega (arith, h.can.short);
     };
     capture = h.can.thread;
     thread = h.can.thread;
     stamp = h.can.stamp;
-    activity = h.can.activity;
-    related = h.can.related;
+    activity = h.can.activity.long;
+    related = h.can.related.long;
   };
   some = h.def.some;
   size = refl;
+  low = record {
+    activity = low-of p.event.activity h.can.activity.bytes;
+    related = low-of p.event.related h.can.related.bytes;
+    payload = low-of p.event.payload h.can.payload;
+  };
 }
 
 -- So do all that wait.
@@ -173,7 +176,7 @@ events-told definitions stacks (p ∷ ps) blocks told h pending few few_stacks f
     let names : Names = record { definitions = named 1 definitions []; stacks = named 1 stacks [] } in
     block-told block.Event (blob_body drafts) blocks told (map entry_of (p ∷ ps)) names names
     (items_at (at + 20) (blobs_of zero_state drafts) (map event_kind drafts)) (map event_kind drafts) h (omega (arith, fits))
-    (blob_body-is HoldsEvent at drafts (map event_kind drafts) (events-chain zero_state drafts (omega arith) are) hold)
+    (blob_body-is HoldsEvent at drafts (map event_kind drafts) (events-chain zero_state drafts (omega arith) are) (events-low drafts are) hold)
     (kinds-at HoldsEvent (at + 20) (blobs_of zero_state drafts) (map event_kind drafts) hold)
     (events-tell definitions stacks (p ∷ ps) pending)
     (events-plain (p ∷ ps))

@@ -1,5 +1,5 @@
 -- What is written for entries is a stream of the format that tells them.
-use Rattle.std.proofs.Common.{◌≡◌, ℕ, ◌^◌, ◌<◌, Bool, true, false, cond, List, [], ◌∷◌, ◌++◌, length, Ok, refl, ap, arith}
+use Rattle.std.proofs.Common.{◌≡◌, ◌^◌, ◌<◌, List, [], ◌∷◌, ◌++◌, length, Ok, refl, ap}
 use Rattle.std.specs.Prelude.{IsTrue}
 use Rattle.std.specs.List.{AllByRecursion}
 use Rattle.ep_defs.specs.declared.item.ItemKind.{ItemKind}
@@ -7,11 +7,11 @@ use Rattle.ep_defs.specs.declared.item.ItemKind.TheVariants as item
 use Rattle.ep_defs.specs.declared.session.TraceInfo.{TraceInfo}
 use Rattle.ep_defs.specs.Session.{is_info}
 use Rattle.nt_write.specs.Trace.{trace_item, IsTrace}
-use Rattle.ep_defs.specs.Entry.{Entry, Event, Point}
-use Rattle.nt_write.specs.Ordered.{no_names, kinds_of, told_after}
-use Rattle.nt_write.specs.Layout.{Layout, empty_layout, with_stack, needs_flush, flushed, with_event, with_entry, with_entries}
+use Rattle.ep_defs.specs.Entry.{Entry}
+use Rattle.nt_blocks.specs.Ordered.{no_names, kinds_of, told_after}
+use Rattle.nt_write.specs.Layout.{Layout, empty_layout, flushed, with_entry, with_entries}
 use Rattle.nt_write.specs.Canonical.{encoded, IsCanonical}
-use Rattle.nt_write.specs.Writable.{CanTell, StacksFit, HasNoStack}
+use Rattle.nt_write.specs.Writable.{CanTell, StacksFit}
 use Rattle.nt_write.proofs.Names.{told-is, told-cons}
 use Rattle.nt_write.proofs.Items.{no_other_trace}
 use Rattle.nt_write.proofs.Laid.{laid-empty}
@@ -57,23 +57,3 @@ with_entries-more layout (first ∷ entries) entry = with_entries-more (with_ent
 pub stacks_fit-more : (layout : Layout) (entries : List Entry) (entry : Entry) → StacksFit layout entries → length (with_entries layout (entries ++ entry ∷ [])).stacks < 2 ^ 31 → StacksFit layout (entries ++ entry ∷ [])
 stacks_fit-more layout [] entry h few = (few, tt)
 stacks_fit-more layout (first ∷ entries) entry h few = (h.0, stacks_fit-more (with_entry layout first) entries entry h.1 few)
-
--- An event without a stack adds none.
-with_no_stack : (stacks : List (List ℕ)) (stack : List ℕ) → stacks ≡ [] → stack ≡ [] → with_stack stacks stack ≡ []
-with_no_stack stacks stack none empty = rw empty none
-
--- Nor does any entry without a stack.
-pub no_stack_more : (layout : Layout) (entry : Entry) → layout.stacks ≡ [] → HasNoStack entry → (with_entry layout entry).stacks ≡ []
-no_stack_more layout (Event event) none h = by_test (needs_flush layout event)
-  where
-    by_test : (needed : Bool) → (with_event (cond needed (flushed layout) layout) event).stacks ≡ []
-    by_test true = with_no_stack layout.stacks event.stack none h
-    by_test false = with_no_stack layout.stacks event.stack none h
-no_stack_more layout (Point point) none h = refl
-
--- Entries without stacks leave none.
-pub no_stacks-fit : (layout : Layout) (entries : List Entry) → layout.stacks ≡ [] → AllByRecursion HasNoStack entries → StacksFit layout entries
-no_stacks-fit layout [] none h = tt
-no_stacks-fit layout (entry ∷ entries) none h =
-    let still : (with_entry layout entry).stacks ≡ [] = no_stack_more layout entry none h.0 in
-    (rw still (omega arith), no_stacks-fit (with_entry layout entry) entries still h.1)

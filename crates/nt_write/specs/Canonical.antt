@@ -8,7 +8,7 @@ use Rattle.ep_defs.specs.declared.item.ItemKind.TheVariants as item
 use Rattle.nt_object.specs.Stream.{stream_start, blocks_bytes}
 use Rattle.nt_write.specs.Trace.{IsTrace}
 use Rattle.ep_defs.specs.Entry.{Entry, Point, PointEntry}
-use Rattle.nt_write.specs.Ordered.{kinds_of, Tell}
+use Rattle.nt_blocks.specs.Ordered.{kinds_of, Tell}
 use Rattle.nt_write.specs.Layout.{Layout, empty_layout, with_entries, flushed}
 
 -- The start, and the blocks that are flushed.

@@ -1,60 +1,20 @@
 -- How entries are laid out in blocks: what a writer chooses where the format leaves a choice (this project's profile).
-use Rattle.std.specs.Prelude.{ℕ, ◌+◌, ◌-◌, ◌%◌, ◌^◌, Bool, true, false, ◌&&◌, ◌||◌, not, List, [], ◌∷◌, ◌++◌, length, map, drop, replicate, min, max, fold, nat_eq, nat_lt, ◌==◌, Option, if◌then◌else◌, unwrap_or}
-use Rattle.std.specs.Int.{w16, w32, w64}
-use Rattle.std.specs.List.{concat, position_from}
+use Rattle.std.specs.Prelude.{ℕ, ◌+◌, Bool, false, ◌&&◌, ◌||◌, List, [], ◌∷◌, ◌++◌, length, drop, nat_lt, ◌==◌, if◌then◌else◌, unwrap_or}
+use Rattle.std.specs.List.{position_from}
 use Rattle.ep_defs.specs.declared.event.EventDef.{EventDef}
-use Rattle.ep_defs.specs.Event.{is_same_text, is_same_event}
+use Rattle.ep_defs.specs.Event.{is_same_event}
+use Rattle.ep_defs.specs.Entry.{EventEntry, PointEntry, Entry, Event, Point}
 use Rattle.nt_object.specs.declared.object.BlockKind.{BlockKind}
 use Rattle.nt_object.specs.declared.object.BlockKind.TheVariants as block
-use Rattle.nt_head.specs.declared.head.HeadState.{HeadState}
-use Rattle.pt_num.specs.Numbers.{fixed}
 use Rattle.nt_object.specs.Object.{Block, padded}
-use Rattle.nt_head.specs.Fewest.{head_bytes}
 use Rattle.nt_object.specs.Stream.{start_len, blocks_bytes}
-use Rattle.nt_head.specs.Head.{zero_state}
-use Rattle.nt_write.specs.Meta.{meta_payload}
-use Rattle.nt_write.specs.Bodies.{stack_body, point_body}
-use Rattle.ep_defs.specs.Entry.{EventEntry, PointEntry, Entry, Event, Point}
-
--- ---- bodies
-
--- A blob before it has bytes: what its header is to say, and its payload.
-pub record Draft : Type 0 where
-  pub state : HeadState
-  pub payload : List ℕ
-
-abbrev pub drafts_bytes : HeadState → List Draft → List ℕ
-drafts_bytes before [] = []
-drafts_bytes before (draft ∷ drafts) = head_bytes before draft.state ++ draft.payload ++ drafts_bytes draft.state drafts
-
-abbrev pub stamps : List Draft → List ℕ
-stamps drafts = map (λ d. d.state.stamp) drafts
-
--- The least and the greatest of the numbers, or 0 where there are none.
-abbrev pub least : List ℕ → ℕ
-least [] = 0
-least (n ∷ ns) = fold min n ns
-
-abbrev pub greatest : List ℕ → ℕ
-greatest [] = 0
-greatest (n ∷ ns) = fold max n ns
-
--- A header of 20 bytes that says how its blobs are compressed, and the blobs.
-abbrev pub blob_body : List Draft → List ℕ
-blob_body drafts =
-    concat
-    (fixed w16 20 ∷ fixed w16 1 ∷ fixed w64 (least (stamps drafts)) ∷ fixed w64 (greatest (stamps drafts)) ∷ drafts_bytes zero_state drafts ∷ [])
-
--- In a metadata blob's header all is 0 but the size, and it counts as sorted.
-abbrev pub meta_draft : ℕ → EventDef → Draft
-meta_draft id def =
-    let payload = meta_payload id def in
-    record { state = record zero_state { sorted = true; size = length payload }; payload = payload }
-
--- The definitions under the ids from this one on.
-abbrev pub meta_drafts : ℕ → List EventDef → List Draft
-meta_drafts id [] = []
-meta_drafts id (def ∷ defs) = meta_draft id def ∷ meta_drafts (id + 1) defs
+use Rattle.nt_head.specs.declared.limits.TheConstants.{HEAD_BYTES}
+use Rattle.nt_meta.specs.Meta.{meta_payload}
+use Rattle.nt_blocks.specs.declared.limits.TheConstants.{WRITTEN_BYTES}
+use Rattle.nt_blocks.specs.Bodies.{stack_body, point_body}
+use Rattle.nt_blocks.specs.Drafts.{Draft, blob_body, meta_drafts}
+use Rattle.nt_stacks.specs.Stacks.{with_stack, stack_id}
+use Rattle.nt_write.specs.declared.limits.TheConstants.{SIZE_BYTES}
 
 -- ---- layout
 
@@ -82,15 +42,6 @@ id_in same x xs = unwrap_or (position_from (λ y. same x y) 1 xs) 0
 -- The list with this member at its end, unless it is there.
 abbrev pub with_member : {A : Type 0} → (A → A → Bool) → List A → A → List A
 with_member same xs x = if id_in same x xs == 0 then xs ++ x ∷ [] else xs
-
--- The stacks with this one. The empty stack is not kept, and has the id 0.
-abbrev pub with_stack : List (List ℕ) → List ℕ → List (List ℕ)
-with_stack stacks [] = stacks
-with_stack stacks (b ∷ bytes) = with_member is_same_text stacks (b ∷ bytes)
-
-abbrev pub stack_id : List (List ℕ) → List ℕ → ℕ
-stack_id stacks [] = 0
-stack_id stacks (b ∷ bytes) = id_in is_same_text (b ∷ bytes) stacks
 
 -- The definitions that are not flushed, as blobs.
 abbrev pub new_metas : Layout → List Draft
@@ -127,7 +78,7 @@ flushed layout =
 
 -- A body would pass 102,400 bytes by so many more.
 abbrev pub passes : List ℕ → ℕ → Bool
-passes body more = nat_lt 102400 (length body + more)
+passes body more = nat_lt WRITTEN_BYTES (length body + more)
 
 -- A new blob counts as 88 bytes and its payload, a new stack as 4 bytes and its own.
 abbrev pub needs_flush : Layout → EventEntry → Bool
@@ -135,9 +86,9 @@ needs_flush layout event =
     let id = id_in is_same_event event.def layout.definitions in
     let next = length layout.definitions + 1 in
     let is_new_stack = nat_lt (length layout.stacks) (length (with_stack layout.stacks event.stack)) in
-    passes (blob_body layout.events) (88 + length event.payload)
-    || ((id == 0) && passes (blob_body (new_metas layout)) (88 + length (meta_payload next event.def)))
-    || (is_new_stack && passes (new_stack_body layout) (4 + length event.stack))
+    passes (blob_body layout.events) (HEAD_BYTES + length event.payload)
+    || ((id == 0) && passes (blob_body (new_metas layout)) (HEAD_BYTES + length (meta_payload next event.def)))
+    || (is_new_stack && passes (new_stack_body layout) (SIZE_BYTES + length event.stack))
 
 -- What the header of an event's blob says: one thread wrote it, on processor 0.
 abbrev pub event_draft : ℕ → ℕ → EventEntry → Draft

@@ -1,11 +1,8 @@
-pub mod Bodies
+pub mod Arriving
 pub mod Canonical
-pub mod Kept
 pub mod Layout
-pub mod Making
-pub mod Meta
-pub mod Ordered
 pub mod Trace
+pub mod Value
 pub mod Vectors
 pub mod Writable
 pub mod Writer

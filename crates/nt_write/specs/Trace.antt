@@ -6,7 +6,7 @@ use Rattle.ep_defs.specs.declared.item.Item.{Item}
 use Rattle.ep_defs.specs.declared.item.ItemKind.TheVariants as item
 use Rattle.nt_object.specs.Object.{Block, block_bytes, padding_begins}
 use Rattle.nt_object.specs.Stream.{start_len, IsStream}
-use Rattle.nt_write.specs.Bodies.{IsBody}
+use Rattle.nt_blocks.specs.Bodies.{IsBody}
 
 -- Where the body of a block begins that stands at this offset.
 abbrev pub body_begins : ℕ → Block → ℕ

@@ -8,7 +8,8 @@ use Rattle.nt_object.specs.declared.object.BlockKind.{BlockKind}
 use Rattle.nt_object.specs.declared.object.BlockKind.TheVariants as block
 use Rattle.nt_head.specs.Head.{zero_state}
 use Rattle.ep_defs.specs.Entry.{Entry, Event, Point}
-use Rattle.nt_write.specs.Layout.{Draft, empty_layout, with_entries, flushed}
+use Rattle.nt_blocks.specs.Drafts.{Draft}
+use Rattle.nt_write.specs.Layout.{empty_layout, with_entries, flushed}
 
 -- The event E of the provider P, with id 1, level 4 and keywords 1.
 abbrev pub event_e : EventDef

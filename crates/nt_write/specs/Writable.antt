@@ -1,30 +1,42 @@
 -- Which entries can be written: the format's ranges (the NetTrace format document of PerfView (version 4)), and the bounds of this project's profile.
-use Rattle.std.specs.Prelude.{◌≡◌, ℕ, ◌^◌, ◌<◌, ◌≤◌, List, [], ◌∷◌, length}
+use Rattle.std.specs.Prelude.{◌≡◌, ℕ, ◌%◌, ◌^◌, ◌<◌, ◌≤◌, List, [], ◌∷◌, length, fold}
 use Rattle.std.specs.List.{AllByRecursion}
+use Rattle.ep_defs.specs.declared.limits.TheConstants.{FRAME_BYTES, PAYLOAD_BYTES}
 use Rattle.ep_defs.specs.declared.event.EventDef.{EventDef}
-use Rattle.nt_write.specs.Meta.{meta_payload, FitsPayload}
 use Rattle.ep_defs.specs.Entry.{Entry, Event, Point, EventEntry, PointEntry}
+use Rattle.ep_defs.specs.Ranges.{AreBytes, IsId}
+use Rattle.nt_meta.specs.Meta.{meta_payload, FitsPayload}
+use Rattle.nt_blocks.specs.declared.limits.TheConstants.{POINT_THREADS}
+use Rattle.nt_write.specs.declared.limits.TheConstants.{STACK_BYTES}
 use Rattle.nt_write.specs.Layout.{Layout, with_entry}
+use Rattle.nt_write.specs.Value.{framed_with}
 
 -- A definition whose payload fits a body.
 pub record CanDefine (def : EventDef) : Type 0 where
   pub fits : FitsPayload def
-  pub short : (id : ℕ) → length (meta_payload id def) ≤ 60000
+  pub short : (id : ℕ) → length (meta_payload id def) ≤ PAYLOAD_BYTES
 
--- An event with at most 100 frames and 60,000 bytes of payload.
+-- At most 100 frames of 8 bytes each.
+pub record IsStack (stack : List ℕ) : Type 0 where
+  pub short : length stack ≤ STACK_BYTES
+  pub whole : length stack % FRAME_BYTES ≡ 0
+  pub bytes : AreBytes stack
+
+-- An event with such a stack and at most 60,000 bytes of payload.
 pub record CanWrite (e : EventEntry) : Type 0 where
   pub thread : e.thread < 2 ^ 64
   pub number : e.number < 2 ^ 32
   pub stamp : e.stamp < 2 ^ 64
-  pub activity : length e.activity ≡ 16
-  pub related : length e.related ≡ 16
-  pub stack : length e.stack ≤ 800
-  pub payload : length e.payload ≤ 60000
+  pub activity : IsId e.activity
+  pub related : IsId e.related
+  pub stack : IsStack e.stack
+  pub short : length e.payload ≤ PAYLOAD_BYTES
+  pub payload : AreBytes e.payload
   pub def : CanDefine e.def
 
 pub record CanPoint (p : PointEntry) : Type 0 where
   pub stamp : p.stamp < 2 ^ 64
-  pub few : length p.threads ≤ 1000001
+  pub few : length p.threads ≤ POINT_THREADS
   pub fit : AllByRecursion (λ thread. (thread.0 < 2 ^ 64) × (thread.1 < 2 ^ 32)) p.threads
 
 abbrev pub CanTell : Entry → Type 0
@@ -37,7 +49,11 @@ StacksFit layout [] = Unit {0}
 StacksFit layout (entry ∷ entries) =
     (length (with_entry layout entry).stacks < 2 ^ 31) × StacksFit (with_entry layout entry) entries
 
--- An entry that needs no stack.
-abbrev pub HasNoStack : Entry → Type 0
-HasNoStack (Event e) = e.stack ≡ []
-HasNoStack (Point p) = Unit {0}
+-- How many events with a stack there are since the last point, with those before the entry.
+abbrev pub framed_after : ℕ → Entry → ℕ
+framed_after before (Event e) = framed_with before e.stack
+framed_after before (Point p) = 0
+
+-- How many events with a stack there are since the last point.
+abbrev pub framed : List Entry → ℕ
+framed entries = fold framed_after 0 entries

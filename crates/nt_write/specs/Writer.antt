@@ -4,16 +4,16 @@ use Rattle.std.specs.List.{AllByRecursion}
 use Rattle.ep_defs.specs.declared.event.EventDef.{EventDef}
 use Rattle.ep_defs.specs.declared.session.TraceInfo.{TraceInfo}
 use Rattle.ep_defs.specs.Session.{is_info}
+use Rattle.ep_defs.specs.Entry.{EventEntry, PointEntry, Entry}
 use Rattle.pt_io.specs.Taken.{IsPrefix}
-use Rattle.nt_write.specs.declared.writer.Fault.{Fault}
+use Rattle.nt_object.specs.Stream.{stream_start}
+use Rattle.nt_write.specs.declared.fault.Fault.{Fault}
 use Rattle.nt_write.specs.declared.writer.EventOut.{EventOut}
 use Rattle.nt_write.specs.declared.writer.TraceWriter.{TraceWriter}
-use Rattle.nt_object.specs.Stream.{stream_start}
-use Rattle.ep_defs.specs.Entry.{EventEntry, PointEntry, Entry}
 use Rattle.nt_write.specs.Layout.{empty_layout, with_entries}
-use Rattle.nt_write.specs.Writable.{CanTell, HasNoStack}
+use Rattle.nt_write.specs.Writable.{CanTell, StacksFit, framed}
 use Rattle.nt_write.specs.Writing.{IsAt}
-use Rattle.nt_write.specs.Canonical.{encoded, IsCanonical}
+use Rattle.nt_write.specs.Canonical.{IsCanonical}
 
 abbrev pub fault_of : {S : Type 0} → TraceWriter S → Option Fault
 fault_of writer = writer.fault
@@ -39,18 +39,19 @@ abbrev pub point_of : ℕ → List (ℕ × ℕ) → PointEntry
 point_of stamp threads = record { stamp = stamp; threads = threads }
 
 -- The writer, which began when its sink had taken some bytes, stands for these entries and has not failed.
--- Its events are of these definitions.
-pub record IsWriting {S : Type 0} (tells : S → Bool) (taken : S → List ℕ) (before : List ℕ) (events : List EventDef) (info : TraceInfo) (entries : List Entry) (writer : TraceWriter S) : Type 0 where
+-- Its events are of these definitions, by their numbers.
+pub record IsWriting {S : Type 0} (tells : S → Bool) (taken : S → List ℕ) (before : List ℕ) (defs : ℕ → Option EventDef) (info : TraceInfo) (entries : List Entry) (writer : TraceWriter S) : Type 0 where
   pub sound : writer.fault ≡ None
-  pub at : IsAt tells taken (before ++ stream_start info) events (with_entries empty_layout entries) writer
+  pub at : IsAt tells taken (before ++ stream_start info) defs (with_entries empty_layout entries) writer
+  pub framed_are : writer.pending.stacks.framed ≡ framed entries
   pub info_fits : IsTrue (is_info info)
   pub can_tell : AllByRecursion CanTell entries
-  pub no_stacks : AllByRecursion HasNoStack entries
+  pub stacks_fit : StacksFit empty_layout entries
 
 -- What the sink took begins the stream of these entries.
 abbrev pub TookPart : {S : Type 0} → (S → Bool) → (S → List ℕ) → List ℕ → TraceInfo → List Entry → S → Type 0
 TookPart tells taken before info entries sink =
-    IsTrue (tells sink) → (part : List ℕ) × IsPrefix part (encoded info entries) × (taken sink ≡ before ++ part)
+    IsTrue (tells sink) → (bytes part : List ℕ) × IsCanonical info entries bytes × IsPrefix part bytes × (taken sink ≡ before ++ part)
 
 -- What the sink took is the one stream of these entries.
 abbrev pub TookStream : {S : Type 0} → (S → Bool) → (S → List ℕ) → List ℕ → TraceInfo → List Entry → S → Type 0

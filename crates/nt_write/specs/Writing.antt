@@ -1,42 +1,42 @@
 -- What a writer has written of a layout, and what it keeps of it until the next flush.
-use Rattle.std.specs.Prelude.{◌≡◌, ℕ, zero, suc, ◌+◌, ◌%◌, ◌≤◌, ◌++◌, Bool, List, [], ◌∷◌, length, Option, Some, None, Result, Err, slice_get, slice_index, IsTrue, OnOk, OnErr, if◌then◌else◌}
+use Rattle.std.specs.Prelude.{◌≡◌, ℕ, ◌+◌, ◌%◌, ◌≤◌, ◌++◌, Bool, ◌||◌, List, [], length, Option, Some, None, Result, Err, slice_index, IsTrue, OnOk, if◌then◌else◌}
+use Rattle.std.specs.Option.{option_map}
 use Rattle.ep_defs.specs.declared.event.EventDef.{EventDef}
+use Rattle.ep_defs.specs.declared.limits.TheConstants.{PAYLOAD_BYTES}
 use Rattle.ep_defs.specs.Event.{is_same_event}
 use Rattle.pt_io.specs.Faults.{HasRisen}
 use Rattle.pt_io.specs.Taken.{IsPrefix}
-use Rattle.nt_object.specs.declared.object.BlockKind.TheVariants as block
-use Rattle.nt_write.specs.declared.blocks.BlobBlock.{BlobBlock}
-use Rattle.nt_write.specs.declared.ids.IdTable.{IdTable}
-use Rattle.nt_write.specs.declared.output.Output.{Output}
-use Rattle.nt_write.specs.declared.writer.Fault.{Fault}
-use Rattle.nt_write.specs.declared.writer.Fault.TheVariants.{WriteFault, TooLong, OutOfMemory}
-use Rattle.nt_write.specs.declared.writer.TraceWriter.{TraceWriter}
 use Rattle.nt_object.specs.Object.{Block}
 use Rattle.nt_object.specs.Stream.{start_len, blocks_bytes}
-use Rattle.ep_defs.specs.Entry.{EventEntry}
-use Rattle.nt_write.specs.Layout.{Layout, id_in, with_member, new_metas, needs_flush, flushed}
-use Rattle.nt_write.specs.Making.{IsMaking, kind_of}
+use Rattle.nt_head.specs.declared.limits.TheConstants.{HEAD_BYTES}
+use Rattle.nt_blocks.specs.declared.limits.TheConstants.{WRITTEN_BYTES}
+use Rattle.nt_blocks.specs.Bodies.{stack_body}
+use Rattle.nt_blocks.specs.Drafts.{blob_body}
+use Rattle.nt_blocks.specs.Making.{IsMaking}
+use Rattle.nt_stacks.specs.declared.interner.Interned.{Interned}
+use Rattle.nt_write.specs.declared.limits.TheConstants.{SIZE_BYTES, STACK_BYTES}
+use Rattle.nt_write.specs.declared.fault.Fault.{Fault}
+use Rattle.nt_write.specs.declared.fault.Fault.TheVariants.{WriteFault, TooLong, OutOfMemory}
+use Rattle.nt_write.specs.declared.ids.IdTable.{IdTable}
+use Rattle.nt_write.specs.declared.pending.Pending.{Pending}
+use Rattle.nt_write.specs.declared.pending.Arrival.{Arrival}
+use Rattle.nt_write.specs.declared.output.Output.{Output}
+use Rattle.nt_write.specs.declared.writer.EventOut.{EventOut}
+use Rattle.nt_write.specs.declared.writer.TraceWriter.{TraceWriter}
+use Rattle.nt_write.specs.Value.{AreFew}
+use Rattle.nt_write.specs.Layout.{Layout, id_in, new_metas, new_stacks, new_stack_body, passes}
+use Rattle.nt_write.specs.Arriving.{passes_by, IsAtMost, HasRoomFor, CanFlush}
 
 -- ---- ids
-
--- Definitions are numbered from 1.
-abbrev pub definition_at : List EventDef → ℕ → Option EventDef
-definition_at events zero = None
-definition_at events (suc place) = slice_get events place
-
--- No definition stands twice, and each has a place in the table of ids.
-pub record AreDistinct (events : List EventDef) : Type 0 where
-  pub few : length events ≤ 1001
-  pub distinct : (i j : ℕ) (a b : EventDef) → definition_at events i ≡ Some a → definition_at events j ≡ Some b → IsTrue (is_same_event a b) → i ≡ j
 
 -- The id at a number of a definition, 0 where none was given.
 abbrev pub id_at : IdTable → ℕ → ℕ
 id_at ids number = slice_index ids.table.items number
 
 -- The table has the ids of the definitions that were used.
-pub record AreIds (events definitions : List EventDef) (ids : IdTable) : Type 0 where
+pub record AreIds (defs : ℕ → Option EventDef) (definitions : List EventDef) (ids : IdTable) : Type 0 where
   pub used : ids.used ≡ length definitions
-  pub id_is : (number : ℕ) (def : EventDef) → definition_at events number ≡ Some def → id_at ids number ≡ id_in is_same_event def definitions
+  pub id_is : (number : ℕ) (def : EventDef) → defs number ≡ Some def → id_at ids number ≡ id_in is_same_event def definitions
 
 -- ---- the sink
 
@@ -64,36 +64,74 @@ pub record IsCounted {S A : Type 0} (faults : S → ℕ) (old new : S) (result :
   pub memory : result ≡ Err OutOfMemory → faults new ≡ faults old
   pub later : faults old ≤ faults new
 
+-- ---- what is not flushed
+
+-- The bodies in the making hold what of the layout is not flushed.
+pub record IsPending (layout : Layout) (pending : Pending) : Type 0 where
+  pub metadata : IsMaking (new_metas layout) pending.metadata
+  pub events : IsMaking layout.events pending.events
+  pub first : pending.stacks.first ≡ layout.stacks_flushed + 1
+  pub stacks : pending.stacks.fresh ≡ new_stacks layout
+
+-- A body has no room for what arrives.
+abbrev pub lacks_room : Layout → Arrival → Bool
+lacks_room layout arrival =
+    passes (blob_body layout.events) (HEAD_BYTES + arrival.payload)
+    || passes_by (blob_body (new_metas layout)) HEAD_BYTES arrival.meta
+    || passes_by (new_stack_body layout) SIZE_BYTES arrival.stack
+
+-- What arrives is no longer than it may be.
+pub record IsSmall (arrival : Arrival) : Type 0 where
+  pub payload : arrival.payload ≤ PAYLOAD_BYTES
+  pub meta : IsAtMost PAYLOAD_BYTES arrival.meta
+  pub stack : IsAtMost STACK_BYTES arrival.stack
+
+-- The bodies have room for what arrives.
+pub record HasRoom (arrival : Arrival) (pending : Pending) : Type 0 where
+  pub payload : HasRoomFor arrival.payload pending.events
+  pub meta : (size : ℕ) → arrival.meta ≡ Some size → HasRoomFor size pending.metadata
+  pub stack : (size : ℕ) → arrival.stack ≡ Some size → length (stack_body pending.stacks.first pending.stacks.fresh) + (SIZE_BYTES + size) ≤ WRITTEN_BYTES
+
+-- Nothing is pending.
+pub record IsEmptied (pending : Pending) : Type 0 where
+  pub metadata : pending.metadata.bytes ≡ []
+  pub events : pending.events.bytes ≡ []
+  pub stacks : pending.stacks.fresh ≡ []
+
+-- A flush leaves the stacks that have ids.
+pub record KeepsStacks (old new : Pending) : Type 0 where
+  pub known : new.stacks.known ≡ old.stacks.known
+  pub framed : new.stacks.framed ≡ old.stacks.framed
+  pub next : new.stacks.first + length new.stacks.fresh ≡ old.stacks.first + length old.stacks.fresh
+
 -- ---- the writer
 
 abbrev pub ids_of : {S : Type 0} → TraceWriter S → IdTable
 ids_of writer = writer.ids
 
-abbrev pub metadata_of : {S : Type 0} → TraceWriter S → BlobBlock
-metadata_of writer = writer.metadata
+abbrev pub pending_of : {S : Type 0} → TraceWriter S → Pending
+pending_of writer = writer.pending
 
-abbrev pub events_of : {S : Type 0} → TraceWriter S → BlobBlock
-events_of writer = writer.events
-
--- The writer stands where the layout does. Its events are of these definitions.
-pub record IsAt {S : Type 0} (tells : S → Bool) (taken : S → List ℕ) (start : List ℕ) (events : List EventDef) (layout : Layout) (writer : TraceWriter S) : Type 0 where
+-- The writer stands where the layout does, but for the stacks that have ids. Its events are of these definitions.
+pub record IsKept {S : Type 0} (tells : S → Bool) (taken : S → List ℕ) (start : List ℕ) (defs : ℕ → Option EventDef) (layout : Layout) (writer : TraceWriter S) : Type 0 where
   pub output : HasWritten tells taken start layout.blocks writer.output
-  pub metadata : IsMaking (new_metas layout) writer.metadata
-  pub metadata_kind : kind_of writer.metadata ≡ block.Metadata
-  pub drafts : IsMaking layout.events writer.events
-  pub drafts_kind : kind_of writer.events ≡ block.Event
-  pub ids : AreIds events layout.definitions writer.ids
-  pub flushed_few : layout.definitions_flushed ≤ length layout.definitions
+  pub pending : IsPending layout writer.pending
+  pub ids : AreIds defs layout.definitions writer.ids
+  pub flushes : CanFlush layout
 
--- The layout after a flush, where there is to be one.
-abbrev pub flushed_if : Bool → Layout → Layout
-flushed_if full layout = if full then flushed layout else layout
+-- The writer stands where the layout does.
+pub record IsAt {S : Type 0} (tells : S → Bool) (taken : S → List ℕ) (start : List ℕ) (defs : ℕ → Option EventDef) (layout : Layout) (writer : TraceWriter S) : Type 0 where
+  pub kept : IsKept tells taken start defs layout writer
+  pub known : writer.pending.stacks.known ≡ layout.stacks
+  pub few : AreFew writer.pending.stacks.known writer.pending.stacks.framed
 
--- The layout with room for an event.
-abbrev pub roomy : Layout → EventEntry → Layout
-roomy layout event = flushed_if (needs_flush layout event) layout
+-- ---- what arrives
 
--- The layout with a definition.
-abbrev pub with_definition : Layout → EventDef → Layout
-with_definition layout def =
-    record layout { definitions = with_member is_same_event layout.definitions def }
+-- An event's payload, and the payload of its definition and its stack where these are new.
+abbrev pub arrival_for : EventOut → Option (List ℕ) → Interned → Arrival
+arrival_for out meta stack =
+    record {
+      payload = length out.payload.now;
+      meta = option_map (λ bytes. length bytes) meta;
+      stack = if stack.is_new then Some (length out.frames.now) else None;
+    }

@@ -1,10 +1,13 @@
 //! The metadata ids of a stream's definitions.
-ghost use Rattle.std.specs.Prelude.{◌≡◌, ℕ, ◌+◌, ◌^◌, ◌<◌, ◌≤◌, ◌++◌, ◌==◌, List, [], ◌∷◌, Some, length, count_by, IfOk};
+ghost use Rattle.std.specs.Prelude.{◌≡◌, ℕ, ◌+◌, ◌<◌, ◌≤◌, ◌++◌, ◌==◌, List, [], ◌∷◌, Some, length, count_by, IfOk};
+ghost use Rattle.nt_meta.specs.declared.limits.TheConstants.{LAST_ID};
+ghost use Rattle.nt_write.specs.declared.limits.TheConstants.{LAST_EVENT};
 
+use crate::limits::LAST_EVENT;
 use std::alloc::{AllocError, Global};
 
-// Definitions have the numbers 1 to 1,001.
-const PLACES: usize = 1_002;
+// One for each number of a definition, and for 0.
+const PLACES: usize = LAST_EVENT as usize + 1;
 
 /// The metadata id of each definition by the definition's number. The ids are 1, 2, 3, .. in the order of first use.
 #[derive(Debug, Drop)]
@@ -20,13 +23,13 @@ pub struct IdTable {
 
 impl IdTable {
     ghost use Rattle.ep_defs.specs.declared.event.EventDef.{EventDef};
-    ghost use Rattle.ep_defs.specs.Event.{is_same_event};
-    ghost use Rattle.nt_write.specs.Layout.{id_in};
-    ghost use Rattle.nt_write.specs.Writing.{definition_at, AreDistinct, AreIds, id_at};
+    ghost use Rattle.std.specs.Prelude.{Option};
+    ghost use Rattle.ep_defs.specs.Definitions.{AreDistinct};
+    ghost use Rattle.nt_write.specs.Writing.{AreIds, id_at};
 
     /// A table without ids.
     pub fn new(alloc: Global) -> Result<IdTable, AllocError>
-        ensures { (events : List EventDef) → IfOk result (λ ids. AreIds events [] ids) }
+        ensures { (defs : ℕ → Option EventDef) → IfOk result (λ ids. AreIds defs [] ids) }
     {
         let table = vec![in alloc; 0; PLACES]?;
         Ok(IdTable { table, used: 0 })
@@ -34,7 +37,7 @@ impl IdTable {
 
     /// The id at this number, 0 where none was given.
     pub fn get(&self, number: u32) -> u32
-        requires { number ≤ 1001 }
+        requires { number ≤ LAST_EVENT }
         ensures { result ≡ id_at self.now number }
     {
         self.table[number as usize]
@@ -43,21 +46,24 @@ impl IdTable {
     /// The id that is given next.
     pub fn next(&self) -> u32
         ensures positive { 0 < result }
-        ensures small { result < 2 ^ 31 }
-        ensures next { (events definitions : List EventDef) → AreIds events definitions self.now → result ≡ length definitions + 1 }
+        ensures small { result ≤ LAST_ID }
+        ensures next { (defs : ℕ → Option EventDef) (definitions : List EventDef) → AreIds defs definitions self.now → result ≡ length definitions + 1 }
     {
         self.used + 1
     }
 
     /// Gives the next id to the definition with this number, which has none.
-    pub fn give(&mut self, number: u32)
-        requires number { number ≤ 1001 }
+    pub fn give(&mut self, number: u32) -> u32
+        requires number { number ≤ LAST_EVENT }
         requires free { id_at self.old number ≡ 0 }
-        ensures { (events definitions : List EventDef) (def : EventDef)
-            → AreIds events definitions self.old → AreDistinct events → definition_at events number ≡ Some def
-            → AreIds events (definitions ++ def ∷ []) self.new }
+        ensures positive { 0 < result }
+        ensures next { (defs : ℕ → Option EventDef) (definitions : List EventDef) → AreIds defs definitions self.old → result ≡ length definitions + 1 }
+        ensures given { (defs : ℕ → Option EventDef) (definitions : List EventDef) (def : EventDef)
+            → AreIds defs definitions self.old → AreDistinct defs → defs number ≡ Some def
+            → AreIds defs (definitions ++ def ∷ []) self.new }
     {
         self.used += 1;
         self.table[number as usize] = self.used;
+        self.used
     }
 }

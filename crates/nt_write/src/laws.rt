@@ -5,14 +5,12 @@ ghost use Rattle.ep_defs.specs.Session.{is_info};
 ghost use Rattle.ep_defs.specs.Entry.{Entry};
 ghost use Rattle.nt_write.specs.Layout.{empty_layout, with_entries};
 ghost use Rattle.nt_write.specs.Canonical.{encoded, IsCanonical};
-ghost use Rattle.nt_write.specs.Writable.{CanTell, StacksFit, HasNoStack};
+ghost use Rattle.nt_write.specs.Writable.{CanTell, StacksFit};
 
 /// What the writer makes of entries is a stream of the format that tells them, where each entry can be written and
-/// the ids of the definitions, and of the stacks since each point, fit 31 bits. Entries without stacks need no bound
-/// on the stacks.
+/// the ids of the definitions, and of the stacks since each point, fit 31 bits.
 pub fn written_is_canonical()
     ensures any { (info : TraceInfo) (entries : List Entry) → IsTrue (is_info info) → AllByRecursion CanTell entries → length (with_entries empty_layout entries).definitions < 2 ^ 31 → StacksFit empty_layout entries → IsCanonical info entries (encoded info entries) }
-    ensures without_stacks { (info : TraceInfo) (entries : List Entry) → IsTrue (is_info info) → AllByRecursion CanTell entries → length (with_entries empty_layout entries).definitions < 2 ^ 31 → AllByRecursion HasNoStack entries → IsCanonical info entries (encoded info entries) }
 {}
 
 /// For one info and one list of entries there is at most one canonical stream.

@@ -1,17 +1,16 @@
 //! Where the blocks of a stream go.
 ghost use Rattle.std.specs.Prelude.{◌≡◌, ℕ, ◌+◌, ◌*◌, ◌^◌, ◌<◌, ◌≤◌, ◌++◌, List, [], ◌∷◌, length, OnOk, OnErr};
 
-use crate::blocks::BlobBlock;
-use crate::writer::Fault;
+use crate::fault::Fault;
+use crate::pending::{Arrival, Pending};
+use crate::stacks::Stacks;
+use nt_blocks::BlobBlock;
 use nt_object::{BlockKind, put_block};
 use pt_io::Sink;
 use std::alloc::Global;
 
 // The null reference, which ends a stream.
 const END: u8 = 1;
-
-// A body's size is a number of 32 bits in a stream; this many bytes and more are not written.
-const TOO_LARGE: usize = 1 << 31;
 
 /// A sink that takes a stream, and what the place of the next block depends on.
 #[derive(Drop)]
@@ -24,11 +23,15 @@ pub struct Output<S: Sink> {
 }
 
 impl<S: Sink> Output<S> {
+    ghost use Rattle.nt_object.specs.declared.object.BlockKind.TheVariants as block;
     ghost use Rattle.nt_object.specs.Object.{Block};
     ghost use Rattle.nt_object.specs.Stream.{blocks_bytes};
-    ghost use Rattle.nt_write.specs.Layout.{Draft, with_block, with_block_of, blob_body};
-    ghost use Rattle.nt_write.specs.Making.{IsMaking, kind_of};
-    ghost use Rattle.nt_write.specs.Writing.{HasWritten, TookAll, TookSome, IsCounted, output_sink};
+    ghost use Rattle.nt_blocks.specs.Bodies.{stack_body};
+    ghost use Rattle.nt_blocks.specs.Drafts.{Draft, blob_body};
+    ghost use Rattle.nt_blocks.specs.Making.{IsMaking};
+    ghost use Rattle.nt_write.specs.Layout.{Layout, with_block, with_block_of, flushed};
+    ghost use Rattle.nt_write.specs.Arriving.{CanFlush, flushed_if};
+    ghost use Rattle.nt_write.specs.Writing.{HasWritten, TookAll, TookSome, IsCounted, output_sink, IsPending, IsEmptied, IsSmall, HasRoom, KeepsStacks, lacks_room};
 
     /// Behind the 102 bytes of a stream's start, which the sink has taken.
     pub fn new(alloc: Global, sink: S) -> Output<S>
@@ -59,25 +62,88 @@ impl<S: Sink> Output<S> {
         Ok(())
     }
 
-    /// Writes the block, unless it has no blobs, and forgets the blobs.
-    pub fn write_blobs(&mut self, alloc: Global, block: &mut BlobBlock) -> Result<(), Fault>
+    // Writes the block, unless it has no blobs, and forgets the blobs.
+    fn write_blobs(&mut self, alloc: Global, block: &mut BlobBlock) -> Result<(), Fault>
         ensures ok { (start : List ℕ) (blocks : List Block) (drafts : List Draft) → HasWritten S.tells_taken S.taken start blocks self.old → IsMaking drafts block.old
-            → OnOk result (HasWritten S.tells_taken S.taken start (with_block_of (kind_of block.old) drafts (blob_body drafts) blocks) self.new) }
-        ensures empty { (drafts : List Draft) → IsMaking drafts block.old → OnOk result (IsMaking [] block.new) }
-        ensures kind { kind_of block.new ≡ kind_of block.old }
+            → OnOk result (HasWritten S.tells_taken S.taken start (with_block_of block.old.kind drafts (blob_body drafts) blocks) self.new) }
+        ensures empty { OnOk result (IsMaking [] block.new) }
+        ensures kind { block.new.kind ≡ block.old.kind }
         ensures part { (start : List ℕ) (blocks : List Block) (drafts : List Draft) → HasWritten S.tells_taken S.taken start blocks self.old → IsMaking drafts block.old
-            → OnErr result (TookSome S.tells_taken S.taken start (blocks_bytes (with_block_of (kind_of block.old) drafts (blob_body drafts) blocks)) (output_sink self.new)) }
+            → OnErr result (TookSome S.tells_taken S.taken start (blocks_bytes (with_block_of block.old.kind drafts (blob_body drafts) blocks)) (output_sink self.new)) }
+        ensures counted { IsCounted S.write_faults (output_sink self.old) (output_sink self.new) result }
+    {
+        self.write_body(alloc, block)?;
+        block.clear();
+        Ok(())
+    }
+
+    // Writes the block, unless it has no blobs.
+    fn write_body(&mut self, alloc: Global, block: &BlobBlock) -> Result<(), Fault>
+        ensures ok { (start : List ℕ) (blocks : List Block) (drafts : List Draft) → HasWritten S.tells_taken S.taken start blocks self.old → IsMaking drafts block.now
+            → OnOk result (HasWritten S.tells_taken S.taken start (with_block_of block.now.kind drafts (blob_body drafts) blocks) self.new) }
+        ensures part { (start : List ℕ) (blocks : List Block) (drafts : List Draft) → HasWritten S.tells_taken S.taken start blocks self.old → IsMaking drafts block.now
+            → OnErr result (TookSome S.tells_taken S.taken start (blocks_bytes (with_block_of block.now.kind drafts (blob_body drafts) blocks)) (output_sink self.new)) }
         ensures counted { IsCounted S.write_faults (output_sink self.old) (output_sink self.new) result }
     {
         if block.is_empty() {
             return Ok(());
         }
         let body = block.body(alloc)?;
-        if body.len() >= TOO_LARGE {
-            return Err(Fault::OutOfMemory);
+        self.write_block(block.kind(), &body)
+    }
+
+    // Writes the new stacks, if there are any.
+    fn write_stacks(&mut self, alloc: Global, stacks: &mut Stacks) -> Result<(), Fault>
+        ensures ok { (start : List ℕ) (blocks : List Block) → HasWritten S.tells_taken S.taken start blocks self.old
+            → OnOk result (HasWritten S.tells_taken S.taken start (with_block_of block.Stack stacks.old.fresh (stack_body stacks.old.first stacks.old.fresh) blocks) self.new) }
+        ensures settled { OnOk result (stacks.new ≡ record stacks.old { first = stacks.old.first + length stacks.old.fresh; fresh = [] }) }
+        ensures part { (start : List ℕ) (blocks : List Block) → HasWritten S.tells_taken S.taken start blocks self.old
+            → OnErr result (TookSome S.tells_taken S.taken start (blocks_bytes (with_block_of block.Stack stacks.old.fresh (stack_body stacks.old.first stacks.old.fresh) blocks)) (output_sink self.new)) }
+        ensures counted { IsCounted S.write_faults (output_sink self.old) (output_sink self.new) result }
+    {
+        if stacks.is_empty() {
+            return Ok(());
         }
-        self.write_block(block.kind(), &body)?;
-        block.clear();
+        let body = stacks.body(alloc)?;
+        self.write_block(BlockKind::Stack, &body)?;
+        stacks.settle();
+        Ok(())
+    }
+
+    /// Writes what is pending: the new definitions, the new stacks, and then the events.
+    pub fn flush(&mut self, alloc: Global, pending: &mut Pending) -> Result<(), Fault>
+        ensures ok { (start : List ℕ) (layout : Layout) → HasWritten S.tells_taken S.taken start layout.blocks self.old → IsPending layout pending.old → CanFlush layout
+            → OnOk result (HasWritten S.tells_taken S.taken start (flushed layout).blocks self.new × IsPending (flushed layout) pending.new) }
+        ensures part { (start : List ℕ) (layout : Layout) → HasWritten S.tells_taken S.taken start layout.blocks self.old → IsPending layout pending.old
+            → OnErr result (TookSome S.tells_taken S.taken start (blocks_bytes (flushed layout).blocks) (output_sink self.new)) }
+        ensures empty { OnOk result (IsEmptied pending.new) }
+        ensures keeps { OnOk result (KeepsStacks pending.old pending.new) }
+        ensures counted { IsCounted S.write_faults (output_sink self.old) (output_sink self.new) result }
+    {
+        self.write_blobs(alloc, &mut pending.metadata)?;
+        self.write_stacks(alloc, &mut pending.stacks)?;
+        self.write_blobs(alloc, &mut pending.events)
+    }
+
+    /// Writes what is pending where a body has no room for what arrives.
+    pub fn make_room(
+        &mut self,
+        alloc: Global,
+        pending: &mut Pending,
+        arrival: &Arrival,
+    ) -> Result<(), Fault>
+        requires { IsSmall arrival.now }
+        ensures ok { (start : List ℕ) (layout : Layout) → HasWritten S.tells_taken S.taken start layout.blocks self.old → IsPending layout pending.old → CanFlush layout
+            → OnOk result (HasWritten S.tells_taken S.taken start (flushed_if (lacks_room layout arrival.now) layout).blocks self.new × IsPending (flushed_if (lacks_room layout arrival.now) layout) pending.new) }
+        ensures part { (start : List ℕ) (layout : Layout) → HasWritten S.tells_taken S.taken start layout.blocks self.old → IsPending layout pending.old
+            → OnErr result (TookSome S.tells_taken S.taken start (blocks_bytes (flushed_if (lacks_room layout arrival.now) layout).blocks) (output_sink self.new)) }
+        ensures room { OnOk result (HasRoom arrival.now pending.new) }
+        ensures keeps { OnOk result (KeepsStacks pending.old pending.new) }
+        ensures counted { IsCounted S.write_faults (output_sink self.old) (output_sink self.new) result }
+    {
+        if pending.lacks_room(arrival) {
+            return self.flush(alloc, pending);
+        }
         Ok(())
     }
 

@@ -5,9 +5,9 @@ ghost use Rattle.nt_object.specs.declared.object.BlockKind.TheVariants as block;
 ghost use Rattle.pt_num.specs.Numbers.{short_var};
 ghost use Rattle.nt_object.specs.Stream.{stream_start};
 ghost use Rattle.nt_head.specs.Head.{zero_state};
-ghost use Rattle.nt_write.specs.Meta.{meta_payload};
+ghost use Rattle.nt_meta.specs.Meta.{meta_payload};
 ghost use Rattle.nt_head.specs.Fewest.{head_bytes};
-ghost use Rattle.nt_write.specs.Layout.{blob_body};
+ghost use Rattle.nt_blocks.specs.Drafts.{blob_body};
 ghost use Rattle.nt_write.specs.Canonical.{encoded};
 ghost use Rattle.nt_write.specs.Vectors.{none_written, one_written, start_bytes, none_written_bytes, one_written_bytes, bodies_of, two_threads, two_threads_bytes, one_stack, one_stack_bytes, before_point_bytes, after_point_bytes, nth, many_drafts, first_of_thread_2, nested, nested_bytes};
 

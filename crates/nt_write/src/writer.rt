@@ -1,63 +1,37 @@
 //! The writer of a stream.
-ghost use Rattle.std.specs.Prelude.{◌≡◌, ◌≢◌, ℕ, ◌+◌, ◌^◌, ◌≤◌, ◌<◌, ◌⊎◌, ◌||◌, true, Some, ◌++◌, List, [], ◌∷◌, length, Ok, Err, nat_lt, IsTrue, IfOk, IfErr, OnOk, OnErr};
-ghost use Rattle.std.specs.List.{AllByRecursion, list_all};
+ghost use Rattle.std.specs.Prelude.{◌≡◌, ◌≢◌, ℕ, ◌+◌, ◌%◌, ◌^◌, ◌<◌, ◌≤◌, ◌⊎◌, ◌↔◌, ◌++◌, List, [], ◌∷◌, length, Option, Some, None, Ok, Err, IsTrue, IfOk, IfErr, OnOk, OnErr};
+ghost use Rattle.std.specs.List.{AllByRecursion};
+ghost use Rattle.std.specs.Option.{option_map};
+ghost use Rattle.ep_defs.specs.declared.limits.TheConstants.{FRAME_BYTES, PAYLOAD_BYTES};
 ghost use Rattle.ep_defs.specs.declared.event.EventDef.{EventDef};
 ghost use Rattle.ep_defs.specs.declared.session.TraceInfo.{TraceInfo};
-ghost use Rattle.ep_defs.specs.Event.{is_valid_event};
-ghost use Rattle.ep_defs.specs.Session.{is_info};
-ghost use Rattle.pt_io.specs.Faults.{HasRisen};
+ghost use Rattle.ep_defs.specs.Definitions.{AreDistinct};
+ghost use Rattle.ep_defs.specs.Event.{is_valid_event, is_same_event};
 ghost use Rattle.ep_defs.specs.Entry.{Entry, Event, Point};
-ghost use Rattle.nt_write.specs.declared.writer.Fault.TheVariants.{WriteFault, TooLong, OutOfMemory};
-ghost use Rattle.nt_head.specs.Head.{zero_state};
+ghost use Rattle.pt_io.specs.Faults.{HasRisen};
 ghost use Rattle.nt_object.specs.Stream.{stream_start};
-ghost use Rattle.nt_write.specs.Layout.{Draft, blob_body, passes, event_draft};
-ghost use Rattle.nt_write.specs.Making.{IsMaking};
-ghost use Rattle.nt_write.specs.Writable.{CanWrite};
-ghost use Rattle.nt_write.specs.Writing.{AreIds, TookAll, TookSome, IsCounted};
-ghost use Rattle.nt_write.specs.Writer.{entry_of};
+ghost use Rattle.nt_blocks.specs.declared.limits.TheConstants.{POINT_THREADS};
+ghost use Rattle.nt_write.specs.declared.limits.TheConstants.{FRAMED_EVENTS, LAST_EVENT, STACK_BYTES};
+ghost use Rattle.nt_write.specs.declared.fault.Fault.TheVariants.{WriteFault, TooLong, OutOfMemory};
+ghost use Rattle.nt_write.specs.Layout.{event_draft};
+ghost use Rattle.nt_write.specs.Writable.{CanWrite, CanPoint, framed};
+ghost use Rattle.nt_write.specs.Arriving.{IsDefining, IsNew};
+ghost use Rattle.nt_write.specs.Writing.{AreIds, TookAll, TookSome, IsCounted, id_at, arrival_for};
+ghost use Rattle.nt_write.specs.Writer.{entry_of, point_of};
 
-use crate::blocks::{BlobBlock, put_point};
+use crate::fault::Fault;
 use crate::ids::IdTable;
-use crate::meta::put_meta;
 use crate::output::Output;
-use ep_defs::ranges::info_fits;
-use ep_defs::{EventDef, TraceInfo};
+use crate::pending::{Arrival, Pending};
+use ep_defs::ranges::{bytes_fit, event_fits, info_fits};
+use ep_defs::{Bytes, EventDef, Items, TraceInfo};
+use nt_blocks::put_point;
 use nt_head::HeadState;
+use nt_meta::put_meta;
 use nt_object::{BlockKind, put_start};
-use pt_io::{Failed, Sink};
+use nt_stacks::Interned;
+use pt_io::Sink;
 use std::alloc::{AllocError, Global};
-
-/// Why a stream ends early. A writer that answered one answers it from then on.
-#[derive(Clone, Copy, Debug, PartialEq, Eq)]
-pub enum Fault {
-    /// The sink failed.
-    WriteFault,
-    /// More events with frames than stack ids stand between two points.
-    TooLong,
-    OutOfMemory,
-}
-
-impl From<AllocError> for Fault {
-    ghost use Rattle.std.specs.Prelude.{◌≡◌};
-    ghost use Rattle.nt_write.specs.declared.writer.Fault.TheVariants.{OutOfMemory};
-
-    ghost from_gives = { λ _ fault. fault ≡ OutOfMemory };
-
-    fn from(_: AllocError) -> Self {
-        Fault::OutOfMemory
-    }
-}
-
-impl From<Failed> for Fault {
-    ghost use Rattle.std.specs.Prelude.{◌≡◌};
-    ghost use Rattle.nt_write.specs.declared.writer.Fault.TheVariants.{WriteFault};
-
-    ghost from_gives = { λ _ fault. fault ≡ WriteFault };
-
-    fn from(_: Failed) -> Self {
-        Fault::WriteFault
-    }
-}
 
 /// One event, as it is written.
 #[derive(Clone, Copy, Debug)]
@@ -77,30 +51,26 @@ pub struct EventOut<'a> {
 
 /// The writer of one stream into a sink.
 ///
-/// Events are kept until a flush: a point, the end, or an event for which a block has no room left.
+/// Events are kept until a flush: a point, the end, or an event for which a body has no room left.
 #[derive(Drop)]
 pub struct TraceWriter<S: Sink> {
     output: Output<S>,
     fault: Option<Fault>,
     ids: IdTable,
-    // The definitions and the events since the last flush.
-    metadata: BlobBlock,
-    events: BlobBlock,
+    pending: Pending,
 }
 
-// The most bytes of a blob's header.
-const BLOB: usize = 88;
-
 impl<S: Sink> TraceWriter<S> {
-    ghost use Rattle.ep_defs.specs.Event.{is_same_event};
     ghost use Rattle.nt_object.specs.Stream.{blocks_bytes};
     ghost use Rattle.nt_write.specs.Layout.{Layout, id_in, flushed, with_event, with_point};
-    ghost use Rattle.nt_write.specs.Writing.{definition_at, AreDistinct, IsAt, id_at, ids_of, metadata_of, events_of, flushed_if, roomy, with_definition};
-    ghost use Rattle.nt_write.specs.Writer.{fault_of, sink_of, entry_of, point_of, IsWriting, TookPart, TookStream};
+    ghost use Rattle.nt_write.specs.Value.{framed_with};
+    ghost use Rattle.nt_write.specs.Arriving.{HasRoomFor, IsInterned, roomy, with_definition};
+    ghost use Rattle.nt_write.specs.Writing.{IsAt, IsKept, HasRoom, ids_of, pending_of};
+    ghost use Rattle.nt_write.specs.Writer.{fault_of, sink_of, IsWriting, TookPart, TookStream};
 
     /// Writes the stream's start, 102 bytes in one write. The sink comes back where that fails.
     pub fn begin(alloc: Global, sink: S, info: &TraceInfo) -> Result<TraceWriter<S>, (S, Fault)>
-        ensures ok { IfOk result (λ writer. (events : List EventDef) → IsWriting S.tells_taken S.taken (S.taken sink) events info.now [] writer) }
+        ensures ok { IfOk result (λ writer. (defs : ℕ → Option EventDef) → IsWriting S.tells_taken S.taken (S.taken sink) defs info.now [] writer) }
         ensures part { IfErr result (λ failed. TookPart S.tells_taken S.taken (S.taken sink) info.now [] failed.0) }
         ensures write_fault { IfErr result (λ failed. failed.1 ≡ WriteFault → HasRisen (S.write_faults sink) (S.write_faults failed.0)) }
         ensures not_long { IfErr result (λ failed. failed.1 ≢ TooLong) }
@@ -115,8 +85,7 @@ impl<S: Sink> TraceWriter<S> {
                 output: Output::new(alloc, sink),
                 fault: None,
                 ids,
-                metadata: BlobBlock::new(alloc, BlockKind::Metadata),
-                events: BlobBlock::new(alloc, BlockKind::Event),
+                pending: Pending::new(alloc),
             }),
             Err(fault) => Err((sink, fault)),
         }
@@ -125,26 +94,31 @@ impl<S: Sink> TraceWriter<S> {
     /// Writes one event of a definition. Two events have the same number of a definition exactly where their
     /// definitions are the same.
     ///
+    /// It answers [`Fault::TooLong`] for an event with frames where 2,147,483,646 others had frames since the last point.
     /// After a fault the writer answers that fault from then on and writes nothing more.
     pub fn event(&mut self, alloc: Global, def: &EventDef, out: &EventOut) -> Result<(), Fault>
         requires valid { IsTrue (is_valid_event def.now) }
-        requires event { out.now.event ≤ 1001 }
+        requires event { out.now.event ≤ LAST_EVENT }
         requires number { 0 < out.now.number }
-        requires no_frames { out.now.frames.now ≡ [] }
-        requires payload { length out.now.payload.now ≤ 60000 }
+        requires frames { length out.now.frames.now ≤ STACK_BYTES }
+        requires whole { length out.now.frames.now % FRAME_BYTES ≡ 0 }
+        requires payload { length out.now.payload.now ≤ PAYLOAD_BYTES }
 
-        ensures ok { (before : List ℕ) (events : List EventDef) (info : TraceInfo) (entries : List Entry)
-            → IsWriting S.tells_taken S.taken before events info entries self.old
-            → AreDistinct events → definition_at events out.now.event ≡ Some def.now
-            → OnOk result (IsWriting S.tells_taken S.taken before events info (entries ++ Event (entry_of def.now out.now) ∷ []) self.new) }
-        ensures part { (before : List ℕ) (events : List EventDef) (info : TraceInfo) (entries : List Entry)
-            → IsWriting S.tells_taken S.taken before events info entries self.old
-            → AreDistinct events → definition_at events out.now.event ≡ Some def.now
+        ensures ok { (before : List ℕ) (defs : ℕ → Option EventDef) (info : TraceInfo) (entries : List Entry)
+            → IsWriting S.tells_taken S.taken before defs info entries self.old
+            → AreDistinct defs → defs out.now.event ≡ Some def.now
+            → OnOk result (IsWriting S.tells_taken S.taken before defs info (entries ++ Event (entry_of def.now out.now) ∷ []) self.new) }
+        ensures part { (before : List ℕ) (defs : ℕ → Option EventDef) (info : TraceInfo) (entries : List Entry)
+            → IsWriting S.tells_taken S.taken before defs info entries self.old
+            → AreDistinct defs → defs out.now.event ≡ Some def.now
             → OnErr result (TookPart S.tells_taken S.taken before info (entries ++ Event (entry_of def.now out.now) ∷ []) (sink_of self.new)) }
         ensures fails { IfErr result (λ fault. fault_of self.new ≡ Some fault) }
+        ensures sound { OnOk result (fault_of self.new ≡ None) }
         ensures stays { (fault : _) → fault_of self.old ≡ Some fault → (result ≡ Err fault) × (self.new ≡ self.old) }
         ensures write_fault { result ≡ Err WriteFault → (fault_of self.old ≡ Some WriteFault) ⊎ HasRisen (S.write_faults (sink_of self.old)) (S.write_faults (sink_of self.new)) }
-        ensures too_long { result ≡ Err TooLong → fault_of self.old ≡ Some TooLong }
+        ensures too_long { (before : List ℕ) (defs : ℕ → Option EventDef) (info : TraceInfo) (entries : List Entry)
+            → IsWriting S.tells_taken S.taken before defs info entries self.old
+            → (result ≡ Err TooLong) ↔ ((0 < length out.now.frames.now) × (framed entries ≡ FRAMED_EVENTS)) }
         ensures memory { result ≡ Err OutOfMemory → S.write_faults (sink_of self.new) ≡ S.write_faults (sink_of self.old) }
         ensures wrote { OnOk result (S.write_faults (sink_of self.new) ≡ S.write_faults (sink_of self.old)) }
         ensures later { S.write_faults (sink_of self.old) ≤ S.write_faults (sink_of self.new) }
@@ -153,22 +127,23 @@ impl<S: Sink> TraceWriter<S> {
             return Err(fault);
         }
         note_ranges(def, out);
-        let result = self.add_event(alloc, def, out);
+        let result = self.take_event(alloc, def, out);
         self.fault = result.err();
         result
     }
 
-    /// Flushes, and writes how far each thread had come. It needs at most 1,000,001 threads.
+    /// Flushes, writes how far each thread had come, and forgets the stacks. It needs at most 1,000,001 threads.
     pub fn point(&mut self, alloc: Global, stamp: u64, threads: &[(u64, u32)]) -> Result<(), Fault>
-        requires { length threads.now ≤ 1000001 }
+        requires { length threads.now ≤ POINT_THREADS }
 
-        ensures ok { (before : List ℕ) (events : List EventDef) (info : TraceInfo) (entries : List Entry)
-            → IsWriting S.tells_taken S.taken before events info entries self.old
-            → OnOk result (IsWriting S.tells_taken S.taken before events info (entries ++ Point (point_of stamp threads.now) ∷ []) self.new) }
-        ensures part { (before : List ℕ) (events : List EventDef) (info : TraceInfo) (entries : List Entry)
-            → IsWriting S.tells_taken S.taken before events info entries self.old
+        ensures ok { (before : List ℕ) (defs : ℕ → Option EventDef) (info : TraceInfo) (entries : List Entry)
+            → IsWriting S.tells_taken S.taken before defs info entries self.old
+            → OnOk result (IsWriting S.tells_taken S.taken before defs info (entries ++ Point (point_of stamp threads.now) ∷ []) self.new) }
+        ensures part { (before : List ℕ) (defs : ℕ → Option EventDef) (info : TraceInfo) (entries : List Entry)
+            → IsWriting S.tells_taken S.taken before defs info entries self.old
             → OnErr result (TookPart S.tells_taken S.taken before info (entries ++ Point (point_of stamp threads.now) ∷ []) (sink_of self.new)) }
         ensures fails { IfErr result (λ fault. fault_of self.new ≡ Some fault) }
+        ensures sound { OnOk result (fault_of self.new ≡ None) }
         ensures stays { (fault : _) → fault_of self.old ≡ Some fault → (result ≡ Err fault) × (self.new ≡ self.old) }
         ensures write_fault { result ≡ Err WriteFault → (fault_of self.old ≡ Some WriteFault) ⊎ HasRisen (S.write_faults (sink_of self.old)) (S.write_faults (sink_of self.new)) }
         ensures too_long { result ≡ Err TooLong → fault_of self.old ≡ Some TooLong }
@@ -179,6 +154,7 @@ impl<S: Sink> TraceWriter<S> {
         if let Some(fault) = self.fault {
             return Err(fault);
         }
+        note_threads(stamp, threads);
         let written = self.write_point(alloc, stamp, threads);
         self.fault = written.err();
         written
@@ -186,11 +162,11 @@ impl<S: Sink> TraceWriter<S> {
 
     /// Flushes, writes the end of the stream, and gives the sink back.
     pub fn end(self, alloc: Global) -> (S, Result<(), Fault>)
-        ensures ok { (before : List ℕ) (events : List EventDef) (info : TraceInfo) (entries : List Entry)
-            → IsWriting S.tells_taken S.taken before events info entries self
+        ensures ok { (before : List ℕ) (defs : ℕ → Option EventDef) (info : TraceInfo) (entries : List Entry)
+            → IsWriting S.tells_taken S.taken before defs info entries self
             → OnOk result.1 (TookStream S.tells_taken S.taken before info entries result.0) }
-        ensures part { (before : List ℕ) (events : List EventDef) (info : TraceInfo) (entries : List Entry)
-            → IsWriting S.tells_taken S.taken before events info entries self
+        ensures part { (before : List ℕ) (defs : ℕ → Option EventDef) (info : TraceInfo) (entries : List Entry)
+            → IsWriting S.tells_taken S.taken before defs info entries self
             → OnErr result.1 (TookPart S.tells_taken S.taken before info entries result.0) }
         ensures stays { (fault : _) → fault_of self ≡ Some fault → (result.1 ≡ Err fault) × (result.0 ≡ sink_of self) }
         ensures write_fault { result.1 ≡ Err WriteFault → (fault_of self ≡ Some WriteFault) ⊎ HasRisen (S.write_faults (sink_of self)) (S.write_faults result.0) }
@@ -208,8 +184,7 @@ impl<S: Sink> TraceWriter<S> {
             output,
             fault: _,
             ids: _,
-            metadata: _,
-            events: _,
+            pending: _,
         } = writer;
         (output.into_sink(), result)
     }
@@ -221,122 +196,113 @@ impl<S: Sink> TraceWriter<S> {
         self.fault
     }
 
-    // Writes the new definitions and the events.
-    fn flush(&mut self, alloc: Global) -> Result<(), Fault>
-        ensures ok { (start : List ℕ) (events : List EventDef) (layout : Layout)
-            → IsAt S.tells_taken S.taken start events layout self.old → layout.stacks ≡ []
-            → OnOk result (IsAt S.tells_taken S.taken start events (flushed layout) self.new) }
-        ensures part { (start : List ℕ) (events : List EventDef) (layout : Layout)
-            → IsAt S.tells_taken S.taken start events layout self.old → layout.stacks ≡ []
-            → OnErr result (TookSome S.tells_taken S.taken start (blocks_bytes (flushed layout).blocks) (sink_of self.new)) }
-        ensures counted { IsCounted S.write_faults (sink_of self.old) (sink_of self.new) result }
-        ensures fault { fault_of self.new ≡ fault_of self.old }
-        ensures ids { ids_of self.new ≡ ids_of self.old }
-    {
-        self.output.write_blobs(alloc, &mut self.metadata)?;
-        self.output.write_blobs(alloc, &mut self.events)
-    }
-
-    // Flushes where a block is full.
-    fn flush_if(&mut self, alloc: Global, full: bool) -> Result<(), Fault>
-        ensures ok { (start : List ℕ) (events : List EventDef) (layout : Layout)
-            → IsAt S.tells_taken S.taken start events layout self.old → layout.stacks ≡ []
-            → OnOk result (IsAt S.tells_taken S.taken start events (flushed_if full layout) self.new) }
-        ensures part { (start : List ℕ) (events : List EventDef) (layout : Layout)
-            → IsAt S.tells_taken S.taken start events layout self.old → layout.stacks ≡ []
-            → OnErr result (TookSome S.tells_taken S.taken start (blocks_bytes (flushed_if full layout).blocks) (sink_of self.new)) }
-        ensures counted { IsCounted S.write_faults (sink_of self.old) (sink_of self.new) result }
-        ensures fault { fault_of self.new ≡ fault_of self.old }
-        ensures ids { ids_of self.new ≡ ids_of self.old }
-    {
-        if full { self.flush(alloc) } else { Ok(()) }
-    }
-
-    // Whether a block has no room for an event with a payload of this size, and a definition with one of that size.
-    fn is_full(&self, payload: usize, meta: usize) -> bool
-        requires payload { payload ≤ 60000 }
-        requires meta { meta ≤ 60000 }
-        ensures { (events metas : List Draft) → IsMaking events (events_of self.now) → IsMaking metas (metadata_of self.now)
-            → result ≡ (passes (blob_body events) (88 + payload) || passes (blob_body metas) (88 + meta)) }
-    {
-        lacks_room(&self.events, payload) || lacks_room(&self.metadata, meta)
-    }
-
-    // Makes room for an event, and for its definition, which has no id yet, and gives it one.
-    fn define(&mut self, alloc: Global, def: &EventDef, out: &EventOut) -> Result<u32, Fault>
+    // Writes an event, unless too many had frames since the last point.
+    fn take_event(&mut self, alloc: Global, def: &EventDef, out: &EventOut) -> Result<(), Fault>
         requires valid { IsTrue (is_valid_event def.now) }
-        requires event { out.now.event ≤ 1001 }
-        requires free { id_at (ids_of self.old) out.now.event ≡ 0 }
-        requires payload { length out.now.payload.now ≤ 60000 }
+        requires event { out.now.event ≤ LAST_EVENT }
+        requires frames { length out.now.frames.now ≤ STACK_BYTES }
+        requires payload { length out.now.payload.now ≤ PAYLOAD_BYTES }
 
-        ensures ok { (start : List ℕ) (events : List EventDef) (layout : Layout)
-            → IsAt S.tells_taken S.taken start events layout self.old → layout.stacks ≡ []
-            → AreDistinct events → definition_at events out.now.event ≡ Some def.now → out.now.frames.now ≡ []
-            → IfOk result (λ id. (id ≡ id_in is_same_event def.now (with_definition (roomy layout (entry_of def.now out.now)) def.now).definitions)
-            × IsAt S.tells_taken S.taken start events (with_definition (roomy layout (entry_of def.now out.now)) def.now) self.new) }
-        ensures part { (start : List ℕ) (events : List EventDef) (layout : Layout)
-            → IsAt S.tells_taken S.taken start events layout self.old → layout.stacks ≡ []
-            → AreDistinct events → definition_at events out.now.event ≡ Some def.now → out.now.frames.now ≡ []
+        ensures ok { (start : List ℕ) (defs : ℕ → Option EventDef) (layout : Layout)
+            → IsAt S.tells_taken S.taken start defs layout self.old → AreDistinct defs → defs out.now.event ≡ Some def.now
+            → OnOk result (IsAt S.tells_taken S.taken start defs (with_event (roomy layout (entry_of def.now out.now)) (entry_of def.now out.now)) self.new) }
+        ensures framed { OnOk result ((pending_of self.new).stacks.framed ≡ framed_with (pending_of self.old).stacks.framed out.now.frames.now) }
+        ensures part { (start : List ℕ) (defs : ℕ → Option EventDef) (layout : Layout)
+            → IsAt S.tells_taken S.taken start defs layout self.old → AreDistinct defs → defs out.now.event ≡ Some def.now
             → OnErr result (TookSome S.tells_taken S.taken start (blocks_bytes (roomy layout (entry_of def.now out.now)).blocks) (sink_of self.new)) }
-        ensures counted { IsCounted S.write_faults (sink_of self.old) (sink_of self.new) result }
-        ensures fault { fault_of self.new ≡ fault_of self.old }
+        ensures too_long { (result ≡ Err TooLong) ↔ ((0 < length out.now.frames.now) × ((pending_of self.old).stacks.framed ≡ FRAMED_EVENTS)) }
+        ensures wrote { OnOk result (S.write_faults (sink_of self.new) ≡ S.write_faults (sink_of self.old)) }
+        ensures write_fault { result ≡ Err WriteFault → HasRisen (S.write_faults (sink_of self.old)) (S.write_faults (sink_of self.new)) }
+        ensures memory { result ≡ Err OutOfMemory → S.write_faults (sink_of self.new) ≡ S.write_faults (sink_of self.old) }
+        ensures later { S.write_faults (sink_of self.old) ≤ S.write_faults (sink_of self.new) }
     {
-        let id = self.ids.next();
-        let mut payload = Vec::new(alloc);
-        put_meta(&mut payload, id, def)?;
-        let full = self.is_full(out.payload.len(), payload.len());
-        self.flush_if(alloc, full)?;
-        self.metadata.add(&meta_head(payload.len()), &payload)?;
-        self.ids.give(out.event);
-        Ok(id)
-    }
-
-    // Makes room for an event, and defines it at its first use. Answers the id of its definition.
-    fn prepare(&mut self, alloc: Global, def: &EventDef, out: &EventOut) -> Result<u32, Fault>
-        requires valid { IsTrue (is_valid_event def.now) }
-        requires event { out.now.event ≤ 1001 }
-        requires payload { length out.now.payload.now ≤ 60000 }
-
-        ensures ok { (start : List ℕ) (events : List EventDef) (layout : Layout)
-            → IsAt S.tells_taken S.taken start events layout self.old → layout.stacks ≡ []
-            → AreDistinct events → definition_at events out.now.event ≡ Some def.now → out.now.frames.now ≡ []
-            → IfOk result (λ id. (id ≡ id_in is_same_event def.now (with_definition (roomy layout (entry_of def.now out.now)) def.now).definitions)
-            × IsAt S.tells_taken S.taken start events (with_definition (roomy layout (entry_of def.now out.now)) def.now) self.new) }
-        ensures part { (start : List ℕ) (events : List EventDef) (layout : Layout)
-            → IsAt S.tells_taken S.taken start events layout self.old → layout.stacks ≡ []
-            → AreDistinct events → definition_at events out.now.event ≡ Some def.now → out.now.frames.now ≡ []
-            → OnErr result (TookSome S.tells_taken S.taken start (blocks_bytes (roomy layout (entry_of def.now out.now)).blocks) (sink_of self.new)) }
-        ensures counted { IsCounted S.write_faults (sink_of self.old) (sink_of self.new) result }
-        ensures fault { fault_of self.new ≡ fault_of self.old }
-    {
-        let id = self.ids.get(out.event);
-        if id == 0 {
-            return self.define(alloc, def, out);
+        if !out.frames.is_empty() && self.pending.stacks.are_spent() {
+            return Err(Fault::TooLong);
         }
-        let full = lacks_room(&self.events, out.payload.len());
-        self.flush_if(alloc, full)?;
-        Ok(id)
+        self.add_event(alloc, def, out)
     }
 
+    // Gives the event's stack its id, makes room, and adds the event.
     fn add_event(&mut self, alloc: Global, def: &EventDef, out: &EventOut) -> Result<(), Fault>
         requires valid { IsTrue (is_valid_event def.now) }
-        requires event { out.now.event ≤ 1001 }
-        requires payload { length out.now.payload.now ≤ 60000 }
+        requires event { out.now.event ≤ LAST_EVENT }
+        requires frames { length out.now.frames.now ≤ STACK_BYTES }
+        requires payload { length out.now.payload.now ≤ PAYLOAD_BYTES }
+        requires not_spent { (out.now.frames.now ≡ []) ⊎ ((pending_of self.old).stacks.framed < FRAMED_EVENTS) }
 
-        ensures ok { (start : List ℕ) (events : List EventDef) (layout : Layout)
-            → IsAt S.tells_taken S.taken start events layout self.old → layout.stacks ≡ []
-            → AreDistinct events → definition_at events out.now.event ≡ Some def.now → out.now.frames.now ≡ []
-            → OnOk result (IsAt S.tells_taken S.taken start events (with_event (roomy layout (entry_of def.now out.now)) (entry_of def.now out.now)) self.new) }
-        ensures part { (start : List ℕ) (events : List EventDef) (layout : Layout)
-            → IsAt S.tells_taken S.taken start events layout self.old → layout.stacks ≡ []
-            → AreDistinct events → definition_at events out.now.event ≡ Some def.now → out.now.frames.now ≡ []
+        ensures ok { (start : List ℕ) (defs : ℕ → Option EventDef) (layout : Layout)
+            → IsAt S.tells_taken S.taken start defs layout self.old → AreDistinct defs → defs out.now.event ≡ Some def.now
+            → OnOk result (IsAt S.tells_taken S.taken start defs (with_event (roomy layout (entry_of def.now out.now)) (entry_of def.now out.now)) self.new) }
+        ensures framed { OnOk result ((pending_of self.new).stacks.framed ≡ framed_with (pending_of self.old).stacks.framed out.now.frames.now) }
+        ensures part { (start : List ℕ) (defs : ℕ → Option EventDef) (layout : Layout)
+            → IsAt S.tells_taken S.taken start defs layout self.old → AreDistinct defs → defs out.now.event ≡ Some def.now
             → OnErr result (TookSome S.tells_taken S.taken start (blocks_bytes (roomy layout (entry_of def.now out.now)).blocks) (sink_of self.new)) }
         ensures counted { IsCounted S.write_faults (sink_of self.old) (sink_of self.new) result }
-        ensures fault { fault_of self.new ≡ fault_of self.old }
     {
-        let id = self.prepare(alloc, def, out)?;
-        self.events.add(&event_head(id, out), out.payload)?;
+        let stack = self.pending.stacks.id_of(alloc, out.frames)?;
+        let meta = new_meta(alloc, &self.ids, def, out.event)?;
+        let arrival = arrival_of(out, &meta, &stack);
+        self.output.make_room(alloc, &mut self.pending, &arrival)?;
+        self.enter(alloc, &meta, &stack, out)?;
         Ok(())
+    }
+
+    // Adds an event for which there is room, with its definition and its stack where they are new.
+    fn enter(
+        &mut self,
+        alloc: Global,
+        meta: &Option<Bytes>,
+        stack: &Interned,
+        out: &EventOut,
+    ) -> Result<(), AllocError>
+        requires event { out.now.event ≤ LAST_EVENT }
+        requires payload { length out.now.payload.now ≤ PAYLOAD_BYTES }
+        requires room { HasRoom (arrival_for out.now meta.now stack.now) (pending_of self.old) }
+        requires next { IsTrue stack.now.is_new → (pending_of self.old).stacks.first + length (pending_of self.old).stacks.fresh ≤ length (pending_of self.old).stacks.known }
+        requires defining { (payload : List ℕ) → meta.now ≡ Some payload → (def : EventDef) × IsDefining def payload }
+        requires free { (payload : List ℕ) → meta.now ≡ Some payload → id_at (ids_of self.old) out.now.event ≡ 0 }
+        requires given { meta.now ≡ None → 0 < id_at (ids_of self.old) out.now.event }
+
+        ensures ok { (start : List ℕ) (defs : ℕ → Option EventDef) (layout : Layout) (def : EventDef)
+            → IsKept S.tells_taken S.taken start defs layout self.old → AreDistinct defs → defs out.now.event ≡ Some def
+            → IsNew layout.definitions def meta.now → IsInterned layout.stacks out.now.frames.now stack.now
+            → OnOk result (IsKept S.tells_taken S.taken start defs (with_event layout (entry_of def out.now)) self.new) }
+        ensures known { OnOk result ((pending_of self.new).stacks.known ≡ (pending_of self.old).stacks.known) }
+        ensures framed { OnOk result ((pending_of self.new).stacks.framed ≡ (pending_of self.old).stacks.framed) }
+        ensures sink { sink_of self.new ≡ sink_of self.old }
+    {
+        self.pending.keep_stack(alloc, stack, out.frames)?;
+        let id = self.define(out.event, meta)?;
+        self.pending
+            .add_event(&event_head(id, stack.id, out), out.payload)
+    }
+
+    // Defines an event at its first use, and answers the id of its definition.
+    fn define(&mut self, event: u32, meta: &Option<Bytes>) -> Result<u32, AllocError>
+        requires event { event ≤ LAST_EVENT }
+        requires defining { (payload : List ℕ) → meta.now ≡ Some payload → (def : EventDef) × IsDefining def payload }
+        requires room { (payload : List ℕ) → meta.now ≡ Some payload → HasRoomFor (length payload) (pending_of self.old).metadata }
+        requires free { (payload : List ℕ) → meta.now ≡ Some payload → id_at (ids_of self.old) event ≡ 0 }
+        requires given { meta.now ≡ None → 0 < id_at (ids_of self.old) event }
+
+        ensures positive { IfOk result (λ id. 0 < id) }
+        ensures id { (start : List ℕ) (defs : ℕ → Option EventDef) (layout : Layout) (def : EventDef)
+            → IsKept S.tells_taken S.taken start defs layout self.old → AreDistinct defs → defs event ≡ Some def → IsNew layout.definitions def meta.now
+            → IfOk result (λ id. id ≡ id_in is_same_event def (with_definition layout def).definitions) }
+        ensures ok { (start : List ℕ) (defs : ℕ → Option EventDef) (layout : Layout) (def : EventDef)
+            → IsKept S.tells_taken S.taken start defs layout self.old → AreDistinct defs → defs event ≡ Some def → IsNew layout.definitions def meta.now
+            → OnOk result (IsKept S.tells_taken S.taken start defs (with_definition layout def) self.new) }
+        ensures events { (pending_of self.new).events ≡ (pending_of self.old).events }
+        ensures stacks { (pending_of self.new).stacks ≡ (pending_of self.old).stacks }
+        ensures sink { sink_of self.new ≡ sink_of self.old }
+    {
+        match meta {
+            None => Ok(self.ids.get(event)),
+            Some(payload) => {
+                self.pending.add_definition(payload.as_slice())?;
+                Ok(self.ids.give(event))
+            }
+        }
     }
 
     fn write_point(
@@ -345,41 +311,43 @@ impl<S: Sink> TraceWriter<S> {
         stamp: u64,
         threads: &[(u64, u32)],
     ) -> Result<(), Fault>
-        requires { length threads.now ≤ 1000001 }
+        requires { length threads.now ≤ POINT_THREADS }
 
-        ensures ok { (start : List ℕ) (events : List EventDef) (layout : Layout)
-            → IsAt S.tells_taken S.taken start events layout self.old → layout.stacks ≡ []
-            → OnOk result (IsAt S.tells_taken S.taken start events (with_point layout (point_of stamp threads.now)) self.new) }
-        ensures fits { OnOk result (AllByRecursion (λ thread. (thread.0 < 2 ^ 64) × (thread.1 < 2 ^ 32)) threads.now) }
-        ensures part { (start : List ℕ) (events : List EventDef) (layout : Layout)
-            → IsAt S.tells_taken S.taken start events layout self.old → layout.stacks ≡ []
+        ensures ok { (start : List ℕ) (defs : ℕ → Option EventDef) (layout : Layout)
+            → IsAt S.tells_taken S.taken start defs layout self.old
+            → OnOk result (IsAt S.tells_taken S.taken start defs (with_point layout (point_of stamp threads.now)) self.new) }
+        ensures framed { OnOk result ((pending_of self.new).stacks.framed ≡ 0) }
+        ensures part { (start : List ℕ) (defs : ℕ → Option EventDef) (layout : Layout)
+            → IsAt S.tells_taken S.taken start defs layout self.old
             → OnErr result (TookSome S.tells_taken S.taken start (blocks_bytes (with_point layout (point_of stamp threads.now)).blocks) (sink_of self.new)) }
         ensures counted { IsCounted S.write_faults (sink_of self.old) (sink_of self.new) result }
-        ensures fault { fault_of self.new ≡ fault_of self.old }
     {
-        self.flush(alloc)?;
+        self.output.flush(alloc, &mut self.pending)?;
         let mut body = Vec::new(alloc);
         put_point(&mut body, stamp, threads)?;
-        self.output.write_block(BlockKind::Point, &body)
+        self.output.write_block(BlockKind::Point, &body)?;
+        self.pending.stacks.forget();
+        Ok(())
     }
 
     fn finish(&mut self, alloc: Global) -> Result<(), Fault>
-        ensures ok { (start : List ℕ) (events : List EventDef) (layout : Layout)
-            → IsAt S.tells_taken S.taken start events layout self.old → layout.stacks ≡ []
+        ensures ok { (start : List ℕ) (defs : ℕ → Option EventDef) (layout : Layout)
+            → IsAt S.tells_taken S.taken start defs layout self.old
             → OnOk result (TookAll S.tells_taken S.taken start (blocks_bytes (flushed layout).blocks ++ 1 ∷ []) (sink_of self.new)) }
-        ensures part { (start : List ℕ) (events : List EventDef) (layout : Layout)
-            → IsAt S.tells_taken S.taken start events layout self.old → layout.stacks ≡ []
+        ensures part { (start : List ℕ) (defs : ℕ → Option EventDef) (layout : Layout)
+            → IsAt S.tells_taken S.taken start defs layout self.old
             → OnErr result (TookSome S.tells_taken S.taken start (blocks_bytes (flushed layout).blocks ++ 1 ∷ []) (sink_of self.new)) }
         ensures counted { IsCounted S.write_faults (sink_of self.old) (sink_of self.new) result }
     {
-        self.flush(alloc)?;
-        self.output.write_end()
+        let output = &mut self.output;
+        output.flush(alloc, &mut self.pending)?;
+        output.write_end()
     }
 }
 
 // Writes the stream's start in one write, and makes the table for what follows.
 fn write_start<S: Sink>(alloc: Global, sink: &mut S, info: &TraceInfo) -> Result<IdTable, Fault>
-    ensures ids { (events : List EventDef) → IfOk result (λ ids. AreIds events [] ids) }
+    ensures ids { (defs : ℕ → Option EventDef) → IfOk result (λ ids. AreIds defs [] ids) }
     ensures ok { OnOk result (TookAll S.tells_taken S.taken (S.taken sink.old) (stream_start info.now) sink.new) }
     ensures part { OnErr result (TookSome S.tells_taken S.taken (S.taken sink.old) (stream_start info.now) sink.new) }
     ensures counted { IsCounted S.write_faults sink.old sink.new result }
@@ -391,47 +359,95 @@ fn write_start<S: Sink>(alloc: Global, sink: &mut S, info: &TraceInfo) -> Result
     Ok(ids)
 }
 
-// Reads the numbers of an event, since the ranges of their types are what a stream needs of them.
+// Reads the parts of an event, since the ranges of their types are what a stream needs of them.
 fn note_ranges(def: &EventDef, out: &EventOut)
     requires valid { IsTrue (is_valid_event def.now) }
-    requires no_frames { out.now.frames.now ≡ [] }
-    requires payload { length out.now.payload.now ≤ 60000 }
+    requires frames { length out.now.frames.now ≤ STACK_BYTES }
+    requires whole { length out.now.frames.now % FRAME_BYTES ≡ 0 }
+    requires payload { length out.now.payload.now ≤ PAYLOAD_BYTES }
     ensures { CanWrite (entry_of def.now out.now) }
 {
-    let _id = def.id;
-    let _version = def.version;
-    let _level = def.level;
-    let _keywords = def.keywords;
+    event_fits(def);
+    bytes_fit(&out.activity);
+    bytes_fit(&out.related);
+    bytes_fit(out.frames);
+    bytes_fit(out.payload);
     let _thread = out.thread;
     let _number = out.number;
     let _stamp = out.stamp;
-    let _activity = out.activity;
-    let _related = out.related;
 }
 
-// Whether a block has no room for a blob with a payload of this size.
-fn lacks_room(block: &BlobBlock, payload: usize) -> bool
-    requires { payload ≤ 60000 }
-    ensures { (drafts : List Draft) → IsMaking drafts block.now → result ≡ passes (blob_body drafts) (88 + payload) }
+// The same of a point.
+fn note_threads(stamp: u64, threads: &[(u64, u32)])
+    requires { length threads.now ≤ POINT_THREADS }
+    ensures { CanPoint (point_of stamp threads.now) }
 {
-    !block.fits(BLOB + payload)
+    let _stamp = stamp;
+    threads_fit(threads);
 }
 
-// A metadata blob's header says nothing but the size of the payload.
-fn meta_head(size: usize) -> HeadState
-    requires { size < 2 ^ 32 }
-    ensures { result ≡ record zero_state { sorted = true; size = size } }
+fn threads_fit(threads: &[(u64, u32)])
+    ensures { AllByRecursion (λ thread. (thread.0 < 2 ^ 64) × (thread.1 < 2 ^ 32)) threads.now }
 {
-    let mut head = HeadState::zero();
-    head.sorted = true;
-    head.size = size as u32;
-    head
+    for (thread, number) in threads {
+        let _thread = *thread;
+        let _number = *number;
+    }
+}
+
+// The payload that defines an event, where it has no id yet.
+fn new_meta(
+    alloc: Global,
+    ids: &IdTable,
+    def: &EventDef,
+    number: u32,
+) -> Result<Option<Bytes>, AllocError>
+    requires valid { IsTrue (is_valid_event def.now) }
+    requires number { number ≤ LAST_EVENT }
+    ensures new { (defs : ℕ → Option EventDef) (definitions : List EventDef)
+        → AreIds defs definitions ids.now → defs number ≡ Some def.now → IfOk result (λ meta. IsNew definitions def.now meta) }
+    ensures defining { IfOk result (λ meta. (payload : List ℕ) → meta ≡ Some payload → IsDefining def.now payload) }
+    ensures free { IfOk result (λ meta. (payload : List ℕ) → meta ≡ Some payload → id_at ids.now number ≡ 0) }
+    ensures given { IfOk result (λ meta. meta ≡ None → 0 < id_at ids.now number) }
+{
+    if ids.get(number) != 0 {
+        return Ok(None);
+    }
+    let mut payload = Vec::new(alloc);
+    put_meta(&mut payload, ids.next(), def)?;
+    Ok(Some(Items::new(payload)))
+}
+
+// How many bytes an event brings.
+fn arrival_of(out: &EventOut, meta: &Option<Bytes>, stack: &Interned) -> Arrival
+    ensures { result ≡ arrival_for out.now meta.now stack.now }
+{
+    Arrival {
+        payload: out.payload.len(),
+        meta: len_of(meta),
+        stack: if stack.is_new {
+            Some(out.frames.len())
+        } else {
+            None
+        },
+    }
+}
+
+fn len_of(bytes: &Option<Bytes>) -> Option<usize>
+    ensures { result ≡ option_map (λ bytes. length bytes) bytes.now }
+{
+    match bytes {
+        Some(bytes) => Some(bytes.as_slice().len()),
+        None => None,
+    }
 }
 
 // The thread of an event is the one that wrote it.
-fn event_head(id: u32, out: &EventOut) -> HeadState
-    requires { length out.now.payload.now ≤ 60000 }
-    ensures { (def : EventDef) → result ≡ (event_draft id 0 (entry_of def out.now)).state }
+fn event_head(id: u32, stack: u32, out: &EventOut) -> HeadState
+    requires { length out.now.payload.now ≤ PAYLOAD_BYTES }
+    ensures state { (def : EventDef) → result ≡ (event_draft id stack (entry_of def out.now)).state }
+    ensures metadata { result.metadata ≡ id }
+    ensures size { result.size ≡ length out.now.payload.now }
 {
     HeadState {
         metadata: id,
@@ -439,7 +455,7 @@ fn event_head(id: u32, out: &EventOut) -> HeadState
         capture: out.thread,
         processor: 0,
         thread: out.thread,
-        stack: 0,
+        stack,
         stamp: out.stamp,
         activity: out.activity,
         related: out.related,

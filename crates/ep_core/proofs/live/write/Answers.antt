@@ -2,9 +2,10 @@ use Rattle.std.proofs.Common.{List, [], ◌∷◌, ◌++◌, map, ap, sym, ◌�
 use Rattle.std.specs.Option.{option_copied}
 use Rattle.std.proofs.lemmas.List.{append-nil}
 use Rattle.ep_defs.specs.Entry.{EventEntry, Event}
+use Rattle.ep_model.specs.History.{event_at}
 use Rattle.ep_core.specs.Machine.{IsTelling, begun_of}
 use Rattle.ep_core.proofs.Answered.{OnOk-with}
-use Rattle.ep_core.proofs.Told.{told_entry, definition_same, distinct_events, no_entry, one_entry}
+use Rattle.ep_core.proofs.Told.{told_entry, no_entry, one_entry}
 use Rattle.ep_core.proofs.live.write.Goals as goal
 
 pub returns : goal.returns
@@ -14,7 +15,7 @@ returns c info entries telling =
     let at = sym c.get.ensures.is ∙ ap option_copied c.in-Some.is in
     let one = one_entry events c.args.thread c.args.shown.now.number begun c.in-Some.def.now at in
     OnOk-with _ _ c.event.result c.map_err.result c.map_err.ensures.variant
-    (c.event.ensures.ok [] events info entries telling (distinct_events events c.args.events.now.few c.args.events.now.distinct) (definition_same events begun.write.event ∙ at))
+    (c.event.ensures.ok [] (event_at events) info entries telling c.args.events.now.distinct at)
     (λ writing. let Tells : List EventEntry → Type 0 = λ es. IsTelling events info (entries ++ map Event es) c.event.new.self in
     let same = told_entry c.args.thread c.from.result c.args.shown.now.number c.args.shown.now.begun.stamp c.args.shown.now.begun.write c.in-Some.def.now c.as_slice.result.now c.from.ensures c.args.shown.now.begun.without_frames c.as_slice.ensures in
     subst Tells (ap (λ (e : EventEntry). e ∷ []) same ∙ sym one) writing)

@@ -1,5 +1,5 @@
-use Rattle.std.proofs.Common.{arith, length, ap, ◌≡◌, ◌^◌, ◌<◌}
-use Rattle.nt_write.proofs.Definitions.{can-define}
+use Rattle.std.proofs.Common.{arith}
+use Rattle.nt_write.proofs.Defining.{can-define}
 use Rattle.nt_write.proofs.writer.note_ranges.Goals as goal
 
 pub returns : goal.returns
@@ -8,9 +8,10 @@ returns c =
       thread = omega arith;
       number = omega arith;
       stamp = omega arith;
-      activity = omega arith;
-      related = omega arith;
-      stack = omega (arith, ap length c.requires.no_frames);
-      payload = omega (arith, c.requires.payload);
-      def = can-define c.args.def.now c.requires.valid (omega arith) (omega arith) (omega arith) (omega arith);
+      activity = record { long = omega arith; bytes = c.bytes_fit.ensures };
+      related = record { long = omega arith; bytes = c.bytes_fit-2.ensures };
+      stack = record { short = c.requires.frames; whole = c.requires.whole; bytes = c.bytes_fit-3.ensures };
+      short = c.requires.payload;
+      payload = c.bytes_fit-4.ensures;
+      def = can-define c.args.def.now c.requires.valid (c.event_fits.ensures c.requires.valid);
     }

@@ -1,4 +1,3 @@
-use Rattle.std.proofs.Common.{[]}
 use Rattle.nt_object.specs.Stream.{stream_start}
 use Rattle.nt_write.proofs.Answered.{on_err}
 use Rattle.nt_write.proofs.Prefixes.{some-none}

@@ -4,7 +4,7 @@ use Rattle.nt_write.proofs.IdTables.{slice_index-zeros}
 use Rattle.nt_write.proofs.ids.IdTable.new.Goals as goal
 
 pub returns : goal.returns
-returns c events =
+returns c defs =
     record {
       used = refl;
       id_is =

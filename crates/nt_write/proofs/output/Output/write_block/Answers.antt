@@ -1,6 +1,4 @@
-use Rattle.std.proofs.Common.{◌≡◌, ℕ, ◌+◌, ◌%◌, length, ◌∙◌, ap, sym}
-use Rattle.nt_object.specs.Object.{block_bytes}
-use Rattle.nt_object.specs.Object.{padded}
+use Rattle.std.proofs.Common.{◌≡◌, ◌+◌, ◌%◌, length, ◌∙◌, ap, sym}
 use Rattle.nt_write.proofs.Answered.{on_err}
 use Rattle.nt_write.proofs.Placing.{block-put, block-written, block-broken}
 use Rattle.nt_write.proofs.output.Output.write_block.Goals as goal

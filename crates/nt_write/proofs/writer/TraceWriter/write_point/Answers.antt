@@ -1,53 +1,36 @@
-use Rattle.std.proofs.Common.{◌≡◌, ℕ, ◌+◌, ◌*◌, List, length, ap, ◌∙◌, refl, arith, subst}
+use Rattle.std.proofs.Common.{◌≡◌, ◌+◌, ◌*◌, length, ap, ◌∙◌, arith}
 use Rattle.nt_object.specs.declared.object.BlockKind.TheVariants as block
 use Rattle.nt_object.specs.Stream.{blocks_bytes}
-use Rattle.nt_write.specs.Bodies.{point_body}
+use Rattle.nt_blocks.specs.Bodies.{point_body}
 use Rattle.nt_write.specs.Layout.{with_block, flushed}
-use Rattle.nt_write.specs.Writing.{TookSome}
-use Rattle.nt_write.specs.Writer.{point_of}
-use Rattle.nt_write.proofs.Answered.{on_err, on_err-then, on_ok-then}
+use Rattle.nt_write.proofs.Answered.{on_err}
 use Rattle.nt_write.proofs.BlockSteps.{point-len}
 use Rattle.nt_write.proofs.Placing.{with_block-extends}
 use Rattle.nt_write.proofs.Prefixes.{some-all, some-longer}
-use Rattle.nt_write.proofs.Flushing.{point-put, point-done}
+use Rattle.nt_write.proofs.Flushing.{point-put}
 use Rattle.nt_write.proofs.writer.TraceWriter.write_point.Goals as goal
 
 pub returns-in_err-flush-clause-part : goal.returns-in_err-flush-clause-part
-returns-in_err-flush-clause-part g c start events layout h none =
+returns-in_err-flush-clause-part g c start defs layout h =
     let blocks = (flushed layout).blocks in
     let body = point_body c.args.stamp c.args.threads.now in
     on_err c.from_residual.result
-    (some-longer g.S.Sink.tells_taken g.S.Sink.taken start (blocks_bytes blocks) (blocks_bytes (with_block block.Point body blocks)) c.flush.new.self.output.sink
+    (some-longer g.S.Sink.tells_taken g.S.Sink.taken start (blocks_bytes blocks) (blocks_bytes (with_block block.Point body blocks)) c.flush.new.self.sink
     (with_block-extends block.Point body blocks)
-    (c.in_err-flush.ensures.part start events layout h none))
+    (c.in_err-flush.ensures.part start layout h.kept.output h.kept.pending))
 
 pub returns-in_err-put_point-clause-part : goal.returns-in_err-put_point-clause-part
-returns-in_err-put_point-clause-part g c start events layout h none =
+returns-in_err-put_point-clause-part g c start defs layout h =
     let blocks = (flushed layout).blocks in
     let body = point_body c.args.stamp c.args.threads.now in
-    let sink = c.flush.new.self.output.sink in
+    let sink = c.flush.new.self.sink in
     on_err c.from_residual-in_err-put_point.result
     (some-longer g.S.Sink.tells_taken g.S.Sink.taken start (blocks_bytes blocks) (blocks_bytes (with_block block.Point body blocks)) sink
     (with_block-extends block.Point body blocks)
-    (some-all g.S.Sink.tells_taken g.S.Sink.taken start (blocks_bytes blocks) sink (c.in_ok-flush.ensures.ok start events layout h none).output.took))
+    (some-all g.S.Sink.tells_taken g.S.Sink.taken start (blocks_bytes blocks) sink (c.in_ok-flush.ensures.ok start layout h.kept.output h.kept.pending h.kept.flushes).0.took))
 
 pub write_block-requires : goal.write_block-requires
 write_block-requires g c =
     let put = point-put c.deref.result.now c.put_point.new.out.items c.new-body.result.items c.args.stamp c.args.threads.now c.deref.ensures.value c.in_ok-put_point.ensures.ok c.new-body.ensures.items in
     let long : length c.deref.result.now ≡ 12 + 12 * length c.args.threads.now = ap length put ∙ point-len c.args.stamp c.args.threads.now in
     omega (arith, long, c.requires)
-
-pub returns-clause-ok : goal.returns-clause-ok
-returns-clause-ok g c start events layout h none =
-    let put = point-put c.deref.result.now c.put_point.new.out.items c.new-body.result.items c.args.stamp c.args.threads.now c.deref.ensures.value c.in_ok-put_point.ensures.ok c.new-body.ensures.items in
-    let at = c.in_ok-flush.ensures.ok start events layout h none in
-    on_ok-then c.write_block.result
-    (λ written. point-done g.S.Sink.tells_taken g.S.Sink.taken start events layout (point_of c.args.stamp c.args.threads.now) c.deref.result.now c.flush.new.self _ at put written refl refl refl)
-    (c.write_block.ensures.ok start (flushed layout).blocks at.output)
-
-pub returns-clause-part : goal.returns-clause-part
-returns-clause-part g c start events layout h none =
-    let put = point-put c.deref.result.now c.put_point.new.out.items c.new-body.result.items c.args.stamp c.args.threads.now c.deref.ensures.value c.in_ok-put_point.ensures.ok c.new-body.ensures.items in
-    let at = c.in_ok-flush.ensures.ok start events layout h none in
-    let T : List ℕ → Type 0 = λ body. TookSome g.S.Sink.tells_taken g.S.Sink.taken start (blocks_bytes (with_block block.Point body (flushed layout).blocks)) c.write_block.new.self.sink in
-    on_err-then c.write_block.result (λ took. subst T put took) (c.write_block.ensures.part start (flushed layout).blocks at.output)
