@@ -1,6 +1,6 @@
 -- Reading a definition, part by part.
-use Rattle.std.proofs.Common.{◌≡◌, ℕ, ◌<◌, ◌≤◌, Bool, true, false, inl, inr, Result, Ok, Err, List, length, refl, sym, ap, subst, ◌∙◌}
-use Rattle.std.specs.Prelude.{IsErr, is_err}
+use Rattle.std.proofs.Common.{◌≡◌, ℕ, true, false, Ok, List, length, refl}
+use Rattle.std.specs.Prelude.{IsErr}
 use Rattle.std.specs.Int.{w32, w64, is_in_range}
 use Rattle.ep_defs.specs.declared.event.FieldDef.{FieldDef}
 use Rattle.ep_defs.specs.declared.event.EventDef.{EventDef}

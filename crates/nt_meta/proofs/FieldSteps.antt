@@ -12,7 +12,7 @@ use Rattle.ep_defs.specs.declared.event.TheConstants.{OBJECT_CODE}
 use Rattle.ep_defs.specs.declared.event.FieldDef.{FieldDef}
 use Rattle.ep_defs.specs.Event.{is_type_code}
 use Rattle.nt_meta.specs.declared.limits.TheConstants.{READ_DEPTH}
-use Rattle.nt_meta.specs.Reading.{Part, Refused, Cut, Wrong, number_at, text_at, if_object, field_at, with_fields, fields_at}
+use Rattle.nt_meta.specs.Reading.{Part, Cut, Wrong, number_at, text_at, if_object, field_at, with_fields, fields_at}
 use Rattle.nt_meta.specs.state.Cursor.{Answers, AnswersField, AnswersFields, AddsField, AddsFields}
 
 -- ---- faults
@@ -307,17 +307,6 @@ stops_inside BadMeta depth code known count bytes coded_rest next before rest af
     subst (λ (p : Part (List FieldDef)). IsErr p) (sym (whole ∙ ap (named depth code) inside))
     (fails_first (fields_at more (depth + 1) count next) (λ inner. text_at inner.1 >>= λ name. Ok (record { depth = depth; code = code; name = name.0 } ∷ inner.0, name.1)) (fails more (omega (arith, first, second, enough))))
 stops_inside OutOfMemory depth code known count bytes coded_rest next before rest after inner_before inner_after inner_rest e is typed deep object counted fails = tt
-
--- Reading ends at the number of the fields inside one.
-pub count_fails : (depth code known : ℕ) (bytes coded_rest : List ℕ) → number_at w32 bytes ≡ Ok (code, coded_rest) → known ≡ code → is_type_code code ≡ true → depth ≤ READ_DEPTH → (known == OBJECT_CODE) ≡ true → IsErr (number_at w32 coded_rest) → (more : ℕ) → IsErr (field_at (fields_at more) depth bytes)
-count_fails depth code known bytes coded_rest e is typed deep object fails more =
-    let whole : field_at (fields_at more) depth bytes ≡ named depth code (if_object (code == OBJECT_CODE) (within (fields_at more) depth) coded_rest) = field_coded (fields_at more) depth code bytes coded_rest e ∙ coded_known (fields_at more) depth code coded_rest typed (le-leb depth READ_DEPTH deep) in
-    let inside : if_object (code == OBJECT_CODE) (within (fields_at more) depth) coded_rest ≡ within (fields_at more) depth coded_rest =
-    ap (λ (n : ℕ). if_object (n == OBJECT_CODE) (within (fields_at more) depth) coded_rest) (sym is)
-    ∙ if_object-is known (within (fields_at more) depth) coded_rest object in
-    subst (λ (p : Part (List FieldDef)). IsErr p) (sym (whole ∙ ap (named depth code) inside))
-    (fails_first (within (fields_at more) depth coded_rest) (λ inner. text_at inner.1 >>= λ name. Ok (record { depth = depth; code = code; name = name.0 } ∷ inner.0, name.1))
-    (fails_first (number_at w32 coded_rest) (λ count. fields_at more (depth + 1) count.0 count.1) fails))
 
 -- Reading ends at the name.
 pub stops_at_name : (stop : Stop) (depth code known : ℕ) (bytes coded_rest : List ℕ) (before : List FieldDef) (rest end : List ℕ) (pushed now after : List FieldDef)

@@ -1,6 +1,6 @@
 -- What is read of fields is how they are spelled.
-use Rattle.std.proofs.Common.{◌≡◌, ℕ, zero, suc, ◌+◌, ◌^◌, ◌<◌, ◌≤◌, Bool, true, false, cond, inl, inr, Result, Ok, Err, List, [], ◌∷◌, ◌++◌, length, take, drop, eqb, refl, sym, ap, subst, ◌∙◌, append_assoc, arith, length-append}
-use Rattle.std.specs.Prelude.{IsErr, ◌&&◌, nat_le, nat_lt, ◌==◌, take_while, count_by, if◌then◌else◌}
+use Rattle.std.proofs.Common.{◌≡◌, ℕ, zero, suc, ◌+◌, ◌^◌, ◌<◌, ◌≤◌, Bool, true, false, cond, inl, inr, Result, Ok, Err, List, [], ◌∷◌, ◌++◌, length, take, drop, refl, sym, ap, subst, ◌∙◌, append_assoc, arith}
+use Rattle.std.specs.Prelude.{◌&&◌, nat_le, nat_lt, ◌==◌, take_while, count_by, if◌then◌else◌}
 use Rattle.std.specs.Int.{w32}
 use Rattle.std.specs.List.{AllByRecursion, list_all, prefix_len}
 use Rattle.std.proofs.lemmas.Bool.{cases_Bool, and_from, and_parts, le-leb, leb-true, lt-ltb, le-ltb, ne_eqb}
@@ -13,8 +13,8 @@ use Rattle.pt_num.specs.Numbers.{fixed}
 use Rattle.pt_num.specs.Texts.{text_z, are_units}
 use Rattle.pt_num.specs.Steps.{◌>>=◌, check}
 use Rattle.nt_meta.specs.declared.limits.TheConstants.{READ_DEPTH}
-use Rattle.nt_meta.specs.Meta.{inside, after, inside_count, inside_counts, fields_bytes, is_readable_field}
-use Rattle.nt_meta.specs.Reading.{Part, Refused, Cut, Wrong, number_at, text_at, if_object, field_at, with_fields, fields_at}
+use Rattle.nt_meta.specs.Meta.{inside, after, inside_counts, fields_bytes, is_readable_field}
+use Rattle.nt_meta.specs.Reading.{Part, Cut, Wrong, number_at, text_at, if_object, field_at, with_fields, fields_at}
 use Rattle.nt_meta.specs.state.Fields.{inside_bytes}
 use Rattle.nt_meta.proofs.PutFields.{fields_bytes-cons}
 use Rattle.nt_meta.proofs.FieldSteps.{fields_at-zero, fields_at-none, fields_at-suc, within as inner_at, same_part}
@@ -23,21 +23,21 @@ use Rattle.nt_meta.proofs.Spelled.{AreLow, low-after, number-spelled-32, text-sp
 -- ---- where the fields inside one end
 
 -- The list is empty, or its first element fails.
-abbrev FailsFirst : {A : Type 0} → (A → Bool) → List A → Type 0
+abbrev pub FailsFirst : {A : Type 0} → (A → Bool) → List A → Type 0
 FailsFirst p [] = Unit {0}
 FailsFirst p (x ∷ xs) = p x ≡ false
 
 one-plus : (n : ℕ) → 1 + n ≡ suc n
 one-plus n = omega arith
 
-take_while-cons : {A : Type 0} (p : A → Bool) (x : A) (xs : List A) → p x ≡ true → take_while p (x ∷ xs) ≡ x ∷ take_while p xs
+pub take_while-cons : {A : Type 0} (p : A → Bool) (x : A) (xs : List A) → p x ≡ true → take_while p (x ∷ xs) ≡ x ∷ take_while p xs
 take_while-cons p x xs e =
     ap (λ (b : Bool). take (cond b (1 + prefix_len p xs) 0) (x ∷ xs)) e ∙ ap (λ (n : ℕ). take n (x ∷ xs)) (one-plus (prefix_len p xs))
 
-take_while-stops : {A : Type 0} (p : A → Bool) (x : A) (xs : List A) → p x ≡ false → take_while p (x ∷ xs) ≡ []
+pub take_while-stops : {A : Type 0} (p : A → Bool) (x : A) (xs : List A) → p x ≡ false → take_while p (x ∷ xs) ≡ []
 take_while-stops p x xs e = ap (λ (b : Bool). take (cond b (1 + prefix_len p xs) 0) (x ∷ xs)) e
 
-take_while-append : {A : Type 0} (p : A → Bool) (xs ys : List A) → FailsFirst p ys → take_while p (xs ++ ys) ≡ take_while p xs
+pub take_while-append : {A : Type 0} (p : A → Bool) (xs ys : List A) → FailsFirst p ys → take_while p (xs ++ ys) ≡ take_while p xs
 take_while-append p [] [] fails = refl
 take_while-append p [] (y ∷ ys) fails = take_while-stops p y ys fails
 take_while-append {A} p (x ∷ xs) ys fails =
@@ -108,7 +108,7 @@ all-deep low (f ∷ a) b p q = (weaker f.depth p.0, all-deep low a b p.1 q)
     weaker n h = omega arith
 
 -- What may stand at a depth may stand where deeper fields may.
-nested-weaker : (low high : ℕ) (fields : List FieldDef) → low ≤ high → are_nested low fields ≡ true → are_nested high fields ≡ true
+pub nested-weaker : (low high : ℕ) (fields : List FieldDef) → low ≤ high → are_nested low fields ≡ true → are_nested high fields ≡ true
 nested-weaker low high [] h n = refl
 nested-weaker low high (f ∷ fields) h n =
     let parts = and_parts (nat_le f.depth low) (are_nested (deepest_after f) fields) n in
@@ -134,23 +134,23 @@ counts-append depth (f ∷ a) b deep ends p q =
     let same : inside f (a ++ b) ≡ inside f a = take_while-append (λ (g : FieldDef). nat_lt f.depth g.depth) a b fails in
     (subst (λ (fields : List FieldDef). count_by (λ (g : FieldDef). g.depth == f.depth + 1) fields < 2 ^ 32) (sym same) p.0, counts-append depth a b deep.1 ends p.1 q)
 
-count-append : (p : FieldDef → Bool) (a b : List FieldDef) → count_by p (a ++ b) ≡ count_by p a + count_by p b
+pub count-append : (p : FieldDef → Bool) (a b : List FieldDef) → count_by p (a ++ b) ≡ count_by p a + count_by p b
 count-append p a b = sum_by-append (λ (f : FieldDef). cond (p f) 1 0) a b
 
-count-cons : (p : FieldDef → Bool) (f : FieldDef) (fields : List FieldDef) → p f ≡ true → count_by p (f ∷ fields) ≡ suc (count_by p fields)
+pub count-cons : (p : FieldDef → Bool) (f : FieldDef) (fields : List FieldDef) → p f ≡ true → count_by p (f ∷ fields) ≡ suc (count_by p fields)
 count-cons p f fields e =
     let one : count_by p (f ∷ []) ≡ 1 = ap (λ (b : Bool). 0 + cond b 1 0) e in
     let split : count_by p (f ∷ fields) ≡ count_by p (f ∷ []) + count_by p fields = count-append p (f ∷ []) fields in
     split ∙ ap (λ (n : ℕ). n + count_by p fields) one ∙ one-plus (count_by p fields)
 
-count-none : (depth : ℕ) (fields : List FieldDef) → AllByRecursion (λ f. depth + 1 ≤ f.depth) fields → count_by (λ f. f.depth == depth) fields ≡ 0
+pub count-none : (depth : ℕ) (fields : List FieldDef) → AllByRecursion (λ f. depth + 1 ≤ f.depth) fields → count_by (λ f. f.depth == depth) fields ≡ 0
 count-none depth [] deep = refl
 count-none depth (f ∷ fields) deep = rw (ne_eqb f.depth depth (apart f.depth deep.0)) (count-none depth fields deep.1)
   where
     apart : (n : ℕ) → depth + 1 ≤ n → n ≡ depth → ⊥
     apart n h e = omega arith
 
-itself : (n : ℕ) → (n == n) ≡ true
+pub itself : (n : ℕ) → (n == n) ≡ true
 itself n = elim (eqb_tells n n) [ inl same ↦ same.0 | inr differ ↦ absurd (differ.1 refl) ]
 
 -- A field with those inside it, before others.

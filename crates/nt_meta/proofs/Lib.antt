@@ -6,5 +6,6 @@ pub mod Lengths
 pub mod Payloads
 pub mod PutFields
 pub mod PutPieces
+pub mod ReadBack
 pub mod Spelled
 pub mod Units

@@ -1,20 +1,19 @@
 -- What is read as a payload is how the payload of the definition is spelled.
-use Rattle.std.proofs.Common.{◌≡◌, ℕ, zero, suc, ◌+◌, ◌^◌, ◌<◌, ◌≤◌, Bool, true, false, Result, Ok, Err, List, [], ◌∷◌, ◌++◌, length, get_or, refl, sym, ap, subst, ◌∙◌, append_assoc, arith}
-use Rattle.std.specs.Prelude.{◌&&◌, nat_le, All, ◌==◌, count_by}
+use Rattle.std.proofs.Common.{◌≡◌, ℕ, zero, suc, ◌^◌, ◌<◌, ◌≤◌, Result, Ok, Err, List, [], ◌∷◌, ◌++◌, length, get_or, sym, ap, subst, ◌∙◌, append_assoc, arith}
+use Rattle.std.specs.Prelude.{nat_le}
 use Rattle.std.specs.Int.{w32, w64, is_in_range}
-use Rattle.std.specs.List.{AllByRecursion, list_all}
+use Rattle.std.specs.List.{list_all}
 use Rattle.std.proofs.lemmas.Bool.{and_from, and_parts, leb-true}
 use Rattle.std.proofs.lemmas.List.Elements.{All-head, All-tail, All-from_get_or}
-use Rattle.ep_defs.specs.declared.event.FieldDef.{FieldDef}
 use Rattle.ep_defs.specs.declared.event.EventDef.{EventDef}
 use Rattle.ep_defs.specs.Event.{are_nested}
 use Rattle.ep_defs.specs.Ranges.{AreBytes}
 use Rattle.pt_num.specs.Numbers.{fixed}
 use Rattle.pt_num.specs.Texts.{text_z}
-use Rattle.pt_num.specs.Steps.{◌>>=◌, check}
+use Rattle.pt_num.specs.Steps.{check}
 use Rattle.nt_meta.specs.declared.limits.TheConstants.{LAST_ID}
-use Rattle.nt_meta.specs.Meta.{fields_bytes, outermost_count, inside_counts, is_readable_field, meta_payload, FitsPayload, IsMeta}
-use Rattle.nt_meta.specs.Reading.{Part, Refused, Wrong, number_at, text_at, fields_at, def_at, meta_at}
+use Rattle.nt_meta.specs.Meta.{fields_bytes, outermost_count, is_readable_field, FitsPayload, IsMeta}
+use Rattle.nt_meta.specs.Reading.{Refused, Wrong, number_at, text_at, fields_at, def_at, meta_at}
 use Rattle.nt_meta.proofs.FieldSteps.{same_part}
 use Rattle.nt_meta.proofs.Forests.{bind_inv, check-inv, forest_read}
 use Rattle.nt_meta.proofs.Spelled.{AreLow, low-after, number-spelled-32, number-spelled-64, text-spelled}
@@ -36,7 +35,7 @@ bytes-of bytes low = All-from_get_or (λ byte. byte < 2 ^ 8) bytes 0 (λ i withi
 -- ---- a definition
 
 -- The bytes of a definition behind its id.
-abbrev def_bytes : EventDef → List ℕ → List ℕ
+abbrev pub def_bytes : EventDef → List ℕ → List ℕ
 def_bytes def rest =
     text_z def.provider ++ (fixed w32 def.id ++ (text_z def.name ++ (fixed w64 def.keywords ++ (fixed w32 def.version ++ (fixed w32 def.level ++ (fixed w32 (outermost_count def.fields) ++ (fields_bytes (length def.fields) def.fields ++ rest)))))))
 
@@ -122,7 +121,7 @@ def_spelled bytes rest def low e =
     let parts = def_parts bytes rest def e in
     parts_spelled bytes parts.r1 parts.r2 parts.r3 parts.r4 parts.r5 parts.r6 parts.r7 rest def parts.count low parts.e1 parts.e2 parts.e3 parts.e4 parts.e5 parts.e6 parts.e7 parts.e8
 
-nine_grouped : (a b c d e f g h i rest : List ℕ) → a ++ (b ++ (c ++ (d ++ (e ++ (f ++ (g ++ (h ++ (i ++ rest)))))))) ≡ (a ++ b ++ c ++ d ++ e ++ f ++ g ++ h ++ i) ++ rest
+pub nine_grouped : (a b c d e f g h i rest : List ℕ) → a ++ (b ++ (c ++ (d ++ (e ++ (f ++ (g ++ (h ++ (i ++ rest)))))))) ≡ (a ++ b ++ c ++ d ++ e ++ f ++ g ++ h ++ i) ++ rest
 nine_grouped a b c d e f g h i rest = simp append_assoc
 
 -- ---- a payload

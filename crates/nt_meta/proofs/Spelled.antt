@@ -1,18 +1,18 @@
 -- What is read of numbers and texts is how they are spelled.
 use Rattle.std.proofs.Common.{◌≡◌, ℕ, zero, suc, ◌+◌, ◌*◌, ◌/◌, ◌%◌, ◌^◌, ◌<◌, ◌≤◌, Bool, true, false, cond, inl, inr, Ok, Err, List, [], ◌∷◌, ◌++◌, length, take, drop, get_or, refl, sym, ap, subst, ◌∙◌, append_assoc, arith}
-use Rattle.std.specs.Prelude.{IsTrue, nat_lt, nat_le, ◌==◌}
-use Rattle.std.specs.Int.{Width, w16, w32, w64, byte_len, is_in_range}
-use Rattle.std.proofs.lemmas.Bool.{cases_Bool, and_from, and_parts, le-leb, leb-true, ltb-false, ne_eqb}
+use Rattle.std.specs.Prelude.{nat_lt, nat_le, ◌==◌}
+use Rattle.std.specs.Int.{w16, w32, w64, byte_len, is_in_range}
+use Rattle.std.proofs.lemmas.Bool.{and_from, and_parts, le-leb, leb-true, ltb-false, ne_eqb}
 use Rattle.std.proofs.lemmas.Bool.Decides.{eqb_tells}
-use Rattle.std.proofs.lemmas.List.{take-append-drop, get_or-drop}
+use Rattle.std.proofs.lemmas.List.{take-append-drop}
 use Rattle.byteorder.specs.Endian.{little_number}
 use Rattle.byteorder.specs.Numbers.{little_from-lt}
 use Rattle.pt_num.specs.Steps.{or_else_fault}
 use Rattle.pt_num.specs.Numbers.{fixed}
 use Rattle.pt_num.specs.Texts.{units_bytes, text_z, are_units}
-use Rattle.pt_num.specs.Fields.{Field, Short, fixed_at, text_z_at, with_unit}
+use Rattle.pt_num.specs.Fields.{Field, Short, text_z_at, with_unit}
 use Rattle.pt_num.proofs.FixedForms.{fixed_32, fixed_64, read_fixed}
-use Rattle.nt_meta.specs.Reading.{Part, Cut, number_at, text_at}
+use Rattle.nt_meta.specs.Reading.{Cut, number_at, text_at}
 use Rattle.nt_meta.proofs.FieldSteps.{same_part}
 
 -- Each byte is below 256.

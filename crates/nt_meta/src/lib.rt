@@ -16,6 +16,6 @@ mod take;
 #[cfg(test)]
 mod tests;
 
-pub use laws::what_is_read_is_a_payload;
+pub use laws::{a_payload_is_read_back, what_is_read_is_a_payload};
 pub use put::put_meta;
 pub use take::{TakenMeta, take_meta};

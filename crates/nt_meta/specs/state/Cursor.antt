@@ -1,5 +1,5 @@
 -- What each step of reading a payload answers, by the bytes before it and after it.
-use Rattle.std.specs.Prelude.{◌≡◌, ℕ, suc, ◌+◌, ◌<◌, ◌≤◌, List, ◌++◌, length, Result, Ok, Err, IsErr}
+use Rattle.std.specs.Prelude.{◌≡◌, ℕ, suc, ◌<◌, ◌≤◌, List, ◌++◌, length, Result, Ok, Err, IsErr}
 use Rattle.ep_defs.specs.declared.event.FieldDef.{FieldDef}
 use Rattle.nt_meta.specs.declared.cursor.Stop.{Stop}
 use Rattle.nt_meta.specs.declared.cursor.Stop.TheVariants.{BadMeta, OutOfMemory}

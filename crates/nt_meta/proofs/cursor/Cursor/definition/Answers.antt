@@ -1,8 +1,8 @@
-use Rattle.std.proofs.Common.{◌≡◌, ℕ, Ok, Err, List, [], ◌++◌, length, ap, sym, ◌∙◌, arith}
+use Rattle.std.proofs.Common.{◌≡◌, List, ◌++◌, length, ap, ◌∙◌, arith}
 use Rattle.ep_defs.specs.declared.event.FieldDef.{FieldDef}
 use Rattle.std.proofs.lemmas.Result.{err_from_is_err_and}
 use Rattle.std.specs.Int.{w32, w64}
-use Rattle.nt_meta.specs.Reading.{number_at, text_at, def_at, fields_at}
+use Rattle.nt_meta.specs.Reading.{number_at, text_at, def_at}
 use Rattle.nt_meta.specs.state.Cursor.{AddsFields}
 use Rattle.nt_meta.proofs.FieldSteps.{bad_part, ends_early, bad_fields}
 use Rattle.nt_meta.proofs.DefSteps.{def_provider, def_id, def_name, def_keywords, def_version, def_level, def_count, def_fields, def_read}

@@ -1,7 +1,6 @@
-use Rattle.std.proofs.Common.{◌≡◌, ◌≤◌, ◌<◌, ℕ, true, false, Ok, Err, List, length, ap, sym, ◌∙◌, arith}
+use Rattle.std.proofs.Common.{sym, ◌∙◌}
 use Rattle.std.proofs.lemmas.Result.{err_from_is_err_and}
-use Rattle.std.specs.Int.{w32, is_in_range}
-use Rattle.nt_meta.specs.declared.limits.TheConstants.{LAST_ID}
+use Rattle.std.specs.Int.{w32}
 use Rattle.nt_meta.specs.Reading.{number_at, def_at}
 use Rattle.nt_meta.proofs.FieldSteps.{bad_part}
 use Rattle.nt_meta.proofs.DefSteps.{meta_id, meta_range, meta_def, meta_read}

@@ -1,9 +1,9 @@
-use Rattle.std.proofs.Common.{◌≡◌, ℕ, ◌-◌, ◌*◌, Ok, Err, List, length, take, drop, refl, sym, ap, ◌∙◌, arith}
+use Rattle.std.proofs.Common.{◌≡◌, ℕ, ◌-◌, ◌*◌, List, length, take, drop, ap, ◌∙◌, arith}
 use Rattle.std.proofs.lemmas.List.{take_all, length-drop}
 use Rattle.std.specs.Prelude.{is_err}
 use Rattle.pt_num.specs.Steps.{or_else_fault}
-use Rattle.pt_num.specs.Fields.{Field, text_z_at}
-use Rattle.nt_meta.specs.Reading.{Part, Cut, text_at}
+use Rattle.pt_num.specs.Fields.{Field}
+use Rattle.nt_meta.specs.Reading.{Cut, text_at}
 use Rattle.nt_meta.proofs.Units.{same_units}
 use Rattle.nt_meta.proofs.cursor.Cursor.text.Goals as goal
 
