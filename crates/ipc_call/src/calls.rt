@@ -43,6 +43,8 @@ pub fn collect<L: Link, O: Sink>(
         → OnOk result (TookAll O.tells_taken O.taken output.old output.new (later_bytes (L.left link.old))) }
     ensures part { IsTrue (L.tells_given link.old)
         → TookPart O.tells_taken O.taken output.old output.new (later_bytes (L.left link.old)) }
+    ensures begun { IsTrue (L.tells_given link.old) → result ≡ Err WriteFault
+        → (id : ℕ) × (reply_of false (own_bytes (L.left link.old)) ≡ Ok (replies.Session id)) }
     ensures no_stream { (code : ℕ) → result ≡ Err (PeerError code) → output.new ≡ output.old }
     ensures no_reply { (at : ℕ) → result ≡ Err (BadReply at) → output.new ≡ output.old }
 

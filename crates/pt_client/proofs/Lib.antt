@@ -1,0 +1,2 @@
+mod RuleWords
+mod Silent

@@ -1,0 +1,202 @@
+//! What the words of the command line ask a client for.
+ghost use Rattle.std.specs.Prelude.{◌≡◌, ℕ, List, map, IfOk, IfSome};
+ghost use Rattle.std.specs.String.{string_bytes};
+ghost use Rattle.pt_client.specs.Words.{command_in, target_in, megabytes_in, is_option, plain_rule_in, rules_in, collect_in, stop_in, ps_in};
+ghost use Rattle.pt_client.specs.Answers.{Fits};
+
+use crate::limits::MOST_RULES;
+use ep_defs::{Items, Rule, RuleList};
+use ep_plan::{number, rule};
+use ipc_body::{Asked, collect_size};
+use std::alloc::{AllocError, Global};
+use std::marker::Model;
+
+/// The path of a peer's socket.
+#[derive(Debug, Drop)]
+pub struct Target<'a> {
+    path: &'a str,
+}
+
+impl<'a> Model for Target<'a> {
+    ghost use Rattle.std.specs.Prelude.{List, ℕ};
+
+    ghost Value = { List ℕ };
+
+    ghost view = { λ target. target.path.now };
+}
+
+impl<'a> Target<'a> {
+    /// The path as a text.
+    pub fn path(&self) -> &'a str
+        ensures { result.now ≡ self.now }
+    {
+        self.path
+    }
+}
+
+/// What a client is to ask of a peer.
+#[derive(Debug, Drop)]
+pub enum Command<'a> {
+    /// For a session of this budget, whose stream is written.
+    Collect {
+        target: Target<'a>,
+        megabytes: u32,
+        rules: RuleList,
+    },
+    /// For the end of a session.
+    Stop {
+        target: Target<'a>,
+        id: u64,
+    },
+    /// For what the program says of itself.
+    Ps {
+        target: Target<'a>,
+    },
+}
+
+impl<'a> Command<'a> {
+    ghost use Rattle.std.specs.Prelude.{◌≡◌};
+    ghost use Rattle.pt_client.specs.Answers.{target_of};
+
+    /// The path of the socket that is called.
+    pub fn target(&self) -> &'a str
+        ensures { result.now ≡ target_of self.now }
+    {
+        match self {
+            Command::Collect { target, .. }
+            | Command::Stop { target, .. }
+            | Command::Ps { target } => target.path(),
+        }
+    }
+}
+
+/// What the words of the command line, without the program's name, ask a client for, if anything.
+pub fn command_of<'a>(alloc: Global, words: &'a [String]) -> Result<Option<Command<'a>>, AllocError>
+    ensures meant { IfOk result (λ command. command ≡ command_in (map string_bytes words.now)) }
+    ensures fits { IfOk result (λ command. IfSome command Fits) }
+{
+    let [name, rest @ ..] = words else {
+        return Ok(None);
+    };
+    match name.as_str() {
+        "collect" => collect(alloc, rest),
+        "stop" => Ok(stop(rest)),
+        "ps" => Ok(ps(rest)),
+        _ => Ok(None),
+    }
+}
+
+// The words after `collect`.
+fn collect<'a>(alloc: Global, words: &'a [String]) -> Result<Option<Command<'a>>, AllocError>
+    ensures meant { IfOk result (λ command. command ≡ collect_in (map string_bytes words.now)) }
+    ensures fits { IfOk result (λ command. IfSome command Fits) }
+{
+    let [target, megabytes, rules @ ..] = words else {
+        return Ok(None);
+    };
+    let Some(target) = target_of(target) else {
+        return Ok(None);
+    };
+    let Some(megabytes) = megabytes_of(megabytes.as_bytes()) else {
+        return Ok(None);
+    };
+    let Some(rules) = rules_of(alloc, rules)? else {
+        return Ok(None);
+    };
+    let asked = Asked {
+        megabytes,
+        rules: rules.as_slice(),
+    };
+    if collect_size(&asked).is_none() {
+        return Ok(None);
+    }
+    Ok(Some(Command::Collect {
+        target,
+        megabytes,
+        rules,
+    }))
+}
+
+// The words after `stop`.
+fn stop<'a>(words: &'a [String]) -> Option<Command<'a>>
+    ensures meant { result ≡ stop_in (map string_bytes words.now) }
+    ensures fits { IfSome result Fits }
+{
+    let [target, id] = words else {
+        return None;
+    };
+    let target = target_of(target)?;
+    let id = number(id.as_bytes(), u64::MAX)?;
+    Some(Command::Stop { target, id })
+}
+
+// The words after `ps`.
+fn ps<'a>(words: &'a [String]) -> Option<Command<'a>>
+    ensures meant { result ≡ ps_in (map string_bytes words.now) }
+    ensures fits { IfSome result Fits }
+{
+    let [target] = words else {
+        return None;
+    };
+    let target = target_of(target)?;
+    Some(Command::Ps { target })
+}
+
+// A path, which is no option.
+fn target_of<'a>(word: &'a String) -> Option<Target<'a>>
+    ensures { result ≡ target_in (string_bytes word.now) }
+{
+    if word.is_empty() || is_option(word.as_bytes()) {
+        return None;
+    }
+    Some(Target {
+        path: word.as_str(),
+    })
+}
+
+// Whether the word begins with `-`.
+fn is_option(word: &[u8]) -> bool
+    ensures { result ≡ is_option word.now }
+{
+    match word {
+        [first, ..] => *first == b'-',
+        [] => false,
+    }
+}
+
+// A budget.
+fn megabytes_of(word: &[u8]) -> Option<u32>
+    ensures { result ≡ megabytes_in word.now }
+{
+    match u32::try_from(number(word, u64::MAX)?) {
+        Ok(0) | Err(_) => None,
+        Ok(megabytes) => Some(megabytes),
+    }
+}
+
+// 1 to 1,000 rules.
+fn rules_of(alloc: Global, words: &[String]) -> Result<Option<RuleList>, AllocError>
+    ensures { IfOk result (λ rules. rules ≡ rules_in (map string_bytes words.now)) }
+{
+    if words.is_empty() || words.len() > MOST_RULES {
+        return Ok(None);
+    }
+    let mut rules = Vec::new(alloc);
+    for word in words {
+        let Some(rule) = rule_of(alloc, word.as_bytes())? else {
+            return Ok(None);
+        };
+        rules.push(rule)?;
+    }
+    Ok(Some(Items::new(rules)))
+}
+
+// A rule, which is no option.
+fn rule_of(alloc: Global, word: &[u8]) -> Result<Option<Rule>, AllocError>
+    ensures { IfOk result (λ rule. rule ≡ plain_rule_in word.now) }
+{
+    if is_option(word) {
+        return Ok(None);
+    }
+    rule(alloc, word)
+}
