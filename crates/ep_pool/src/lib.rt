@@ -7,11 +7,18 @@
 //! none is given where none is free, and no chunk is lost. Only `new` takes memory. `specs/Counts` says what a pool is.
 #![tactic(auto)]
 
+mod limits;
 mod own_pool;
+mod pool;
 mod purse;
+mod seat;
+mod steps;
 
+pub use limits::SEAT_COUNTS;
 pub use own_pool::OwnPool;
+pub use pool::Pool;
 pub use purse::Purse;
+pub use seat::{PoolSeat, Seated};
 
 #[cfg(test)]
 mod tests;

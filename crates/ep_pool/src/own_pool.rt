@@ -69,6 +69,8 @@ impl Purse for OwnPool {
 
     ghost found_none = { λ old new. (old.free ≡ 0) × (new ≡ old) };
 
+    ghost same = { λ old new. new.total ≡ old.total };
+
     /// A chain of one empty chunk. None exactly where no chunk is free.
     fn take(&mut self) -> Option<Chain>
         ensures one { IfSome result (λ chain. chain ≡ [] ∷ []) }
@@ -92,13 +94,15 @@ impl Purse for OwnPool {
         self.total
     }
 
-    ghost use Rattle.std.proofs.Common.{ap};
+    ghost use Rattle.std.proofs.Common.{ap, refl};
 
     ghost none_is_taken = { λ old new h. ap (λ (p : PoolCounts). p.total - p.free) h.1 };
+
+    ghost is_same = { λ purse. refl };
 }
 
 // The chunk of a chain of one, without its records.
-fn cleared(mut one: Chain) -> Chain
+pub(crate) fn cleared(mut one: Chain) -> Chain
     requires { length one ≡ 1 }
     ensures { result ≡ [] ∷ [] }
 {

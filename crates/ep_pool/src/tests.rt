@@ -1,5 +1,16 @@
+//! What pools answer, to one thread and to four.
+ghost use Rattle.std.specs.Prelude.{◌≡◌, ◌+◌, ◌≤◌, ◌<◌};
+ghost use Rattle.ep_pool.specs.Shared.{IsSeatOf};
+ghost use Rattle.ep_pool.specs.declared.tests.TheConstants.{TURNS};
+
 use super::*;
+use std::sync::Wait;
 use std::test::Fail;
+use std::thread;
+use std::thread::Threads;
+
+/// How often each thread takes a chunk and gives it back.
+const TURNS: u64 = 100_000;
 
 #[test]
 fn chunks_are_taken_and_given_back(rt: HostRuntime) -> Result<(), Fail> {
@@ -36,5 +47,95 @@ fn a_chunk_that_is_given_back_is_empty(rt: HostRuntime) -> Result<(), Fail> {
     pool.give(chain);
     let again = pool.take().ok_or("no chunk")?;
     assert_eq!(rt; again.chunk(0).map_or(1, |chunk| chunk.used()), 0);
+    Ok(())
+}
+
+#[test]
+fn a_shared_pool_of_two_gives_two_chunks(rt: HostRuntime) -> Result<(), Fail> {
+    let (pool, mut seat) = Pool::new(&rt, rt.alloc(), 2, 2)?;
+    let mut other = pool.split(&mut seat);
+    assert!(rt; seat.share() == 1 && other.share() == 1);
+    assert_eq!(rt; pool.total(), 2);
+    let first = pool.take(&rt, &mut seat).ok_or("no chunk")?;
+    let second = pool.take(&rt, &mut other).ok_or("no chunk")?;
+    assert!(rt; first.count() == 1 && second.count() == 1);
+    assert!(rt; pool.take(&rt, &mut seat).is_none());
+    pool.give(&rt, &mut seat, second);
+    let again = pool.take(&rt, &mut seat).ok_or("no chunk")?;
+    let mut both = first;
+    both.join(again);
+    pool.give(&rt, &mut other, both);
+    pool.join(&mut seat, other);
+    assert!(rt; seat.share() == 2 && seat.taken() == 3 && seat.given() == 3);
+    assert_eq!(rt; pool.free(&rt, &mut seat), 2);
+    Ok(())
+}
+
+#[test]
+fn a_seat_is_lent_as_a_purse(rt: HostRuntime) -> Result<(), Fail> {
+    let (pool, mut seat) = Pool::new(&rt, rt.alloc(), 1, 1)?;
+    let mut purse = Seated {
+        rt: &rt,
+        pool: &pool,
+        seat: &mut seat,
+    };
+    assert_eq!(rt; purse.total(), 1);
+    let chain = purse.take().ok_or("no chunk")?;
+    assert!(rt; purse.take().is_none());
+    purse.give(chain);
+    assert!(rt; seat.taken() == 1 && seat.given() == 1);
+    Ok(())
+}
+
+// Takes chunks and gives them back.
+fn turns<R: Wait>(rt: &R, pool: &Pool, seat: PoolSeat) -> PoolSeat
+    requires { IsSeatOf pool.now seat × (seat.taken ≡ 0) × (seat.given ≡ 0) }
+    ensures { IsSeatOf pool.now result × (result.taken ≡ result.given) × (result.taken ≤ TURNS) }
+{
+    let mut seat = seat;
+    for _ in 0..TURNS {
+        if let Some(chain) = pool.take(rt, &mut seat) {
+            pool.give(rt, &mut seat, chain);
+        }
+    }
+    seat
+}
+
+// Two threads take turns, and their seats become one.
+fn two_turns<R: Threads + Wait + Sync>(rt: &R, pool: &Pool, seats: (PoolSeat, PoolSeat)) -> PoolSeat
+    requires one { IsSeatOf pool.now seats.0 × (seats.0.taken ≡ 0) × (seats.0.given ≡ 0) }
+    requires other { IsSeatOf pool.now seats.1 × (seats.1.taken ≡ 0) × (seats.1.given ≡ 0) }
+    ensures { IsSeatOf pool.now result × (result.taken ≡ result.given) × (result.taken ≤ TURNS + TURNS) }
+{
+    let (one, other) = seats;
+    let (mut one, other) = thread::join(
+        rt,
+        move ||
+            requires { IsSeatOf pool.now one × (one.taken ≡ 0) × (one.given ≡ 0) }
+            ensures { IsSeatOf pool.entry.now result × (result.taken ≡ result.given) × (result.taken ≤ TURNS) }
+        { turns(rt, pool, one) },
+        move ||
+            requires { IsSeatOf pool.now other × (other.taken ≡ 0) × (other.given ≡ 0) }
+            ensures { IsSeatOf pool.entry.now result × (result.taken ≡ result.given) × (result.taken ≤ TURNS) }
+        { turns(rt, pool, other) },
+    );
+    pool.join(&mut one, other);
+    one
+}
+
+#[test]
+fn four_threads_leave_all_chunks_in_the_pool(rt: HostRuntime) -> Result<(), Fail> {
+    let (pool, mut seat) = Pool::new(&rt, rt.alloc(), 3, 4)?;
+    let first = (pool.split(&mut seat), pool.split(&mut seat));
+    let second = (pool.split(&mut seat), seat);
+    let (rt, pool) = (&rt, &pool);
+    let (mut seat, other) = thread::join(
+        rt,
+        move || two_turns(rt, pool, first),
+        move || two_turns(rt, pool, second),
+    );
+    pool.join(&mut seat, other);
+    assert!(rt; seat.share() == 4 && seat.taken() == seat.given());
+    assert_eq!(rt; pool.free(rt, &mut seat), 3);
     Ok(())
 }

@@ -194,6 +194,7 @@ impl Row {
             ≡ P.taken pool.old
             + (if is_refused result then 0 else chunks_begun buffer.old.pending (record_size write.now)) }
         ensures pool { P.total pool.new ≡ P.total pool.old }
+        ensures purse { P.same pool.old pool.new }
         ensures open { HasOpen self.new slot buffer.new }
         ensures slots { self.new.slots ≡ slice_set self.old.slots slot (Some (opening_of buffer.new)) }
         ensures due { ClearsBit slot self.old.due self.new.due }

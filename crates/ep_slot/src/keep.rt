@@ -45,6 +45,7 @@ pub(crate) fn keep<P: Purse>(chain: &mut Chain, pool: &mut P, rec: &RecIn) -> bo
         ≡ P.taken pool.old
         + (if result then chunks_begun (pending_of chain.old) (size_of (record_of rec.now)) else 0) }
     ensures total { P.total pool.new ≡ P.total pool.old }
+    ensures purse { P.same pool.old pool.new }
 {
     if append_last(chain, rec) {
         return true;

@@ -97,6 +97,7 @@ impl Slot {
             ≡ P.taken pool.old
             + (if is_refused result then 0 else chunks_begun self.old.pending (record_size write.now)) }
         ensures pool { P.total pool.new ≡ P.total pool.old }
+        ensures purse { P.same pool.old pool.new }
     {
         let number = self.used + 1;
         let rec = RecIn {

@@ -117,6 +117,8 @@ impl Purse for Empty {
 
     ghost found_none = { λ _ _. Unit {0} };
 
+    ghost same = { λ _ _. Unit {0} };
+
     fn take(&mut self) -> Option<Chain> {
         None
     }
@@ -130,6 +132,8 @@ impl Purse for Empty {
     }
 
     ghost none_is_taken = { λ old new h. refl };
+
+    ghost is_same = { λ purse. tt };
 }
 
 #[test]
