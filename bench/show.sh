@@ -1,12 +1,14 @@
 #!/bin/sh
 # Prints how many instructions it takes to show a write to a session: for a plain write, and for one of 16 bytes of
-# payload and 2 frames; beside them what it takes to copy as many bytes as their records have. It makes a small program
-# over the crates in a folder of its own, which is proved and built there, and runs it under callgrind (valgrind, a
-# Debian package), since times vary by a third and instructions don't. It needs python3.
+# payload and 2 frames; beside them what it takes to copy as many bytes as their records have. Then how many it takes to
+# take a chunk from a pool and give it back, and in how much time: from a pool that threads share, with one thread, and
+# from one with one owner. It makes a small program over the crates in a folder of its own, which is proved and built
+# there, and runs it under callgrind (valgrind, a Debian package), since times vary by a third and instructions don't. It
+# needs python3.
 here=$(cd "$(dirname "$0")/.." && pwd) || exit 1
 work=$(mktemp -d) || exit 1
 trap 'rm -rf "$work"' EXIT
-mkdir -p "$work/crates/measure/src" "$work/crates/measure/proofs/shows" || exit 1
+mkdir -p "$work/crates/measure/src" "$work/crates/measure/proofs/shows" "$work/crates/measure/proofs/shared" || exit 1
 for crate in ep_chunk ep_defs ep_pool ep_model ep_slot; do
     cp -r "$here/crates/$crate" "$work/crates/" || exit 1
     grep "^$crate:" "$here/crates.txt" >>"$work/crates.txt" || exit 1
@@ -18,14 +20,16 @@ cat >"$work/crates/measure/src/main.rt" <<'PROGRAM'
 
 ghost use Rattle.std.specs.Prelude.{◌≡◌, ◌+◌, ◌<◌, ◌≤◌, IsTrue};
 ghost use Rattle.ep_defs.specs.Session as valid;
+ghost use Rattle.ep_pool.specs.Shared.{IsSeatOf};
 
 use anyhow::{Result, ensure};
 use ep_defs::{Bytes, Frames, Write};
-use ep_pool::OwnPool;
+use ep_pool::{OwnPool, Pool, PoolSeat, Purse};
 use ep_slot::{Slot, pair};
 use std::alloc::{AllocError, Global};
 use std::env;
 use std::hint::black_box;
+use std::sync::Wait;
 
 const CHUNKS: u32 = 64;
 
@@ -56,6 +60,24 @@ fn copies(into: &mut Vec<u8>, bytes: &[u8], turns: u32) {
     }
 }
 
+fn own(pool: &mut OwnPool, turns: u32) {
+    for _ in 0..turns {
+        if let Some(chain) = black_box(pool.take()) {
+            pool.give(chain);
+        }
+    }
+}
+
+fn shared<R: Wait>(rt: &R, pool: &Pool, seat: &mut PoolSeat, turns: u32)
+    requires { IsSeatOf pool.now seat.old × (seat.old.taken ≡ 0) × (seat.old.given ≡ 0) }
+{
+    for _ in 0..turns {
+        if let Some(chain) = pool.take(rt, seat) {
+            pool.give(rt, seat, chain);
+        }
+    }
+}
+
 fn main(rt: HostRuntime) -> Result<()> {
     let mut words = env::args(&rt)?;
     let _name = words.next();
@@ -65,8 +87,17 @@ fn main(rt: HostRuntime) -> Result<()> {
     let Ok(turns) = turns.as_str().parse::<u32>() else {
         return Ok(());
     };
-    ensure!(turns < 100_000, "too many turns");
     let alloc = rt.alloc();
+    if what.as_str() == "own" {
+        own(&mut OwnPool::new(alloc, CHUNKS)?, turns);
+        return Ok(());
+    }
+    if what.as_str() == "shared" {
+        let (pool, mut seat) = Pool::new(&rt, alloc, CHUNKS, 1)?;
+        shared(&rt, &pool, &mut seat, turns);
+        return Ok(());
+    }
+    ensure!(turns < 100_000, "too many turns");
     let (frames, payload) = if what.as_str() == "full" || what.as_str() == "copy_full" { (2, 16) } else { (0, 0) };
     let write = write_of(alloc, frames, payload)?;
     ensure!(write.fits(), "too large");
@@ -94,13 +125,21 @@ invariant-loop-turn l =
       total : l.pool.total ≡ l.slot.chunks
     }
 PROOF
+cat >"$work/crates/measure/proofs/shared/Invariants.antt" <<'PROOF'
+use Rattle.std.proofs.Common.{◌≡◌, ◌≤◌}
+use Rattle.ep_pool.specs.Shared.{IsSeatOf}
+use Rattle.measure.proofs.shared.Given as goal
+
+abbrev pub invariant-loop : goal.invariant-loop
+invariant-loop g l = IsSeatOf l.pool l.seat × (l.seat.taken ≡ l.seat.given) × (l.seat.taken ≤ l.counter)
+PROOF
 cd "$work/crates/measure" || exit 1
 if ! rt run -- plain 1 >"$work/log" 2>&1; then
     cat "$work/log"
     exit 1
 fi
 python3 - "$work/crates/measure/out/measure" "$work" <<'MEASURE'
-import re, subprocess, sys
+import re, subprocess, sys, time
 
 program, work = sys.argv[1], sys.argv[2]
 
@@ -120,4 +159,20 @@ print("a write shown to a session, in instructions")
 for title, what, known in (("a plain write, 68 bytes", "plain", "copy"), ("16 bytes of payload and 2 frames, 100 bytes", "full", "copy_full")):
     shown, copied = instructions_a_turn(what), instructions_a_turn(known)
     print(f"  {title:46} {shown:8.1f}   {shown / copied:5.2f} x a copy of the bytes alone, {copied:.1f}")
+
+
+def nanoseconds_a_turn(what):
+    """The best of five runs."""
+    def seconds(turns):
+        start = time.perf_counter()
+        subprocess.run([program, what, str(turns)], stdout=subprocess.DEVNULL, check=True)
+        return time.perf_counter() - start
+    return min(seconds(4_000_000) - seconds(1_000_000) for _ in range(5)) * 1e9 / 3_000_000
+
+
+print("a chunk taken and given back")
+own = instructions_a_turn("own"), nanoseconds_a_turn("own")
+shared = instructions_a_turn("shared"), nanoseconds_a_turn("shared")
+for title, (instructions, nanoseconds) in (("a pool with one owner", own), ("a pool that threads share, one thread", shared)):
+    print(f"  {title:46} {instructions:8.1f} instructions, {nanoseconds:6.1f} ns")
 MEASURE

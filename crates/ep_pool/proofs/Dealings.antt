@@ -1,6 +1,6 @@
 -- Each step of a shared pool keeps the rule.
-use Rattle.std.proofs.Common.{◌≡◌, ◌≢◌, ◌⊎◌, ℕ, zero, suc, ◌+◌, ◌-◌, ◌<◌, ◌≤◌, List, [], ◌∷◌, ◌++◌, length, set, refl, sym, ap, ◌∙◌, subst, ⊎_elim, inl, inr, Option, Some, None, length-append, arith}
-use Rattle.std.specs.Prelude.{All, IfNone, MatchOption}
+use Rattle.std.proofs.Common.{◌≡◌, ◌≢◌, ℕ, zero, suc, ◌+◌, ◌<◌, ◌≤◌, List, [], ◌∷◌, ◌++◌, length, set, refl, sym, ap, ◌∙◌, subst, ⊎_elim, inl, inr, Option, Some, None, length-append, arith}
+use Rattle.std.specs.Prelude.{IfNone, MatchOption}
 use Rattle.std.proofs.lemmas.List.Elements.{All-nil, All-cons, All-head, All-tail, All-append}
 use mathlib.Core.Option.{some, some-ne-none, some-injective}
 use lib.ListN.{get_elem?}
@@ -9,7 +9,6 @@ use Rattle.crossbeam_queue.proofs.Lists.{at_set, at_snoc}
 use Rattle.ep_chunk.specs.Record.{Record}
 use Rattle.ep_pool.specs.declared.steps.Known.{Known}
 use Rattle.ep_pool.specs.declared.steps.Known.TheVariants.{Unborn, Spent, Staked}
-use Rattle.ep_pool.specs.declared.steps.Stake.{Stake}
 use Rattle.ep_pool.specs.Free.{IsOneEmpty}
 use Rattle.ep_pool.specs.Shared.{PoolName}
 use Rattle.ep_pool.specs.Deals.{total_of, seats_of, share_of, taken_of, given_of, together, Fits, IsDealt, Deals, Moment, WereFree, IsStaked, seat_of, born, took, gave, parted, apart, joined, levelled}

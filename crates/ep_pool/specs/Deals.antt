@@ -5,7 +5,6 @@ use lib.ListN.{get_elem?}
 use Rattle.ep_chunk.specs.Record.{Record}
 use Rattle.ep_pool.specs.declared.steps.Known.{Known}
 use Rattle.ep_pool.specs.declared.steps.Known.TheVariants.{Unborn, Spent, Staked}
-use Rattle.ep_pool.specs.declared.steps.Stake.{Stake}
 use Rattle.ep_pool.specs.Free.{IsOneEmpty}
 use Rattle.ep_pool.specs.Shared.{PoolName, SeatState}
 

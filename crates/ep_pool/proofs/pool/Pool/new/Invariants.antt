@@ -1,4 +1,4 @@
-use Rattle.std.proofs.Common.{◌≡◌, ◌+◌}
+use Rattle.std.proofs.Common.{◌≡◌}
 use Rattle.ep_pool.proofs.pool.Pool.new.Given as goal
 
 abbrev pub ghosts-first : goal.ghosts-first
