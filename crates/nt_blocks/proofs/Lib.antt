@@ -1,5 +1,6 @@
 pub mod PutBlobs
 pub mod PutPieces
+pub mod ReadBack
 pub mod Seeing
 pub mod Shorter
 pub mod Sizes

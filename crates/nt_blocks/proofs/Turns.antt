@@ -19,7 +19,8 @@ with_things-snoc {S} {A} {E} things thing (Ok many) =
     ap build (sym (append_assoc things (thing ∷ []) many.things))
 with_things-snoc things thing (Err fault) = refl
 
-each_at-step : {S A E : Type 0} (done : S → List ℕ → Bool) (step : S → List ℕ → Result (One S A) E) (more : ℕ) (state : S) (bytes : List ℕ) (one : One S A) → done state bytes ≡ false → step state bytes ≡ Ok one → each_at done step (suc more) state bytes ≡ with_thing one.thing (each_at done step more one.state one.rest)
+-- A thing that is read stands before those behind it.
+pub each_at-step : {S A E : Type 0} (done : S → List ℕ → Bool) (step : S → List ℕ → Result (One S A) E) (more : ℕ) (state : S) (bytes : List ℕ) (one : One S A) → done state bytes ≡ false → step state bytes ≡ Ok one → each_at done step (suc more) state bytes ≡ with_thing one.thing (each_at done step more one.state one.rest)
 unfolding each_at
 each_at-step done step more state bytes one goes read = rw (goes, each_at, read)
 
@@ -27,7 +28,8 @@ each_at-stop : {S A E : Type 0} (done : S → List ℕ → Bool) (step : S → L
 unfolding each_at
 each_at-stop done step more state bytes fault goes read = rw (goes, each_at, read)
 
-each_at-end : {S A E : Type 0} (done : S → List ℕ → Bool) (step : S → List ℕ → Result (One S A) E) (more : ℕ) (state : S) (bytes : List ℕ) → done state bytes ≡ true → each_at done step (suc more) state bytes ≡ Ok (record { things = []; state = state; rest = bytes })
+-- Where reading ends nothing is read.
+pub each_at-end : {S A E : Type 0} (done : S → List ℕ → Bool) (step : S → List ℕ → Result (One S A) E) (more : ℕ) (state : S) (bytes : List ℕ) → done state bytes ≡ true → each_at done step (suc more) state bytes ≡ Ok (record { things = []; state = state; rest = bytes })
 unfolding each_at
 each_at-end done step more state bytes ends = rw (ends, each_at)
 

@@ -64,6 +64,7 @@ pub record IsBlobBody (Holds : Blob → ItemKind → Type 0) (at : ℕ) (items :
       ≡ concat
       (fixed w16 (20 + length more) ∷ fixed w16 flags ∷ fixed w64 least ∷ fixed w64 greatest ∷ more ∷ flat_map blob_bytes blobs ∷ [])
   pub size_fits : 20 + length more < 2 ^ 16
+  pub flags_fit : flags < 2 ^ 16
   pub compressed : flags % 2 ≡ 1
   pub chained : AreChained zero_state blobs
   pub hold : AreItems Holds (at + (20 + length more)) blobs items

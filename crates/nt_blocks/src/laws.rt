@@ -1,10 +1,29 @@
 //! Laws: what holds of the definitions alone.
-ghost use Rattle.std.specs.Prelude.{◌≡◌, ℕ, List};
+ghost use Rattle.std.specs.Prelude.{◌≡◌, ℕ, List, Ok};
 ghost use Rattle.ep_defs.specs.declared.item.Item.{Item};
 ghost use Rattle.ep_defs.specs.Entry.{Entry};
 ghost use Rattle.ep_defs.specs.Gaps.{gaps, last_of};
+ghost use Rattle.nt_object.specs.declared.object.BlockKind.TheVariants as block;
+ghost use Rattle.nt_blocks.specs.Bodies.{IsBody};
 ghost use Rattle.nt_blocks.specs.Ordered.{Tell};
+ghost use Rattle.nt_blocks.specs.Refusals.{body_at};
 ghost use Rattle.nt_blocks.specs.Seen.{item_gaps, last_item_number};
+
+use nt_head::what_is_put_is_taken as heads_are_taken;
+use pt_num::what_is_put_is_taken as numbers_are_taken;
+
+/// What is read in a body is what it holds.
+pub fn what_a_body_holds_is_read()
+    ensures events { (at : ℕ) (items : List Item) (bytes : List ℕ) → IsBody block.Event at items bytes
+        → body_at block.Event at bytes ≡ Ok items }
+    ensures stacks { (at : ℕ) (items : List Item) (bytes : List ℕ) → IsBody block.Stack at items bytes
+        → body_at block.Stack at bytes ≡ Ok items }
+    ensures point { (at : ℕ) (items : List Item) (bytes : List ℕ) → IsBody block.Point at items bytes
+        → body_at block.Point at bytes ≡ Ok items }
+{
+    numbers_are_taken();
+    heads_are_taken();
+}
 
 /// In ordered items a thread's gaps and its last number are those of the entries that the items tell.
 pub fn items_have_the_gaps_of_their_entries()
