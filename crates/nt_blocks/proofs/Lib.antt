@@ -1,6 +1,7 @@
 pub mod PutBlobs
 pub mod PutPieces
 pub mod ReadBack
+pub mod ReadForms
 pub mod Seeing
 pub mod Shorter
 pub mod Sizes

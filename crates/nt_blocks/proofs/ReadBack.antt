@@ -42,19 +42,23 @@ pub record ReadsAll {S A : Type 0} (read : Result (Many S A) Refusal) (things : 
   pub state : S
   pub reads : read ≡ Ok (record { things = things; state = state; rest = [] })
 
-length-fixed16 : (n : ℕ) → length (fixed w16 n) ≡ 2
+-- Two bytes.
+pub length-fixed16 : (n : ℕ) → length (fixed w16 n) ≡ 2
 unfolding fixed
 length-fixed16 n = length-bytes_low_first 0 2 n
 
-length-fixed32 : (n : ℕ) → length (fixed w32 n) ≡ 4
+-- Four bytes.
+pub length-fixed32 : (n : ℕ) → length (fixed w32 n) ≡ 4
 unfolding fixed
 length-fixed32 n = length-bytes_low_first 0 4 n
 
-length-fixed64 : (n : ℕ) → length (fixed w64 n) ≡ 8
+-- Eight bytes.
+pub length-fixed64 : (n : ℕ) → length (fixed w64 n) ≡ 8
 unfolding fixed
 length-fixed64 n = length-bytes_low_first 0 8 n
 
-two-fixed : (a b : ℕ) (rest : List ℕ) → length (fixed w16 a ++ (fixed w16 b ++ rest)) ≡ 4 + length rest
+-- Two numbers of two bytes.
+pub two-fixed : (a b : ℕ) (rest : List ℕ) → length (fixed w16 a ++ (fixed w16 b ++ rest)) ≡ 4 + length rest
 two-fixed a b rest =
     omega (arith, length-append (fixed w16 a) (fixed w16 b ++ rest), length-append (fixed w16 b) rest, length-fixed16 a, length-fixed16 b)
 
@@ -196,7 +200,7 @@ header-back numbers at flags front more rest long size_fits flags_fit odd =
     (eq-eqb (flags % 2) 1 odd)
 
 -- Behind so many bytes.
-drop-behind : (n : ℕ) (front rest : List ℕ) → length front ≡ n → drop n (front ++ rest) ≡ rest
+pub drop-behind : (n : ℕ) (front rest : List ℕ) → length front ≡ n → drop n (front ++ rest) ≡ rest
 drop-behind n front rest e = rw (← e) (drop-front front rest)
 
 -- A header, and the blobs behind it.

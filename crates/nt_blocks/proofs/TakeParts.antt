@@ -11,7 +11,7 @@ use Rattle.nt_blocks.specs.Refusals.{BadBlock, Uncompressed, Refusal, StackPlace
 use Rattle.nt_blocks.specs.state.Taken.{CountsStacks, CountsThreads, ReadsStack, ReadsThread}
 
 -- A number that is there.
-number-there : (w : Width) (bytes : List ℕ) → byte_len w ≤ length bytes → fixed_at w bytes ≡ Ok (little_number (byte_len w) bytes, drop (byte_len w) bytes)
+pub number-there : (w : Width) (bytes : List ℕ) → byte_len w ≤ length bytes → fixed_at w bytes ≡ Ok (little_number (byte_len w) bytes, drop (byte_len w) bytes)
 number-there w bytes within = let long = le-ltb (length bytes) (byte_len w) within in rw long
 
 -- What is read as a number is there.

@@ -1,6 +1,7 @@
 -- Things one after another: how reading goes on behind those that were read.
 use Rattle.std.proofs.Common.{◌≡◌, ℕ, suc, Bool, true, false, Result, Ok, Err, List, [], ◌∷◌, ◌++◌, refl, sym, ap, ◌∙◌, append_assoc}
 use Rattle.std.proofs.lemmas.List.{append-nil}
+use Rattle.pt_num.specs.Steps.{◌>>=◌}
 use Rattle.nt_blocks.specs.Each.{One, Many, with_thing, each_at}
 
 -- These things before those that are read later.
@@ -27,6 +28,11 @@ each_at-step done step more state bytes one goes read = rw (goes, each_at, read)
 each_at-stop : {S A E : Type 0} (done : S → List ℕ → Bool) (step : S → List ℕ → Result (One S A) E) (more : ℕ) (state : S) (bytes : List ℕ) (fault : E) → done state bytes ≡ false → step state bytes ≡ Err fault → each_at done step (suc more) state bytes ≡ Err fault
 unfolding each_at
 each_at-stop done step more state bytes fault goes read = rw (goes, each_at, read)
+
+-- Where reading does not end a thing is read, and then those behind it.
+pub each_at-goes : {S A E : Type 0} (done : S → List ℕ → Bool) (step : S → List ℕ → Result (One S A) E) (more : ℕ) (state : S) (bytes : List ℕ) → done state bytes ≡ false → each_at done step (suc more) state bytes ≡ (step state bytes >>= λ one. with_thing one.thing (each_at done step more one.state one.rest))
+unfolding each_at
+each_at-goes done step more state bytes goes = rw (goes, each_at)
 
 -- Where reading ends nothing is read.
 pub each_at-end : {S A E : Type 0} (done : S → List ℕ → Bool) (step : S → List ℕ → Result (One S A) E) (more : ℕ) (state : S) (bytes : List ℕ) → done state bytes ≡ true → each_at done step (suc more) state bytes ≡ Ok (record { things = []; state = state; rest = bytes })

@@ -19,6 +19,8 @@ mod take;
 mod tests;
 
 pub use blob_block::BlobBlock;
-pub use laws::{items_have_the_gaps_of_their_entries, what_a_body_holds_is_read};
+pub use laws::{
+    items_have_the_gaps_of_their_entries, what_a_body_holds_is_read, what_is_read_is_held,
+};
 pub use put::{put_point, put_stacks};
 pub use take::{BodyFault, take_body};
