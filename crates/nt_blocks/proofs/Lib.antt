@@ -9,3 +9,4 @@ pub mod TakeBlobs
 pub mod TakeLists
 pub mod TakeParts
 pub mod Turns
+pub mod Whole

@@ -1,6 +1,6 @@
 -- What is read in a body is what it holds.
-use Rattle.std.proofs.Common.{◌≡◌, ◌==◌, ℕ, zero, suc, ◌+◌, ◌-◌, ◌%◌, ◌^◌, ◌<◌, ◌≤◌, Bool, true, false, inl, inr, Result, Ok, Err, List, [], ◌∷◌, ◌++◌, length, take, drop, get_or, refl, sym, ap, subst, ◌∙◌, append_assoc, eq-eqb, arith, length-append, length-drop}
-use Rattle.std.specs.Prelude.{◌&&◌, nat_lt, nat_le}
+use Rattle.std.proofs.Common.{◌≡◌, ◌==◌, ℕ, zero, suc, ◌+◌, ◌-◌, ◌%◌, ◌^◌, ◌<◌, ◌≤◌, Bool, true, false, inl, inr, Result, Ok, Err, List, [], ◌∷◌, ◌++◌, length, take, drop, get_or, refl, sym, ap, subst, ◌∙◌, append_assoc, arith, length-append, length-drop}
+use Rattle.std.specs.Prelude.{◌&&◌, nat_le}
 use Rattle.std.specs.Int.{Width, w16, w32, w64, byte_len}
 use Rattle.std.specs.List.{AllByRecursion, concat, flat_map}
 use Rattle.std.proofs.lemmas.Bool.{cases_Bool, cases_lt, lt-ltb, le-ltb, ltb-true, leb-true, eqb-true, eqb-false, and_parts}
@@ -12,10 +12,10 @@ use Rattle.ep_defs.specs.declared.item.ItemKind.{ItemKind}
 use Rattle.ep_defs.specs.declared.item.ItemKind.TheVariants as item
 use Rattle.byteorder.specs.Endian.{little_number}
 use Rattle.byteorder.specs.Numbers.{little_from-lt}
-use Rattle.pt_num.specs.Steps.{◌>>=◌, check, or_else_fault}
+use Rattle.pt_num.specs.Steps.{check, or_else_fault}
 use Rattle.pt_num.specs.Numbers.{fixed}
 use Rattle.pt_num.specs.Begins.{Begins}
-use Rattle.pt_num.specs.Fields.{Field, Short, bytes_at, fixed_at}
+use Rattle.pt_num.specs.Fields.{Short, bytes_at, fixed_at}
 use Rattle.pt_num.proofs.FixedForms.{fixed_16, fixed_32, fixed_64}
 use Rattle.nt_meta.specs.Meta.{IsMeta}
 use Rattle.nt_meta.specs.Reading.{meta_at}
@@ -27,9 +27,9 @@ use Rattle.nt_head.specs.declared.head.HeadState.{HeadState}
 use Rattle.nt_head.specs.Head.{IsHead, zero_state}
 use Rattle.nt_head.specs.Reading.{head_at}
 use Rattle.nt_blocks.specs.declared.limits.TheConstants.{HEADER_BYTES, LAST_COUNT}
-use Rattle.nt_blocks.specs.Bodies.{AreChained, AreItems, Blob, HoldsEvent, HoldsMeta, IsBlobBody, IsPointBody, IsStackBody, blob_bytes, point_body, stack_body, stack_bytes, stack_items, thread_bytes}
+use Rattle.nt_blocks.specs.Bodies.{AreChained, AreItems, Blob, HoldsEvent, HoldsMeta, IsBlobBody, IsPointBody, IsStackBody, blob_bytes, stack_bytes, stack_items, thread_bytes}
 use Rattle.nt_blocks.specs.Each.{One, Many, each_at, with_thing}
-use Rattle.nt_blocks.specs.Refusals.{BadMeta, BlobPlace, Refusal, StackPlace, at_end, blob_at, blob_body_at, header_at, held_at, may_head, point_body_at, refusal, stack_at, stack_body_at, stacks_at, thread_at, threads_at}
+use Rattle.nt_blocks.specs.Refusals.{BadMeta, BlobPlace, StackPlace, at_end, blob_at, blob_body_at, header_at, held_at, may_head, point_body_at, refusal, stack_at, stack_body_at, stacks_at, thread_at, threads_at}
 use Rattle.nt_blocks.proofs.ReadBack.{drop-behind, length-fixed16, length-fixed32, length-fixed64, two-fixed}
 use Rattle.nt_blocks.proofs.Seeing.{bind_inv, ok-same}
 use Rattle.nt_blocks.proofs.Shorter.{head-left}
@@ -238,7 +238,7 @@ stack_body-form at items bytes fit e =
     let counted = form32 first.0.1 count.0.1 count.0.0 low1 (or_else-inv (fixed_at w32 first.0.1) _ count.0 count.1) in
     let low2 = low-behind first.0.1 (fixed w32 count.0.0) count.0.1 counted.spelled low1 in
     let fits = bind_inv (check (nat_le first.0.0 LAST_COUNT && nat_le count.0.0 LAST_COUNT) _) _ items count.2 in
-    let both = and_parts _ _ (check-inv _ _ fits.0 fits.1) in
+    let both = and_parts (nat_le first.0.0 LAST_COUNT) (nat_le count.0.0 LAST_COUNT) (check-inv _ _ fits.0 fits.1) in
     let start : StackPlace = record { at = at + 8; id = first.0.0; left = count.0.0 } in
     let many = bind_inv (each_at no_stack (stack_at at) (suc (length count.0.1)) start count.0.1) _ items fits.2 in
     let ended = bind_inv (check (length many.0.rest == 0) _) _ items many.2 in
@@ -508,7 +508,7 @@ header-form at size body low e =
     let size16 = form16 body sized.0.1 sized.0.0 low (or_else-inv (fixed_at w16 body) _ sized.0 sized.1) in
     let low1 = low-behind body (fixed w16 sized.0.0) sized.0.1 size16.spelled low in
     let fits = bind_inv (check (nat_le HEADER_BYTES sized.0.0 && nat_le sized.0.0 (length body)) _) _ size sized.2 in
-    let both = and_parts _ _ (check-inv _ _ fits.0 fits.1) in
+    let both = and_parts (nat_le HEADER_BYTES sized.0.0) (nat_le sized.0.0 (length body)) (check-inv _ _ fits.0 fits.1) in
     let flagged = bind_inv (or_else_fault (fixed_at w16 sized.0.1) _) _ size fits.2 in
     let flags16 = form16 sized.0.1 flagged.0.1 flagged.0.0 low1 (or_else-inv (fixed_at w16 sized.0.1) _ flagged.0 flagged.1) in
     let low2 = low-behind sized.0.1 (fixed w16 flagged.0.0) flagged.0.1 flags16.spelled low1 in

@@ -1,13 +1,17 @@
 //! A body of blobs in the making.
 ghost use Rattle.std.specs.Prelude.{◌≡◌, ℕ, ◌+◌, ◌<◌, ◌≤◌, ◌++◌, ◌↔◌, List, [], ◌∷◌, length, IsTrue, IfOk, OnOk, OnErr};
 ghost use Rattle.nt_object.specs.declared.object.BlockKind.TheVariants as block;
+ghost use Rattle.ep_defs.specs.declared.item.Item.{Item};
+ghost use Rattle.nt_head.specs.Head.{IsHead};
 ghost use Rattle.nt_head.specs.Fewest.{head_bytes, KeepsSequence};
+ghost use Rattle.nt_blocks.specs.Bodies.{IsBody};
 ghost use Rattle.nt_blocks.specs.Drafts.{Draft, blob_body};
 ghost use Rattle.nt_blocks.specs.Making.{IsMaking, MayAdd, HoldsBlobs};
 ghost use Rattle.nt_head.specs.declared.limits.TheConstants.{HEAD_BYTES};
 ghost use Rattle.nt_blocks.specs.declared.limits.TheConstants.{HEADER_BYTES, WRITTEN_BYTES};
 
 use crate::limits::{HEADER_BYTES, WRITTEN_BYTES};
+use ep_defs::ranges::bytes_fit;
 use nt_head::{HeadState, put_head};
 use nt_object::BlockKind;
 use pt_num::{put_u16, put_u64};
@@ -88,6 +92,7 @@ impl BlobBlock {
     pub fn body(&self, alloc: Global) -> Result<Vec<u8>, AllocError>
         ensures ok { (drafts : List Draft) → IsMaking drafts self.now → IfOk result (λ body. body.items ≡ blob_body drafts) }
         ensures few { IfOk result (λ body. length body.items ≤ WRITTEN_BYTES) }
+        ensures form { (at : ℕ) → IfOk result (λ body. (items : List Item) × IsBody self.now.kind at items body.items) }
     {
         let mut body = Vec::with_capacity(alloc, HEADER_BYTES + self.bytes.len())?;
         put_u16(&mut body, HEADER_BYTES as u16)?;
@@ -95,6 +100,7 @@ impl BlobBlock {
         put_u64(&mut body, self.least)?;
         put_u64(&mut body, self.greatest)?;
         body.extend_from_slice(&self.bytes)?;
+        bytes_fit(&body);
         Ok(body)
     }
 
@@ -142,6 +148,7 @@ fn put_blob(
 ) -> Result<(), AllocError>
     requires { head.now.metadata ≡ 0 → KeepsSequence previous.now head.now }
     ensures ok { OnOk result (out.new.items ≡ out.old.items ++ head_bytes previous.now head.now ++ payload.now) }
+    ensures form { IsHead previous.now head.now (head_bytes previous.now head.now) }
     ensures few { OnOk result (length out.new.items ≤ length out.old.items + HEAD_BYTES + length payload.now) }
     ensures err { OnErr result (out.new.items ≡ out.old.items) }
 {

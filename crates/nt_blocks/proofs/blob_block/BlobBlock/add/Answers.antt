@@ -1,8 +1,10 @@
-use Rattle.std.proofs.Common.{◌≡◌, [], length, refl, ap, sym, subst, ◌∙◌}
+use Rattle.std.proofs.Common.{rules, ◌≡◌, [], length, refl, ap, sym, subst, ◌∙◌}
 use Rattle.std.proofs.lemmas.Bool.{false≢true}
 use Rattle.nt_blocks.specs.Value.{Making}
 use Rattle.nt_blocks.specs.Drafts.{Draft}
-use Rattle.nt_blocks.specs.Making.{IsMaking}
+use Rattle.nt_blocks.specs.Making.{IsMaking, MayAdd}
+use Rattle.nt_head.specs.Fewest.{head_bytes}
+use Rattle.nt_blocks.proofs.Whole.{whole_more}
 use Rattle.nt_blocks.proofs.PutBlobs.{none_exactly, first_stamps, later_stamps, made_more}
 use Rattle.nt_blocks.proofs.blob_block.BlobBlock.add.Goals as goal
 
@@ -27,3 +29,19 @@ returns-else-is_first-clause-ok c = λ drafts making.
     let found = later_stamps drafts draft some in
     made_more drafts draft old new was c.in_ok-put_blob.ensures.ok refl
     (c.min-self-inside.ensures ∙ (rw was.least_stamp found.0)) (c.max-self-inside.ensures ∙ (rw was.greatest_stamp found.1))
+
+pub invariant_of-self-then-is_first : goal.invariant_of-self-then-is_first
+invariant_of-self-then-is_first c = record {
+  few = search rules;
+  quiet = search rules;
+  of_blobs = c.self.invariant.of_blobs;
+  whole = whole_more c.self.inside.kind c.self.inside.bytes.items c.put_blob.new.out.items (head_bytes c.self.inside.last c.args.head.now) c.args.payload.now c.self.inside.last c.args.head.now c.self.invariant.whole c.in_ok-put_blob.ensures.form c.requires.size (subst (λ (m : Making). MayAdd m.kind c.args.head.now c.args.payload.now) (sym c.self.view_is) c.requires.holds) c.in_ok-put_blob.ensures.ok;
+}
+
+pub invariant_of-self-else-is_first : goal.invariant_of-self-else-is_first
+invariant_of-self-else-is_first c = record {
+  few = search rules;
+  quiet = search rules;
+  of_blobs = c.self.invariant.of_blobs;
+  whole = whole_more c.self.inside.kind c.self.inside.bytes.items c.put_blob.new.out.items (head_bytes c.self.inside.last c.args.head.now) c.args.payload.now c.self.inside.last c.args.head.now c.self.invariant.whole c.in_ok-put_blob.ensures.form c.requires.size (subst (λ (m : Making). MayAdd m.kind c.args.head.now c.args.payload.now) (sym c.self.view_is) c.requires.holds) c.in_ok-put_blob.ensures.ok;
+}
