@@ -5,19 +5,22 @@ use Rattle.std.specs.Int.{w16, w32, w64}
 use Rattle.std.specs.List.{AllByRecursion, flat_map}
 use Rattle.std.proofs.lemmas.Bool.{lt-ltb, le-ltb, le-leb, ne_eqb, and_from}
 use Rattle.std.proofs.lemmas.List.{append-nil, take-append-le, take_all}
+use Rattle.ep_defs.specs.declared.event.EventDef.{EventDef}
 use Rattle.ep_defs.specs.declared.item.Item.{Item}
 use Rattle.ep_defs.specs.declared.item.ItemKind.{ItemKind}
 use Rattle.ep_defs.specs.declared.item.ItemKind.TheVariants as item
 use Rattle.byteorder.specs.Numbers.{length-bytes_low_first}
 use Rattle.pt_num.specs.Numbers.{fixed}
 use Rattle.pt_num.specs.Fields.{bytes_at, fixed_at}
+use Rattle.nt_meta.specs.Meta.{IsMeta}
+use Rattle.nt_meta.specs.Reading.{meta_at}
 use Rattle.nt_object.specs.declared.object.BlockKind.{BlockKind}
 use Rattle.nt_object.specs.declared.object.BlockKind.TheVariants as block
 use Rattle.nt_head.specs.declared.head.HeadState.{HeadState}
 use Rattle.nt_head.specs.Head.{IsHead, zero_state}
 use Rattle.nt_head.specs.Reading.{head_at}
 use Rattle.nt_blocks.specs.declared.limits.TheConstants.{LAST_COUNT}
-use Rattle.nt_blocks.specs.Bodies.{AreChained, AreItems, Blob, HoldsEvent, IsBlobBody, IsPointBody, IsStackBody, blob_bytes, stack_bytes, stack_items, thread_bytes}
+use Rattle.nt_blocks.specs.Bodies.{AreChained, AreItems, Blob, HoldsEvent, HoldsMeta, IsBlobBody, IsPointBody, IsStackBody, blob_bytes, stack_bytes, stack_items, thread_bytes}
 use Rattle.nt_blocks.specs.Each.{One, Many, each_at}
 use Rattle.nt_blocks.specs.Refusals.{BlobPlace, Refusal, StackPlace, at_end, blob_at, blob_body_at, header_at, held_at, may_head, point_body_at, stack_at, stack_body_at, stacks_at, thread_at, threads_at}
 use Rattle.nt_blocks.proofs.Shorter.{head-left}
@@ -36,6 +39,10 @@ pub record NumbersBack : Type 0 where
 -- So are headers.
 pub record HeadsBack : Type 0 where
   pub head : (before now : HeadState) (bytes rest : List ℕ) → IsHead before now bytes → head_at before (bytes ++ rest) ≡ Ok (now, rest)
+
+-- And definitions.
+pub record MetasBack : Type 0 where
+  pub meta : (bytes : List ℕ) (id : ℕ) (def : EventDef) → IsMeta id def bytes → meta_at bytes ≡ Ok (id, def)
 
 -- All bytes are read, as these things.
 pub record ReadsAll {S A : Type 0} (read : Result (Many S A) Refusal) (things : List A) : Type 0 where
@@ -229,3 +236,8 @@ blob_body-back numbers heads Holds kind gives at items bytes body =
 pub event_body-back : NumbersBack → HeadsBack → (at : ℕ) (items : List Item) (bytes : List ℕ) → IsBlobBody HoldsEvent at items bytes → blob_body_at block.Event at bytes ≡ Ok items
 event_body-back numbers heads at items bytes body =
     blob_body-back numbers heads HoldsEvent block.Event (λ blob held holds. (lt-ltb 0 blob.state.metadata holds.0, λ place. rw holds.1)) at items bytes body
+
+-- A body of definitions.
+pub meta_body-back : NumbersBack → HeadsBack → MetasBack → (at : ℕ) (items : List Item) (bytes : List ℕ) → IsBlobBody HoldsMeta at items bytes → blob_body_at block.Metadata at bytes ≡ Ok items
+meta_body-back numbers heads metas at items bytes body =
+    blob_body-back numbers heads HoldsMeta block.Metadata (λ blob held holds. (refl, λ place. rw (metas.meta blob.payload holds.0 holds.1 holds.2, holds.3))) at items bytes body

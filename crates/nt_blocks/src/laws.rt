@@ -5,7 +5,6 @@ ghost use Rattle.ep_defs.specs.Entry.{Entry};
 ghost use Rattle.ep_defs.specs.Ranges.{AreBytes};
 ghost use Rattle.ep_defs.specs.Gaps.{gaps, last_of};
 ghost use Rattle.nt_object.specs.declared.object.BlockKind.{BlockKind};
-ghost use Rattle.nt_object.specs.declared.object.BlockKind.TheVariants as block;
 ghost use Rattle.nt_blocks.specs.Bodies.{IsBody};
 ghost use Rattle.nt_blocks.specs.Ordered.{Tell};
 ghost use Rattle.nt_blocks.specs.Refusals.{body_at};
@@ -14,20 +13,17 @@ ghost use Rattle.nt_blocks.specs.Seen.{item_gaps, last_item_number};
 use nt_head::{
     what_is_put_is_taken as heads_are_taken, what_is_taken_is_a_form as heads_have_forms,
 };
-use nt_meta::what_is_read_is_a_payload;
+use nt_meta::{a_payload_is_read_back, what_is_read_is_a_payload};
 use pt_num::what_is_put_is_taken as numbers_are_taken;
 
 /// What is read in a body is what it holds.
 pub fn what_a_body_holds_is_read()
-    ensures events { (at : ℕ) (items : List Item) (bytes : List ℕ) → IsBody block.Event at items bytes
-        → body_at block.Event at bytes ≡ Ok items }
-    ensures stacks { (at : ℕ) (items : List Item) (bytes : List ℕ) → IsBody block.Stack at items bytes
-        → body_at block.Stack at bytes ≡ Ok items }
-    ensures point { (at : ℕ) (items : List Item) (bytes : List ℕ) → IsBody block.Point at items bytes
-        → body_at block.Point at bytes ≡ Ok items }
+    ensures { (kind : BlockKind) (at : ℕ) (items : List Item) (bytes : List ℕ) → IsBody kind at items bytes
+        → body_at kind at bytes ≡ Ok items }
 {
     numbers_are_taken();
     heads_are_taken();
+    a_payload_is_read_back();
 }
 
 /// A body holds what is read in it.
