@@ -84,6 +84,7 @@ blob_body-is Holds at drafts kinds can low hold = record {
   blobs = blobs_of zero_state drafts;
   spelled = ap (λ (bytes : List ℕ). concat (fixed w16 20 ∷ fixed w16 1 ∷ fixed w64 (least (stamps drafts)) ∷ fixed w64 (greatest (stamps drafts)) ∷ bytes ∷ [])) (drafts_bytes-is zero_state drafts);
   size_fits = omega arith;
+  flags_fit = omega arith;
   compressed = refl;
   chained = chain-is zero_state drafts can;
   hold = items-are Holds (at + 20) (blobs_of zero_state drafts) kinds hold;
