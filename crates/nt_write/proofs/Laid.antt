@@ -501,7 +501,7 @@ laid-empty =
     }
 
 -- Definitions are never forgotten.
-member-stays : {A : Type 0} (same : A → A → Bool) (xs : List A) (x : A) → length xs ≤ length (with_member same xs x)
+pub member-stays : {A : Type 0} (same : A → A → Bool) (xs : List A) (x : A) → length xs ≤ length (with_member same xs x)
 member-stays same xs x =
     elim (cases_Bool (eqb (id_in same x xs) 0)) [
       | inl e ↦ rw e (omega (arith, length-append xs (x ∷ [])))

@@ -8,6 +8,7 @@ pub mod Endings
 pub mod Entries
 pub mod Flushing
 pub mod IdTables
+pub mod InWords
 pub mod Items
 pub mod Laid
 pub mod Names

@@ -4,6 +4,7 @@ pub mod Layout
 pub mod Trace
 pub mod Value
 pub mod Vectors
+pub mod Words
 pub mod Writable
 pub mod Writer
 pub mod Writing

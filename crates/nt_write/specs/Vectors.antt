@@ -131,6 +131,10 @@ after_point_bytes =
 abbrev pub nth : ℕ → HeadState
 nth number = record zero_state { metadata = 1; number = number; capture = 1; thread = 1; stamp = number + 9 }
 
+-- An id of an activity: the bytes 1 to 16.
+abbrev pub some_id : List ℕ
+some_id = range_with_len 1 16
+
 -- Events of thread 1 with the numbers 1 to 963 and 965.
 abbrev pub many_drafts : List Draft
 many_drafts = map (λ n. record { state = nth n; payload = [] }) (range_with_len 1 963 ++ 965 ∷ [])

@@ -9,7 +9,7 @@ ghost use Rattle.nt_meta.specs.Meta.{meta_payload};
 ghost use Rattle.nt_head.specs.Fewest.{head_bytes};
 ghost use Rattle.nt_blocks.specs.Drafts.{blob_body};
 ghost use Rattle.nt_write.specs.Canonical.{encoded};
-ghost use Rattle.nt_write.specs.Vectors.{none_written, one_written, start_bytes, none_written_bytes, one_written_bytes, bodies_of, two_threads, two_threads_bytes, one_stack, one_stack_bytes, before_point_bytes, after_point_bytes, nth, many_drafts, first_of_thread_2, nested, nested_bytes};
+ghost use Rattle.nt_write.specs.Vectors.{none_written, one_written, start_bytes, none_written_bytes, one_written_bytes, bodies_of, two_threads, two_threads_bytes, one_stack, one_stack_bytes, before_point_bytes, after_point_bytes, nth, many_drafts, some_id, first_of_thread_2, nested, nested_bytes};
 
 /// The head of a stream and its Trace object.
 pub fn the_start_takes_102_bytes()
@@ -46,6 +46,12 @@ pub fn a_first_event_takes_seven_bytes()
 /// What the next event of a thread shares with the one before it is left out.
 pub fn a_second_event_takes_two_bytes()
     ensures bytes { head_bytes (nth 1) (nth 2) ≡ 0x00 ∷ 0x01 ∷ [] }
+{}
+
+/// An activity's id stands whole where it is new, and so does a related one.
+pub fn a_new_activity_takes_16_bytes()
+    ensures activity { head_bytes (nth 1) (record (nth 2) { activity = some_id }) ≡ 0x10 ∷ 0x01 ∷ some_id }
+    ensures related { head_bytes (nth 1) (record (nth 2) { activity = some_id; related = some_id }) ≡ 0x30 ∷ 0x01 ∷ (some_id ++ some_id) }
 {}
 
 /// A number that is missing before an event shows in its header.
