@@ -173,6 +173,13 @@ impl Journal {
         self.decisions.len()
     }
 
+    /// What was decided, by connection.
+    pub fn decisions(&self) -> &Log<Decision>
+        ensures { result.now ≡ self.now.decisions }
+    {
+        &self.decisions
+    }
+
     /// What was decided on this connection, if it was decided.
     pub fn decision(&self, conn: u32) -> Option<Decision>
         ensures { result ≡ item self.now.decisions conn }
