@@ -1,7 +1,7 @@
 -- What a blob, and blobs one after another, are read as.
 use Rattle.std.proofs.Common.{◌≡◌, ℕ, zero, suc, ◌+◌, ◌-◌, ◌<◌, ◌≤◌, true, false, Result, Ok, Err, List, [], ◌∷◌, ◌++◌, length, take, drop, refl, sym, ap, subst, ◌∙◌, append_assoc, eq-eqb, arith, length-drop}
 use Rattle.std.proofs.lemmas.Bool.{lt-ltb, le-ltb, ne_eqb}
-use Rattle.std.proofs.lemmas.List.{append-nil, drop-drop, take-append-le, take_all}
+use Rattle.std.proofs.lemmas.List.{append-nil, drop-drop}
 use Rattle.ep_defs.specs.declared.item.Item.{Item}
 use Rattle.ep_defs.specs.declared.item.ItemKind.{ItemKind}
 use Rattle.pt_num.specs.Steps.{◌>>=◌}
@@ -18,7 +18,6 @@ use Rattle.nt_blocks.specs.declared.take.BodyFault.TheVariants as fault
 use Rattle.nt_blocks.specs.Each.{One, each_at}
 use Rattle.nt_blocks.specs.Refusals.{BadHead, BlobPlace, Refusal, at_end, blob_at, blob_body_at, header_at, held_at, may_head, refusal}
 use Rattle.nt_blocks.specs.Taking.{Appends, IsFault}
-use Rattle.nt_blocks.specs.state.Kept.{Keeps}
 use Rattle.nt_blocks.specs.state.Taken.{ReadsBlob, ReadsHead}
 use Rattle.nt_blocks.proofs.Turns.{with_things, turn_first, turn_more, turn_stops, turn_ends}
 
@@ -96,6 +95,7 @@ pub record Going (kind : BlockKind) (at : ℕ) (body : List ℕ) (old : List Ite
   pub read : each_at at_end (blob_at kind) (suc (length body)) (record { at = at + size; before = zero_state }) (drop size body)
       ≡ with_things found (each_at at_end (blob_at kind) (suc more) (record { at = at + here; before = before }) rest)
 
+-- Before the first blob nothing is appended.
 pub going_start : (kind : BlockKind) (at size : ℕ) (body : List ℕ) (old : List Item) → header_at at body ≡ Ok size → size ≤ length body → Going kind at body old size zero_state (drop size body) old
 going_start kind at size body old headed within =
     record {
@@ -114,6 +114,7 @@ pub left-turns : (more few : ℕ) → few < more → (later : ℕ) × (more ≡ 
 left-turns zero few within = absurd (omega arith)
 left-turns (suc later) few within = (later, refl, omega arith)
 
+-- A blob more is appended, and reading goes on behind it.
 pub going_step : (kind : BlockKind) (at here : ℕ) (body : List ℕ) (old items new : List Item) (before : HeadState) (rest : List ℕ) (blob : Blob) → Going kind at body old here before rest items → 0 < length rest → ReadsBlob kind at here before rest blob → new ≡ items ++ record { at = at + here; kind = blob.kind } ∷ [] → Going kind at body old (here + blob.used) blob.head (drop blob.used rest) new
 going_step kind at here body old items new before rest blob going some reads e =
     let turns = left-turns going.more (length (drop blob.used rest)) (omega (arith, length-drop blob.used rest, reads.some, reads.within, going.enough)) in
@@ -134,15 +135,13 @@ going_step kind at here body old items new before rest blob going some reads e =
       read = rw turns.1 at next;
     }
 
--- The place is within the body.
-pub place_within : (here : ℕ) (bytes : List ℕ) → here + length (drop here bytes) ≡ length bytes → here ≤ length bytes
-place_within here bytes e = omega (arith, length-drop here bytes)
-
+-- Where no bytes are left all items are appended.
 pub going_end : (kind : BlockKind) (at here : ℕ) (body : List ℕ) (old items : List Item) (before : HeadState) (rest : List ℕ) → Going kind at body old here before rest items → length rest ≡ 0 → Appends (blob_body_at kind at body) old items
 going_end kind at here body old items before rest going none =
     let all = turn_ends at_end (blob_at kind) going.more (record { at = at + here; before = before }) rest _ going.found going.read (eq-eqb (length rest) 0 none) in
     record { found = going.found; reads = rw (going.headed, all); added = going.added }
 
+-- A fault of a blob is that of the body.
 pub going_stop : (kind : BlockKind) (at here : ℕ) (body : List ℕ) (old items : List Item) (before : HeadState) (rest : List ℕ) (why : BodyFault) → Going kind at body old here before rest items → 0 < length rest → IsFault (blob_at kind (record { at = at + here; before = before }) rest) at why → IsFault (blob_body_at kind at body) at why
 going_stop kind at here body old items before rest (fault.BadBlock place) going some e =
     rw (going.headed, turn_stops at_end (blob_at kind) going.more (record { at = at + here; before = before }) rest _ going.found _ going.read (ne_eqb (length rest) 0 (λ none. omega arith)) e)
@@ -153,8 +152,3 @@ going_stop kind at here body old items before rest (fault.BadMeta place) going s
 going_stop kind at here body old items before rest (fault.Uncompressed place) going some e =
     rw (going.headed, turn_stops at_end (blob_at kind) going.more (record { at = at + here; before = before }) rest _ going.found _ going.read (ne_eqb (length rest) 0 (λ none. omega arith)) e)
 going_stop kind at here body old items before rest fault.OutOfMemory going some e = tt
-
--- What was there stays.
-pub appended_keeps : (old found items : List Item) → items ≡ old ++ found → Keeps old items
-appended_keeps old found items e =
-    ap (take (length old)) e ∙ take-append-le (length old) old found (omega arith) ∙ take_all (length old) old (omega arith)

@@ -28,6 +28,7 @@ pub record GoingStacks (at first count : ℕ) (bytes : List ℕ) (old : List Ite
   pub read : each_at no_stack (stack_at at) (suc (length bytes)) (record { at = at + 8; id = first; left = count }) bytes
       ≡ with_things found (each_at no_stack (stack_at at) (suc more) (record { at = at + here; id = id; left = left }) rest)
 
+-- Before the first stack nothing is appended.
 pub stacks_start : (at first count : ℕ) (bytes : List ℕ) (old : List Item) → GoingStacks at first count bytes old first count 8 bytes old
 stacks_start at first count bytes old =
     record {
@@ -40,6 +41,7 @@ stacks_start at first count bytes old =
       read = turn_first _;
     }
 
+-- A stack more is appended, and reading goes on behind it.
 pub stacks_step : (at first count id left later here : ℕ) (bytes : List ℕ) (old items new : List Item) (rest stack : List ℕ) → GoingStacks at first count bytes old id left here rest items → left ≡ later + 1 → ReadsStack rest stack → new ≡ items ++ record { at = at + here; kind = item.Stack id stack } ∷ [] → GoingStacks at first count bytes old (id + 1) later (here + (4 + length stack)) (drop (4 + length stack) rest) new
 stacks_step at first count id left later here bytes old items new rest stack going one_less reads e =
     let turns = left-turns going.more (length (drop (4 + length stack) rest)) (omega (arith, length-drop (4 + length stack) rest, reads.within, going.enough)) in
@@ -61,18 +63,21 @@ stacks_step at first count id left later here bytes old items new rest stack goi
       read = rw fewer at (rw moved at (rw turns.1 at next));
     }
 
+-- Where no stack and no bytes are left all items are appended.
 pub stacks_end : (at first count id left here : ℕ) (bytes : List ℕ) (old items : List Item) (rest : List ℕ) → GoingStacks at first count bytes old id left here rest items → left ≡ 0 → length rest ≡ 0 → Appends (stacks_at at (at + 8) first count bytes) old items
 unfolding stacks_at
 stacks_end at first count id left here bytes old items rest going last none =
     let all = turn_ends no_stack (stack_at at) going.more (record { at = at + here; id = id; left = left }) rest _ going.found going.read (eq-eqb left 0 last) in
     record { found = going.found; reads = rw (all, eq-eqb (length rest) 0 none); added = going.added }
 
+-- Bytes that are left over are refused.
 pub stacks_over : (at first count id left here : ℕ) (bytes : List ℕ) (old items : List Item) (rest : List ℕ) → GoingStacks at first count bytes old id left here rest items → left ≡ 0 → 0 < length rest → stacks_at at (at + 8) first count bytes ≡ Err (refusal at BadBlock)
 unfolding stacks_at
 stacks_over at first count id left here bytes old items rest going last some =
     let all = turn_ends no_stack (stack_at at) going.more (record { at = at + here; id = id; left = left }) rest _ going.found going.read (eq-eqb left 0 last) in
     rw (all, ne_eqb (length rest) 0 (λ none. omega arith))
 
+-- A stack that is cut is refused.
 pub stacks_stop : (at first count id left here : ℕ) (bytes : List ℕ) (old items : List Item) (rest : List ℕ) → GoingStacks at first count bytes old id left here rest items → 0 < left → ((place : StackPlace) → stack_at at place rest ≡ Err (refusal at BadBlock)) → stacks_at at (at + 8) first count bytes ≡ Err (refusal at BadBlock)
 unfolding stacks_at
 stacks_stop at first count id left here bytes old items rest going some cut =
@@ -92,10 +97,7 @@ pub record GoingThreads (count : ℕ) (bytes : List ℕ) (left here : ℕ) (rest
   pub read : (at : ℕ) → each_at no_thread (thread_at at) (suc (length bytes)) count bytes
       ≡ with_things threads (each_at no_thread (thread_at at) (suc more) left rest)
 
-pub threads_start : (count : ℕ) (bytes : List ℕ) → GoingThreads count bytes count 0 bytes []
-threads_start count bytes =
-    record { more = length bytes; enough = omega arith; ends = omega arith; read = λ at. turn_first _ }
-
+-- A thread more is read, and reading goes on behind it.
 pub threads_step : (count left later here : ℕ) (bytes rest : List ℕ) (threads new : List (ℕ × ℕ)) (thread : ℕ × ℕ) → GoingThreads count bytes left here rest threads → left ≡ later + 1 → ReadsThread rest thread → new ≡ threads ++ thread ∷ [] → GoingThreads count bytes later (here + 12) (drop 12 rest) new
 threads_step count left later here bytes rest threads new thread going one_less reads e =
     let turns = left-turns going.more (length (drop 12 rest)) (omega (arith, length-drop 12 rest, reads.within, going.enough)) in
@@ -108,18 +110,21 @@ threads_step count left later here bytes rest threads new thread going one_less 
       read = λ at. rw e (rw fewer at (rw turns.1 at (turn_more no_thread (thread_at at) going.more left rest _ threads one (going.read at) (ne_eqb left 0 (λ none. omega arith)) (reads.read at left))));
     }
 
+-- Where no thread and no bytes are left all threads are read.
 pub threads_end : (count left here : ℕ) (bytes rest : List ℕ) (threads : List (ℕ × ℕ)) → GoingThreads count bytes left here rest threads → left ≡ 0 → length rest ≡ 0 → (at : ℕ) → threads_at at count bytes ≡ Ok threads
 unfolding threads_at
 threads_end count left here bytes rest threads going last none at =
     let all = turn_ends no_thread (thread_at at) going.more left rest _ threads (going.read at) (eq-eqb left 0 last) in
     rw (all, eq-eqb (length rest) 0 none)
 
+-- Bytes that are left over are refused.
 pub threads_over : (count left here : ℕ) (bytes rest : List ℕ) (threads : List (ℕ × ℕ)) → GoingThreads count bytes left here rest threads → left ≡ 0 → 0 < length rest → (at : ℕ) → threads_at at count bytes ≡ Err (refusal at BadBlock)
 unfolding threads_at
 threads_over count left here bytes rest threads going last some at =
     let all = turn_ends no_thread (thread_at at) going.more left rest _ threads (going.read at) (eq-eqb left 0 last) in
     rw (all, ne_eqb (length rest) 0 (λ none. omega arith))
 
+-- A thread that is cut is refused.
 pub threads_stop : (count left here : ℕ) (bytes rest : List ℕ) (threads : List (ℕ × ℕ)) → GoingThreads count bytes left here rest threads → 0 < left → ((start left : ℕ) → thread_at start left rest ≡ Err (refusal start BadBlock)) → (at : ℕ) → threads_at at count bytes ≡ Err (refusal at BadBlock)
 unfolding threads_at
 threads_stop count left here bytes rest threads going some cut at =

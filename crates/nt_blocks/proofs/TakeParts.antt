@@ -57,6 +57,7 @@ header_plain at body above below plain =
     let long : HEADER_BYTES ≤ length body = omega arith in
     rw (le-leb HEADER_BYTES (length body) long, number-there w16 body (omega arith), and_from _ _ (le-leb HEADER_BYTES (little_number 2 body) above) (le-leb (little_number 2 body) (length body) below), flags-there body long, plain)
 
+-- A header that is whole.
 pub header_found : (at : ℕ) (body : List ℕ) → HEADER_BYTES ≤ little_number 2 body → little_number 2 body ≤ length body → (little_number 2 (drop 2 body) % 2 == 1) ≡ true → header_at at body ≡ Ok (little_number 2 body)
 unfolding header_at
 header_found at body above below compressed =
@@ -65,18 +66,22 @@ header_found at body above below compressed =
 
 -- ---- stacks
 
+-- A first id that is cut.
 pub stacks_unnumbered : (at : ℕ) (body : List ℕ) → fixed_at w32 body ≡ Err Short → stack_body_at at body ≡ Err (refusal at BadBlock)
 unfolding stack_body_at
 stacks_unnumbered at body cut = rw cut
 
+-- A number of stacks that is cut.
 pub stacks_uncounted : (at first : ℕ) (body : List ℕ) → fixed_at w32 body ≡ Ok (first, drop 4 body) → fixed_at w32 (drop 4 body) ≡ Err Short → stack_body_at at body ≡ Err (refusal at BadBlock)
 unfolding stack_body_at
 stacks_uncounted at first body numbered cut = rw (numbered, cut)
 
+-- A first id or a number of stacks that is too great.
 pub stacks_unfit : (at first count : ℕ) (body : List ℕ) → fixed_at w32 body ≡ Ok (first, drop 4 body) → fixed_at w32 (drop 4 body) ≡ Ok (count, drop 4 (drop 4 body)) → (nat_le first LAST_COUNT && nat_le count LAST_COUNT) ≡ false → stack_body_at at body ≡ Err (refusal at BadBlock)
 unfolding stack_body_at
 stacks_unfit at first count body numbered counted unfit = rw (numbered, counted, unfit)
 
+-- A first id and a number of stacks that may stand there.
 pub stacks_counted : (first count : ℕ) (body : List ℕ) → fixed_at w32 body ≡ Ok (first, drop 4 body) → fixed_at w32 (drop 4 body) ≡ Ok (count, drop 4 (drop 4 body)) → first ≤ LAST_COUNT → count ≤ LAST_COUNT → 8 ≤ length body → CountsStacks body first count
 unfolding stack_body_at
 stacks_counted first count body numbered counted first_fits count_fits within =
@@ -87,10 +92,12 @@ stacks_counted first count body numbered counted first_fits count_fits within =
       read = λ at. rw (numbered, counted, and_from _ _ (le-leb first LAST_COUNT first_fits) (le-leb count LAST_COUNT count_fits), drop-drop 4 4 body);
     }
 
+-- A size that is cut.
 pub stack_unsized : (start : ℕ) (place : StackPlace) (bytes : List ℕ) → fixed_at w32 bytes ≡ Err Short → stack_at start place bytes ≡ Err (refusal start BadBlock)
 unfolding stack_at
 stack_unsized start place bytes cut = rw cut
 
+-- A stack that runs past the bytes.
 pub stack_cut : (start : ℕ) (place : StackPlace) (size : ℕ) (bytes : List ℕ) → fixed_at w32 bytes ≡ Ok (size, drop 4 bytes) → length (drop 4 bytes) < size → stack_at start place bytes ≡ Err (refusal start BadBlock)
 unfolding stack_at
 stack_cut start place size bytes sized past = let short = lt-ltb (length (drop 4 bytes)) size past in rw (sized, short)
@@ -110,18 +117,22 @@ stack_found size bytes sized some within =
 
 -- ---- points
 
+-- A stamp that is cut.
 pub point_unstamped : (at : ℕ) (body : List ℕ) → fixed_at w64 body ≡ Err Short → point_body_at at body ≡ Err (refusal at BadBlock)
 unfolding point_body_at
 point_unstamped at body cut = rw cut
 
+-- A number of threads that is cut.
 pub point_uncounted : (at stamp : ℕ) (body : List ℕ) → fixed_at w64 body ≡ Ok (stamp, drop 8 body) → fixed_at w32 (drop 8 body) ≡ Err Short → point_body_at at body ≡ Err (refusal at BadBlock)
 unfolding point_body_at
 point_uncounted at stamp body stamped cut = rw (stamped, cut)
 
+-- A number of threads that is too great.
 pub point_unfit : (at stamp count : ℕ) (body : List ℕ) → fixed_at w64 body ≡ Ok (stamp, drop 8 body) → fixed_at w32 (drop 8 body) ≡ Ok (count, drop 4 (drop 8 body)) → LAST_COUNT < count → point_body_at at body ≡ Err (refusal at BadBlock)
 unfolding point_body_at
 point_unfit at stamp count body stamped counted over = rw (stamped, counted, lt-leb count LAST_COUNT over)
 
+-- A stamp and a number of threads that may stand there.
 pub point_counted : (stamp count : ℕ) (body : List ℕ) → fixed_at w64 body ≡ Ok (stamp, drop 8 body) → fixed_at w32 (drop 8 body) ≡ Ok (count, drop 4 (drop 8 body)) → count ≤ LAST_COUNT → 12 ≤ length body → CountsThreads body stamp count
 unfolding point_body_at
 point_counted stamp count body stamped counted fits within =
@@ -130,14 +141,17 @@ point_counted stamp count body stamped counted fits within =
       read = λ at. rw (stamped, counted, le-leb count LAST_COUNT fits, drop-drop 4 8 body);
     }
 
+-- A thread that is cut.
 pub thread_unnamed : (start left : ℕ) (bytes : List ℕ) → fixed_at w64 bytes ≡ Err Short → thread_at start left bytes ≡ Err (refusal start BadBlock)
 unfolding thread_at
 thread_unnamed start left bytes cut = rw cut
 
+-- A number that is cut.
 pub thread_unnumbered : (start left thread : ℕ) (bytes : List ℕ) → fixed_at w64 bytes ≡ Ok (thread, drop 8 bytes) → fixed_at w32 (drop 8 bytes) ≡ Err Short → thread_at start left bytes ≡ Err (refusal start BadBlock)
 unfolding thread_at
 thread_unnumbered start left thread bytes named cut = rw (named, cut)
 
+-- A thread and its number.
 pub thread_found : (thread number : ℕ) (bytes : List ℕ) → fixed_at w64 bytes ≡ Ok (thread, drop 8 bytes) → fixed_at w32 (drop 8 bytes) ≡ Ok (number, drop 4 (drop 8 bytes)) → 12 ≤ length bytes → ReadsThread bytes (thread, number)
 unfolding thread_at
 thread_found thread number bytes named numbered within =

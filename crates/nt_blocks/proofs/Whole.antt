@@ -14,20 +14,8 @@ use Rattle.nt_object.specs.declared.object.BlockKind.TheVariants as block
 use Rattle.nt_head.specs.declared.head.HeadState.{HeadState}
 use Rattle.nt_head.specs.Head.{IsHead, zero_state}
 use Rattle.nt_blocks.specs.Bodies.{AreChained, AreItems, Blob, IsBlobBody, IsBody, blob_bytes}
-use Rattle.nt_blocks.specs.Making.{HoldsBlobs, MayAdd}
+use Rattle.nt_blocks.specs.Making.{MayAdd}
 use Rattle.nt_blocks.specs.Value.{AreBlobs, EachHolds, HoldsIn, last_head}
-
--- A block that holds blobs is one of events or of definitions.
-pub blobs_kind : (kind : BlockKind) → HoldsBlobs kind → (kind ≡ block.Event) ⊎ (kind ≡ block.Metadata)
-blobs_kind block.Event holds = inl refl
-blobs_kind block.Metadata holds = inr refl
-blobs_kind block.Stack holds = absurd holds
-blobs_kind block.Point holds = absurd holds
-
--- Without blobs it is whole.
-pub whole_none : (kind : BlockKind) (bytes : List ℕ) (last : HeadState) → bytes ≡ [] → last ≡ zero_state → AreBlobs kind bytes last
-whole_none kind bytes last none first =
-    record { blobs = []; spelled = none; chained = tt; latest = first; hold = tt }
 
 chained-more : (before : HeadState) (blobs : List Blob) (blob : Blob) → AreChained before blobs → IsHead (last_head before blobs) blob.state blob.head → length blob.payload ≡ blob.state.size → AreChained before (blobs ++ blob ∷ [])
 chained-more before [] blob chained is sized = (is, sized, tt)
