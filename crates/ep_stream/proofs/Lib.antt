@@ -1,0 +1,5 @@
+pub mod Ascending
+pub mod Hands
+pub mod Telling
+pub mod Reading
+pub mod Taking

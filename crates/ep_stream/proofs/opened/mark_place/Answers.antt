@@ -1,0 +1,16 @@
+use Rattle.std.proofs.Common.{arith, rules}
+use Rattle.std.proofs.Math.Dec.{leb}
+use Rattle.std.proofs.lemmas.Bool.{leb-true, leb-false}
+use Rattle.std.proofs.lemmas.List.Sorted.{IsPartitionPoint-from_clause, IsPartitionedBy-leb}
+use Rattle.ep_defs.specs.declared.session.Marks.{Marks}
+use Rattle.ep_stream.proofs.opened.mark_place.Goals as goal
+
+pub returns-clause-below : goal.returns-clause-below
+returns-clause-below c k d small =
+    let point = IsPartitionPoint-from_clause (λ (n : Marks). leb n.thread c.args.thread) _ _ c.partition_point.ensures.partitioned (IsPartitionedBy-leb (λ (n : Marks). n.thread) _ c.args.thread c.requires) (λ a r q k. search rules) in
+    leb-true _ _ (point.0 k d (omega arith) small)
+
+pub returns-clause-others : goal.returns-clause-others
+returns-clause-others c k d from small =
+    let point = IsPartitionPoint-from_clause (λ (n : Marks). leb n.thread c.args.thread) _ _ c.partition_point.ensures.partitioned (IsPartitionedBy-leb (λ (n : Marks). n.thread) _ c.args.thread c.requires) (λ a r q k. search rules) in
+    leb-false _ _ (point.1 k d from small)
