@@ -1,4 +1,5 @@
 pub mod Errors
+pub mod Finished
 pub mod Machines
 pub mod Outcomes
 pub mod Reading

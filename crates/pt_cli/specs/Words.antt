@@ -1,6 +1,7 @@
 -- The words of the command line.
-use Rattle.std.specs.Prelude.{◌≡◌, ℕ, ◌-◌, ◌^◌, ◌<◌, ◌⊎◌, List, [], ◌∷◌, ◌++◌, Some, codes}
+use Rattle.std.specs.Prelude.{◌≡◌, ℕ, ◌-◌, ◌^◌, ◌<◌, ◌⊎◌, List, [], ◌∷◌, ◌++◌, None, Some, codes}
 use Rattle.ep_plan.specs.Words.{number_in}
+use Rattle.pt_client.specs.Words.{command_in}
 
 -- The digits spell the number of a session: from 1 to 4,294,967,295.
 abbrev pub IsSession : List ℕ → ℕ → Type 0
@@ -12,3 +13,7 @@ IsReplay words session =
     ((words ≡ codes "replay" ∷ []) × (session ≡ 1))
     ⊎ ((digits : List ℕ) × (words ≡ codes "replay" ∷ codes "--session" ∷ digits ∷ []) × IsSession digits session)
     ⊎ ((digits : List ℕ) × (words ≡ codes "replay" ∷ (codes "--session=" ++ digits) ∷ []) × IsSession digits session)
+
+-- The words are no client's, as all that call nobody are.
+abbrev pub AsksNobody : List (List ℕ) → Type 0
+AsksNobody words = command_in words ≡ None

@@ -1,22 +1,27 @@
-//! The program `tracepipe` as one call: the words of its command line, its input and its output.
+//! The program `tracepipe` as one call: the words of its command line, its input, its output and the way to peers.
 //!
 //! `words` reads the command line; `text` splits the input into lines as it comes; `schedule` takes the lines one after
-//! another, over the machine that makes their steps; `errors` has the lines that say why an input is refused; `top` is
-//! the call; `laws` has the law that a text has one outcome at most; `limits` bounds what the program takes yet. Which texts are schedules is defined in
-//! `specs/Schedule`, and what the program answers in `specs/Replay`. It stands on ep_plan, for what a line means,
-//! ep_core, for the machine, ep_model, for the steps, nt_write, for the streams, pt_io, for input and output, and
-//! ep_defs, for the types.
+//! another, over the machine that makes their steps; `errors` has the lines that say why an input is refused; `replay`
+//! is the command that calls nobody, and `top` the call; `laws` has the law that a text has one outcome at most; `limits`
+//! bounds what the program takes yet; `ends` says how it ended. Which texts are schedules is defined in `specs/Schedule`, and what the program
+//! answers in `specs/Replay`. It stands on pt_client, for the client's commands, ep_plan, for what a line means, ep_core,
+//! for the machine, ep_model, for the steps, nt_write, for the streams, pt_io, for the outside, and ep_defs, for the
+//! types.
 //!
 //! Its one contract: the clauses of `tracepipe`.
 #![tactic(auto)]
 
+mod ends;
 mod errors;
 pub mod laws;
 mod limits;
+mod replay;
 mod schedule;
 mod text;
 mod top;
 mod words;
 
+pub use ends::{Finished, Plain};
 pub use errors::{Reason, Refusal};
-pub use top::{Finished, tracepipe};
+pub use replay::plain;
+pub use top::tracepipe;

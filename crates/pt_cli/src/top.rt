@@ -1,192 +1,155 @@
 //! The top call.
-ghost use Rattle.std.specs.Prelude.{◌≡◌, ◌≢◌, ◌⊎◌, ℕ, List, map, IsTrue, IfOk, OnOk, IsOkAnd};
+ghost use Rattle.std.specs.Prelude.{◌≡◌, ◌≢◌, ◌⊎◌, ◌+◌, ◌<◌, ◌++◌, ℕ, List, map, IsTrue, IfSome, IfNone};
 ghost use Rattle.std.specs.String.{string_bytes};
 ghost use Rattle.pt_io.specs.Faults.{HasRisen};
-ghost use Rattle.pt_io.specs.Taken.{TookAll, TookPartOf};
+ghost use Rattle.pt_io.specs.Taken.{TookAll, TookPartOf, IsPrefix};
+ghost use Rattle.pt_client.specs.declared.words.Command.{Command};
+ghost use Rattle.pt_client.specs.Words.{command_in};
+ghost use Rattle.pt_client.specs.Lines.{peer_error, reply_error};
+ghost use Rattle.pt_client.specs.Answers.{target_of, request_of, Answers};
 ghost use Rattle.pt_cli.specs.declared.errors.Refusal.{Refusal};
-ghost use Rattle.pt_cli.specs.declared.top.ReadFault.TheVariants.{OutOfMemory};
 ghost use Rattle.pt_cli.specs.Errors.{words_error};
 ghost use Rattle.pt_cli.specs.Schedule.{IsRefused};
-ghost use Rattle.pt_cli.specs.Reading.{IsJudged};
-ghost use Rattle.pt_cli.specs.Words.{IsReplay};
+ghost use Rattle.pt_cli.specs.Words.{IsReplay, AsksNobody};
 ghost use Rattle.pt_cli.specs.Replay.{IsReplayed, IsUnfinished, Finishes, IsError, ReadWhole, IsAnswer};
+ghost use Rattle.pt_cli.specs.Finished.{end_of};
 
-use crate::errors::{refusal_text, unfinished_text};
-use crate::laws::a_text_has_one_outcome;
-use crate::text::{Outcome, Reader};
-use crate::words::session_of;
-use pt_io::{Failed, Sink, Source};
+use crate::ends::{Finished, Plain};
+use crate::replay::plain;
+use pt_client::status::OUT_OF_MEMORY;
+use pt_client::{Called, client, command_of};
+use pt_io::{Caller, Sink, Source};
 use std::alloc::{AllocError, Global};
-
-/// How the program ended.
-#[derive(Clone, Copy, Debug)]
-pub struct Finished {
-    /// 0 done, 2 words refused, 3 input refused, 4 read fault, 5 write fault, 9 out of memory.
-    pub status: u8,
-    /// A peer's error code, 0 where there is none.
-    pub code: u32,
-    /// The offset of what was refused, 0 where there is none.
-    pub at: u64,
-}
 
 /// Does what the words of the command line ask for.
 ///
 /// With `replay`, `replay --session N` or `replay --session=N` it reads a schedule from `input` to its end and writes the
 /// stream of session N, by default 1, to `output` in one write. With status 2 or 3 the output took one error line. Nothing
 /// is written before the input was read.
-pub fn tracepipe<I: Source, O: Sink>(
+///
+/// With `collect TARGET MB RULE..`, `stop TARGET ID` or `ps TARGET` it calls the program whose socket is at the path TARGET
+/// and asks it for a session of MB megabytes, for the end of the session ID, or what it is. It writes the session's stream
+/// as it comes, or one line.
+pub fn tracepipe<I: Source, O: Sink, K: Caller>(
     alloc: Global,
     words: &[String],
     input: &mut I,
     output: &mut O,
-) -> Finished
-    ensures done { result.status ≡ 0 → (session : ℕ) × IsReplay (map string_bytes words.now) session × ((bytes : List ℕ) × (stream : List ℕ)
+    caller: &mut K,
+) -> Finished<K::Link>
+    ensures done { AsksNobody (map string_bytes words.now) → result.status ≡ 0 → (session : ℕ) × IsReplay (map string_bytes words.now) session
+        × ((bytes : List ℕ) × (stream : List ℕ)
         × ReadWhole I.tells_given I.given I.left I.may_give input.old input.new bytes
         × IsReplayed session bytes stream × TookAll O.tells_taken O.taken output.old output.new stream) }
 
-    // Words that are not `replay`.
-    ensures words { result.status ≡ 2 → ((session : ℕ) → IsReplay (map string_bytes words.now) session → ⊥)
+    // Words that are neither `replay` nor a client's.
+    ensures words { AsksNobody (map string_bytes words.now) → result.status ≡ 2
+        → ((session : ℕ) → IsReplay (map string_bytes words.now) session → ⊥)
         × TookAll O.tells_taken O.taken output.old output.new words_error × (input.new ≡ input.old) }
-    ensures words_refused { ((session : ℕ) → IsReplay (map string_bytes words.now) session → ⊥) → (result.status ≡ 2) ⊎ (result.status ≡ 5) }
+    ensures words_refused { AsksNobody (map string_bytes words.now)
+        → ((session : ℕ) → IsReplay (map string_bytes words.now) session → ⊥)
+        → (result.status ≡ 2) ⊎ (result.status ≡ 5) ⊎ (result.status ≡ 9) }
 
     // An input that is no schedule, or does not finish the session.
-    ensures refused { result.status ≡ 3 → (session : ℕ) × IsReplay (map string_bytes words.now) session × ((bytes : List ℕ) × (text : List ℕ)
+    ensures refused { AsksNobody (map string_bytes words.now) → result.status ≡ 3
+        → (session : ℕ) × IsReplay (map string_bytes words.now) session × ((bytes : List ℕ) × (text : List ℕ)
         × ReadWhole I.tells_given I.given I.left I.may_give input.old input.new bytes
         × IsError session bytes text × TookAll O.tells_taken O.taken output.old output.new text) }
 
     // An input that tells its bytes is judged by them, unless something fails.
-    ensures refused_exactly { (session : ℕ) (refusal : Refusal) → IsReplay (map string_bytes words.now) session → IsTrue (I.tells_given input.old)
+    ensures refused_exactly { (session : ℕ) (refusal : Refusal) → AsksNobody (map string_bytes words.now)
+        → IsReplay (map string_bytes words.now) session → IsTrue (I.tells_given input.old)
         → IsRefused (I.left input.old) refusal → (result.status ≡ 3) ⊎ (result.status ≡ 4) ⊎ (result.status ≡ 5) ⊎ (result.status ≡ 9) }
-    ensures unfinished { (session : ℕ) → IsReplay (map string_bytes words.now) session → IsTrue (I.tells_given input.old)
+    ensures unfinished { (session : ℕ) → AsksNobody (map string_bytes words.now)
+        → IsReplay (map string_bytes words.now) session → IsTrue (I.tells_given input.old)
         → IsUnfinished session (I.left input.old) → (result.status ≡ 3) ⊎ (result.status ≡ 4) ⊎ (result.status ≡ 5) ⊎ (result.status ≡ 9) }
-    ensures taken { (session : ℕ) → IsReplay (map string_bytes words.now) session → IsTrue (I.tells_given input.old)
+    ensures taken { (session : ℕ) → AsksNobody (map string_bytes words.now)
+        → IsReplay (map string_bytes words.now) session → IsTrue (I.tells_given input.old)
         → Finishes session (I.left input.old) → (result.status ≡ 0) ⊎ (result.status ≡ 4) ⊎ (result.status ≡ 5) ⊎ (result.status ≡ 9) }
 
-    // A fault comes only from the object that was handed in, in this call.
+    // A fault of the input or the output comes only from the object that was handed in, in this call.
     ensures read_fault { result.status ≡ 4 → ((session : ℕ) × IsReplay (map string_bytes words.now) session)
         × HasRisen (I.read_faults input.old) (I.read_faults input.new) × (output.new ≡ output.old) }
     ensures all_read { result.status ≢ 4 → I.read_faults input.new ≡ I.read_faults input.old }
     ensures write_fault { result.status ≡ 5 → HasRisen (O.write_faults output.old) (O.write_faults output.new) }
-    ensures written_part { result.status ≡ 5 → (bytes : List ℕ) × (text : List ℕ)
+    ensures written_part { AsksNobody (map string_bytes words.now) → result.status ≡ 5 → (bytes : List ℕ) × (text : List ℕ)
         × ((session : ℕ) → IsReplay (map string_bytes words.now) session → ReadWhole I.tells_given I.given I.left I.may_give input.old input.new bytes)
         × IsAnswer (map string_bytes words.now) bytes text
         × (IsTrue (O.tells_taken output.old) → TookPartOf text (O.taken output.old) (O.taken output.new)) }
     ensures all_written { result.status ≢ 5 → O.write_faults output.new ≡ O.write_faults output.old }
 
-    // Out of memory: nothing was written.
-    ensures memory { result.status ≡ 9 → output.new ≡ output.old }
-    ensures statuses { (result.status ≡ 0) ⊎ (result.status ≡ 2) ⊎ (result.status ≡ 3) ⊎ (result.status ≡ 4) ⊎ (result.status ≡ 5) ⊎ (result.status ≡ 9) }
-    ensures no_code { (result.code ≡ 0) × (result.at ≡ 0) }
+    // Out of memory: nothing was written, but by a client's command.
+    ensures memory { AsksNobody (map string_bytes words.now) → result.status ≡ 9 → output.new ≡ output.old }
+    ensures statuses { AsksNobody (map string_bytes words.now) → (result.status ≡ 0) ⊎ (result.status ≡ 2)
+        ⊎ (result.status ≡ 3) ⊎ (result.status ≡ 4) ⊎ (result.status ≡ 5) ⊎ (result.status ≡ 9) }
+    ensures nobody { AsksNobody (map string_bytes words.now) → (result.peer ≡ None) × (caller.new ≡ caller.old)
+        × (result.code ≡ 0) × (result.at ≡ 0) }
+
+    // A client's command answers what the peer says, where the link tells it, and leaves the input alone.
+    ensures answered { (command : Command) → command_in (map string_bytes words.now) ≡ Some command
+        → IfSome result.peer (λ link. IsTrue (K.Link.tells_given link)
+        → Answers O.tells_taken O.taken output.old output.new command (K.Link.given link ++ K.Link.left link) (end_of result)) }
+    ensures peer_line { result.status ≡ 7 → TookAll O.tells_taken O.taken output.old output.new (peer_error result.code) }
+    ensures reply_line { result.status ≡ 8 → TookAll O.tells_taken O.taken output.old output.new (reply_error result.at) }
+    ensures no_code { result.status ≢ 7 → result.code ≡ 0 }
+    ensures no_offset { result.status ≢ 8 → result.at ≡ 0 }
+    ensures client_statuses { (command : Command) → command_in (map string_bytes words.now) ≡ Some command
+        → (result.status ≡ 0) ⊎ (result.status ≡ 5) ⊎ (result.status ≡ 6) ⊎ (result.status ≡ 7) ⊎ (result.status ≡ 8) ⊎ (result.status ≡ 9) }
+    ensures apart { (command : Command) → command_in (map string_bytes words.now) ≡ Some command → input.new ≡ input.old }
+
+    // The peer is the one at the target, and took the request.
+    ensures target { (command : Command) → command_in (map string_bytes words.now) ≡ Some command
+        → IfSome result.peer (λ link. (fresh : K.Link) × K.leads_to (target_of command) fresh
+        × (K.Link.tells_given link ≡ K.Link.tells_given fresh)
+        × (IsTrue (K.Link.tells_given fresh) → K.Link.given link ++ K.Link.left link ≡ K.Link.left fresh)) }
+    ensures asked { (command : Command) → command_in (map string_bytes words.now) ≡ Some command
+        → result.status ≡ 0 → (link : K.Link) × (result.peer ≡ Some link)
+        × (IsTrue (K.Link.tells_taken link) → K.Link.taken link ≡ request_of command) }
+    ensures asked_part { (command : Command) → command_in (map string_bytes words.now) ≡ Some command
+        → IfSome result.peer (λ link. IsTrue (K.Link.tells_taken link) → IsPrefix (K.Link.taken link) (request_of command)) }
+    ensures called { IfSome result.peer (λ _. K.links caller.new ≡ K.links caller.old + 1) }
+    ensures uncalled { IfNone result.peer (K.links caller.new ≡ K.links caller.old) }
+    ensures uncalled_client { (command : Command) → command_in (map string_bytes words.now) ≡ Some command
+        → IfNone result.peer (((result.status ≡ 6) ⊎ (result.status ≡ 9)) × (output.new ≡ output.old)) }
+
+    // A fault of the caller or of its link comes only from it.
+    ensures link_fault { result.status ≡ 6 → HasRisen (K.call_faults caller.old) (K.call_faults caller.new)
+        ⊎ ((link : K.Link) × (result.peer ≡ Some link) × ((0 < K.Link.read_faults link) ⊎ (0 < K.Link.write_faults link))) }
+    ensures sound { result.status ≢ 6 → (K.call_faults caller.new ≡ K.call_faults caller.old)
+        × IfSome result.peer (λ link. (K.Link.read_faults link ≡ 0) × (K.Link.write_faults link ≡ 0)) }
 {
-    a_text_has_one_outcome();
-    let Some(session) = session_of(words) else {
-        return say(output, b"error: words\n", 2);
-    };
-    match read_all(alloc, input) {
-        Ok(reader) => answer(alloc, &reader, session, output),
-        Err(ReadFault::Failed) => ended_with(4),
-        Err(ReadFault::OutOfMemory) => ended_with(9),
+    match command_of(alloc, words) {
+        Ok(Some(command)) => with_peer(client(alloc, &command, output, caller)),
+        Ok(None) => without_peer(plain(alloc, words, input, output)),
+        Err(AllocError) => without_peer(Plain {
+            status: OUT_OF_MEMORY,
+            at: 0,
+        }),
     }
 }
 
-// An end without a code and an offset.
-fn ended_with(status: u8) -> Finished
-    ensures { result ≡ record { status = status; code = 0; at = 0 } }
+// The end of a client's command.
+fn with_peer<L>(called: Called<L>) -> Finished<L>
+    ensures end { end_of result ≡ called.end }
+    ensures peer { result.peer ≡ called.peer }
 {
     Finished {
-        status,
+        status: called.end.status,
+        code: called.end.code,
+        at: called.end.at,
+        peer: called.peer,
+    }
+}
+
+// The end of a command that calls nobody.
+fn without_peer<L>(plain: Plain) -> Finished<L>
+    ensures { result ≡ record { status = plain.status; code = 0; at = plain.at; peer = None } }
+{
+    Finished {
+        status: plain.status,
         code: 0,
-        at: 0,
-    }
-}
-
-// Writes a text and ends with this status, or with 5 where that fails.
-fn say<O: Sink>(output: &mut O, text: &[u8], status: u8) -> Finished
-    requires { status ≢ 5 }
-    ensures end { (result ≡ record { status = status; code = 0; at = 0 }) ⊎ (result ≡ record { status = 5; code = 0; at = 0 }) }
-    ensures took { result.status ≢ 5 → TookAll O.tells_taken O.taken output.old output.new text.now }
-    ensures same { result.status ≢ 5 → O.write_faults output.new ≡ O.write_faults output.old }
-    ensures part { result.status ≡ 5 → IsTrue (O.tells_taken output.old) → TookPartOf text.now (O.taken output.old) (O.taken output.new) }
-    ensures fault { result.status ≡ 5 → HasRisen (O.write_faults output.old) (O.write_faults output.new) }
-{
-    match output.write(text) {
-        Ok(()) => ended_with(status),
-        Err(Failed) => ended_with(5),
-    }
-}
-
-// Writes what the bytes that were read come to for a session.
-fn answer<O: Sink>(alloc: Global, reader: &Reader, session: u32, output: &mut O) -> Finished
-    ensures done { (bytes : List ℕ) → IsJudged bytes reader.now → result.status ≡ 0 → (stream : List ℕ) × IsReplayed session bytes stream
-        × TookAll O.tells_taken O.taken output.old output.new stream }
-    ensures refused { (bytes : List ℕ) → IsJudged bytes reader.now → result.status ≡ 3 → (text : List ℕ) × IsError session bytes text
-        × TookAll O.tells_taken O.taken output.old output.new text }
-    ensures part { (bytes : List ℕ) → IsJudged bytes reader.now → result.status ≡ 5 → (text : List ℕ)
-        × (IsError session bytes text ⊎ IsReplayed session bytes text)
-        × (IsTrue (O.tells_taken output.old) → TookPartOf text (O.taken output.old) (O.taken output.new)) }
-    ensures write_fault { result.status ≡ 5 → HasRisen (O.write_faults output.old) (O.write_faults output.new) }
-    ensures all_written { result.status ≢ 5 → O.write_faults output.new ≡ O.write_faults output.old }
-    ensures memory { result.status ≡ 9 → output.new ≡ output.old }
-    ensures statuses { (result.status ≡ 0) ⊎ (result.status ≡ 3) ⊎ (result.status ≡ 5) ⊎ (result.status ≡ 9) }
-    ensures no_code { (result.code ≡ 0) × (result.at ≡ 0) }
-{
-    match reader.outcome(session) {
-        Outcome::Stream(stream) => say(output, stream, 0),
-        Outcome::Refused(refusal) => say_error(output, refusal_text(alloc, &refusal)),
-        Outcome::Unfinished => say_error(output, unfinished_text(alloc, session)),
-    }
-}
-
-// Writes an error line, where there was memory for it.
-fn say_error<O: Sink>(output: &mut O, text: Result<String, AllocError>) -> Finished
-    ensures took { result.status ≡ 3 → IsOkAnd text (λ text. TookAll O.tells_taken O.taken output.old output.new (string_bytes text)) }
-    ensures part { result.status ≡ 5 → IsOkAnd text (λ text. IsTrue (O.tells_taken output.old)
-        → TookPartOf (string_bytes text) (O.taken output.old) (O.taken output.new)) }
-    ensures write_fault { result.status ≡ 5 → HasRisen (O.write_faults output.old) (O.write_faults output.new) }
-    ensures all_written { result.status ≢ 5 → O.write_faults output.new ≡ O.write_faults output.old }
-    ensures memory { result.status ≡ 9 → output.new ≡ output.old }
-    ensures statuses { (result.status ≡ 3) ⊎ (result.status ≡ 5) ⊎ (result.status ≡ 9) }
-    ensures no_code { (result.code ≡ 0) × (result.at ≡ 0) }
-{
-    match text {
-        Ok(text) => say(output, text.as_bytes(), 3),
-        Err(AllocError) => ended_with(9),
-    }
-}
-
-enum ReadFault {
-    Failed,
-    OutOfMemory,
-}
-
-impl From<AllocError> for ReadFault {
-    ghost from_gives = { λ _ fault. fault ≡ OutOfMemory };
-
-    fn from(_error: AllocError) -> ReadFault {
-        ReadFault::OutOfMemory
-    }
-}
-
-// Reads and judges all the bytes of the input, up to its end.
-fn read_all<I: Source>(alloc: Global, input: &mut I) -> Result<Reader, ReadFault>
-    ensures all { IfOk result (λ reader. (bytes : List ℕ) × IsJudged bytes reader
-        × ReadWhole I.tells_given I.given I.left I.may_give input.old input.new bytes) }
-    ensures read { OnOk result (I.read_faults input.new ≡ I.read_faults input.old) }
-    ensures fault { result ≡ Err ReadFault.Failed → HasRisen (I.read_faults input.old) (I.read_faults input.new) }
-    ensures memory { result ≡ Err ReadFault.OutOfMemory → I.read_faults input.new ≡ I.read_faults input.old }
-{
-    let mut reader = Reader::new(alloc);
-    let mut buffer = [0; 4096];
-    loop {
-        let count = match input.read(&mut buffer) {
-            Ok(count) => count,
-            Err(Failed) => return Err(ReadFault::Failed),
-        };
-        if count == 0 {
-            reader.finish(alloc)?;
-            return Ok(reader);
-        }
-        reader.take(alloc, &buffer[..count])?;
+        at: plain.at,
+        peer: None,
     }
 }
 

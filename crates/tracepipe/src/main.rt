@@ -13,6 +13,7 @@ mod standard;
 
 use arguments::words;
 use pt_cli::tracepipe;
+use socket::SocketCaller;
 use standard::{StandardInput, StandardOutput};
 use std::io;
 use std::process::ExitCode;
@@ -23,8 +24,9 @@ const OUT_OF_MEMORY: u8 = 9;
 fn main(rt: HostRuntime) -> ExitCode {
     let mut input = StandardInput::new(rt.reader());
     let mut output = StandardOutput::new(io::writer(&rt));
+    let mut caller = SocketCaller::new(rt);
     let status = match words(&rt) {
-        Ok(words) => tracepipe(rt.alloc(), &words, &mut input, &mut output).status,
+        Ok(words) => { tracepipe(rt.alloc(), &words, &mut input, &mut output, &mut caller).status }
         Err(_) => OUT_OF_MEMORY,
     };
     ExitCode::from(status)

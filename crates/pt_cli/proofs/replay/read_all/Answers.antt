@@ -1,7 +1,7 @@
 -- The bytes of a piece are read and no longer left.
 use Rattle.std.proofs.Common.{◌≡◌, [], ◌++◌, IsTrue, take, sym, ap, ◌∙◌, subst, append_assoc, length-append, arith, rules}
 use Rattle.std.proofs.lemmas.List.{append-nil, length-take-le}
-use Rattle.pt_cli.proofs.top.read_all.Goals as goal
+use Rattle.pt_cli.proofs.replay.read_all.Goals as goal
 
 pub returns-then-count-eq0-clause-all : goal.returns-then-count-eq0-clause-all
 returns-then-count-eq0-clause-all g c =

@@ -1,7 +1,7 @@
 -- What was read so far and what is left are the whole input, no read failed, and the reader has read it.
 use Rattle.std.proofs.Common.{◌≡◌, ℕ, ◌+◌, ◌<◌, ◌^◌, ◌++◌, List, IsTrue, length}
 use Rattle.pt_cli.specs.Reading.{HasRead, used}
-use Rattle.pt_cli.proofs.top.read_all.Given as goal
+use Rattle.pt_cli.proofs.replay.read_all.Given as goal
 
 abbrev pub invariant-loop-count : goal.invariant-loop-count
 invariant-loop-count g l =

@@ -5,7 +5,7 @@ use Rattle.std.specs.Prelude.{IsTrue}
 use Rattle.std.specs.String.{string_bytes}
 use Rattle.pt_io.specs.Taken.{TookPartOf}
 use Rattle.pt_cli.specs.Errors.{refusal_error, unfinished_error}
-use Rattle.pt_cli.proofs.top.answer.Goals as goal
+use Rattle.pt_cli.proofs.replay.answer.Goals as goal
 
 -- What holds of the text that was made holds of the text that it is.
 made-is : {T E : Type 0} (r : Result T E) (bytes : T → List ℕ) (P : List ℕ → Type 0) (text : List ℕ) → IsOkAnd r (λ t. P (bytes t)) → IfOk r (λ t. bytes t ≡ text) → P text
