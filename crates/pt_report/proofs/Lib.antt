@@ -1,0 +1,4 @@
+pub mod Counted
+pub mod Printed
+pub mod Steps
+pub mod Tallies

@@ -1,0 +1,5 @@
+pub mod Counts
+pub mod Events
+pub mod Reports
+pub mod Shows
+pub mod Stacks
