@@ -163,6 +163,41 @@ fn one_changed_byte_changes_no_table_on_an_error(rt: HostRuntime) -> Result<(), 
     Ok(())
 }
 
+// Appends a provider whose name has so many units, the final zero among them.
+fn put_provider(bytes: &mut Vec<u8>, units: usize) -> Result<(), AllocError> {
+    bytes.extend_from_slice(&[255; 8])?;
+    bytes.extend_from_slice(&[5, 0, 0, 0])?;
+    let [low, high, ..] = units.to_le_bytes();
+    bytes.extend_from_slice(&[low, high, 0, 0])?;
+    for place in 0..units {
+        bytes.push(if place + 1 < units { b'P' } else { 0 })?;
+        bytes.push(0)?;
+    }
+    bytes.extend_from_slice(&[0; 4])?;
+    Ok(())
+}
+
+#[test]
+fn a_request_of_65535_bytes_with_1000_providers_is_accepted(rt: HostRuntime) -> Result<(), Fail> {
+    let alloc = rt.alloc();
+    let mut bytes = Vec::new(alloc);
+    bytes.extend_from_slice(
+        b"DOTNET_IPC_V1\0\xff\xff\x02\x03\0\0\0\x01\0\0\x01\0\0\0\0\xe8\x03\0\0",
+    )?;
+    for _ in 0..999u32 {
+        put_provider(&mut bytes, 22)?;
+    }
+    put_provider(&mut bytes, 773)?;
+    assert_eq!(rt; bytes.len(), 65_535);
+    let mut table = Table::new();
+    assert_eq!(rt; code(alloc, &mut table, &bytes)?, 0);
+    assert_eq!(rt; table.next(), 2);
+    // The same with a provider too few.
+    assert_eq!(rt; code(alloc, &mut table, &bytes[..65_471])?, BAD_ENCODING);
+    assert_eq!(rt; table.next(), 2);
+    Ok(())
+}
+
 #[test]
 fn each_finding_has_its_code(rt: HostRuntime) -> Result<(), Fail> {
     let alloc = rt.alloc();
