@@ -262,12 +262,6 @@ counts k free m all =
     let c = d.counted in
     omega (arith, whole.0, whole.1)
 
--- what a seat learned of a moment, in the words of contracts
-pub were : (name : PoolName) (k : Known) (free : ℕ) → IsStaked k → Moment k free → WereFree (seat_of name k) free
-were name Unborn free staked m = elim staked [ ]
-were name Spent free staked m = elim staked [ ]
-were name (Staked s) free staked m = m
-
 -- a seat with what two had has a stake
 pub joined_staked : (k l : Known) → IsStaked k → IsStaked l → IsStaked (joined k l)
 joined_staked Unborn l staked staked' = elim staked [ ]

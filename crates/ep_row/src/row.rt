@@ -134,7 +134,7 @@ impl Row {
         self.slots[slot as usize].is_some()
     }
 
-    /// Opens a session in a free slot, and gives its slot and hand. On want of memory the row stays as it was.
+    /// Opens a session in a free slot, and gives its slot and hand. Out of memory, the row stays as it was.
     pub fn open_on(
         &mut self,
         alloc: Global,

@@ -94,10 +94,6 @@ pub record AreRead (count place used : ℕ) (whole : List ℕ) (rules : List Rul
   pub many : length rules ≡ place
   pub named : are_named rules ≡ true
 
-onto-none : (later : Result (List Rule × List ℕ) RequestFault) → onto [] later ≡ later
-onto-none (Ok later) = refl
-onto-none (Err e) = refl
-
 onto-push : (rules : List Rule) (rule : Rule) (later : Result (List Rule × List ℕ) RequestFault) →
     onto (rules ++ rule ∷ []) later ≡ onto rules (with_provider rule later)
 onto-push rules rule (Ok later) =

@@ -19,7 +19,7 @@ abbrev pub ReadsAt : {A E : Type 0} → Result (A × List ℕ) E → List ℕ �
 ReadsAt field whole None = IsErr field
 ReadsAt field whole (Some taken) = (taken.1 ≤ length whole) × (field ≡ Ok (taken.0, drop taken.1 whole))
 
--- The answer is the wanted one, or want of memory, which may come at any place.
+-- The answer is the wanted one, or out of memory, which may come at any place.
 abbrev pub Answers : {A : Type 0} → Result A RequestFault → Result A RequestFault → Type 0
 Answers wanted (Ok value) = wanted ≡ Ok value
 Answers wanted (Err e) = e ≢ fault.OutOfMemory → wanted ≡ Err e

@@ -100,7 +100,7 @@ whole_body wants_info whole = do
 unfoldable pub reply_of : Bool → List ℕ → Result Reply ℕ
 reply_of wants_info whole = header_of whole >>= λ _. whole_body wants_info whole
 
--- The answer is the wanted one, or want of memory, which may come at any place.
+-- The answer is the wanted one, or out of memory, which may come at any place.
 abbrev pub Replies : {A : Type 0} → Result A ℕ → Result A ReplyFault → Type 0
 Replies wanted (Ok value) = wanted ≡ Ok value
 Replies wanted (Err (fault.Bad at)) = wanted ≡ Err at

@@ -6,9 +6,6 @@ use Rattle.ipc_frame.specs.Message.{found, has_magic, size_in, parts_of, Lacks, 
 pub le_true : (m n : ℕ) → m ≤ n → nat_le m n ≡ true
 le_true m n h = grind arith
 
-pub le_false : (m n : ℕ) → n < m → nat_le m n ≡ false
-le_false m n h = grind arith
-
 pub found-whole : (bytes : List ℕ) → has_magic bytes ≡ true → HEADER_BYTES ≤ size_in bytes → HEADER_BYTES ≤ length bytes → size_in bytes ≤ length bytes →
     found bytes ≡ Ok (parts_of bytes)
 found-whole bytes e s h c =

@@ -43,7 +43,7 @@ pub enum Action {
 
 /// The answer to the bytes of this connection, which are the whole message or what came before the link ended.
 ///
-/// Bytes after the message are not looked at. Want of memory is answered with a code of its own.
+/// Bytes after the message are not looked at. Out of memory is answered with a code of its own.
 #[tactic(auto, unfolding(crate::specs::Decision::decision))]
 pub fn decide(alloc: Global, table: &mut Table, facts: &Facts, conn: u32, bytes: &[u8]) -> Action
     requires next { table.old.next < 2 ^ 63 }

@@ -82,10 +82,6 @@ has_bit worth n false e = rw e refl
 halved : (n low high : ℕ) → low ≤ 1 → n ≡ low + 2 * high → (n % 2 ≡ low) × (n / 2 ≡ high)
 halved n low high small e = (omega (arith, e), omega (arith, e))
 
--- Half of so many parts.
-half_more : (n half more : ℕ) → n / 2 ≡ half → half / 2 ≡ more → n / 4 ≡ more
-half_more n half more first second = omega (arith, first, second)
-
 -- What each flag of the flag byte says.
 record Says (fields : HeadFields) (n : ℕ) : Type 0 where
   pub metadata_said : has_flag 1 n ≡ is_some fields.metadata

@@ -193,11 +193,6 @@ somewhere bytes id entries h there (suc more) first fits low high =
 
 -- ---- an interner
 
--- Nothing is interned.
-pub none_interned : AreInterned []
-none_interned =
-    record { given = λ place h. absurd (omega arith); own = λ bytes id e. cc; few = tt }
-
 length-stacks : (more id : ℕ) (entries : List (List ℕ × ℕ)) → length (stacks_from more id entries) ≡ more
 length-stacks zero id entries = refl
 length-stacks (suc more) id entries = ap suc (length-stacks more (suc id) entries)

@@ -69,7 +69,7 @@ impl Pending {
             || self.lacks_stack(arrival.stack)
     }
 
-    /// Adds the payload of a definition, for which there is room. On want of memory nothing changes.
+    /// Adds the payload of a definition, for which there is room. Out of memory, nothing changes.
     pub fn add_definition(&mut self, payload: &[u8]) -> Result<(), AllocError>
         requires defining { (def : EventDef) × IsDefining def payload.now }
         requires room { HasRoomFor (length payload.now) self.old.metadata }
@@ -82,7 +82,7 @@ impl Pending {
         self.metadata.add(&meta_head(payload.len()), payload)
     }
 
-    /// Keeps a stack that is new, for which there is room. On want of memory nothing changes.
+    /// Keeps a stack that is new, for which there is room. Out of memory, nothing changes.
     pub fn keep_stack(
         &mut self,
         alloc: Global,
@@ -104,7 +104,7 @@ impl Pending {
         Ok(())
     }
 
-    /// Adds an event, for which there is room. On want of memory nothing changes.
+    /// Adds an event, for which there is room. Out of memory, nothing changes.
     pub fn add_event(&mut self, head: &HeadState, payload: &[u8]) -> Result<(), AllocError>
         requires room { HasRoomFor (length payload.now) self.old.events }
         requires size { head.now.size ≡ length payload.now }

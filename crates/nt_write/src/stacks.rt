@@ -63,7 +63,7 @@ impl Stacks {
         self.framed == FRAMED_EVENTS
     }
 
-    /// The id of the stack of one event more, and whether it is new. On want of memory nothing changes.
+    /// The id of the stack of one event more, and whether it is new. Out of memory, nothing changes.
     pub fn id_of(&mut self, alloc: Global, frames: &[u8]) -> Result<Interned, AllocError>
         requires { (frames.now ≡ []) ⊎ (self.old.framed < FRAMED_EVENTS) }
         ensures ok { OnOk result (self.new ≡ record self.old { known = with_stack self.old.known frames.now; framed = framed_with self.old.framed frames.now }) }
@@ -87,7 +87,7 @@ impl Stacks {
         bytes <= WRITTEN_BYTES - self.size
     }
 
-    /// Keeps a new stack until it is written. On want of memory nothing changes.
+    /// Keeps a new stack until it is written. Out of memory, nothing changes.
     pub fn add(&mut self, alloc: Global, frames: &[u8]) -> Result<(), AllocError>
         requires room { length (stack_body self.old.first self.old.fresh) + (SIZE_BYTES + length frames.now) ≤ WRITTEN_BYTES }
         requires next { self.old.first + length self.old.fresh ≤ length self.old.known }

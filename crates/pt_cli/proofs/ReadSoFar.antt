@@ -21,11 +21,6 @@ pub so_far-good : (bytes : List ℕ) (schedule : Schedule) (part : List ℕ) (re
 so_far-good bytes schedule part None none so_far = so_far
 so_far-good bytes schedule part (Some refusal) none so_far = cc
 
--- A text that is refused whatever follows is so with more bytes.
-pub so_far-refused : (bytes more : List ℕ) (schedule schedule' : Schedule) (part part' : List ℕ) (refusal : Refusal) → IsSoFar bytes schedule part (Some refusal) → IsSoFar (bytes ++ more) schedule' part' (Some refusal)
-so_far-refused bytes more schedule schedule' part part' refusal so_far = λ rest.
-    subst (λ bs. IsRefused bs refusal) (sym (append_assoc bytes more rest)) (so_far (more ++ rest))
-
 -- And back.
 pub good-so_far : (bytes : List ℕ) (schedule : Schedule) (part : List ℕ) (refusal : Option Refusal) → refusal ≡ None → AreGoodSoFar bytes schedule part → IsSoFar bytes schedule part refusal
 good-so_far bytes schedule part None none good = good

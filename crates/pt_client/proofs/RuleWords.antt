@@ -38,14 +38,6 @@ behind-next text start items i item before after rule within is spelled more h =
     let longer : List Rule → Option (List Rule) = λ known. behind known rest in
     h ∙ as_words ∙ as_rule ∙ behind-first before rule (all_in plain_rule_in rest) ∙ ap longer (sym more)
 
--- The next word is no rule.
-pub behind-bad : {X : Type 0} (text : X → List ℕ) (start : Option (List Rule)) (items : List X) (i : ℕ) (item : X) (before : List Rule) → i < length items → item ≡ get_or items i item → None ≡ plain_rule_in (text item) → start ≡ behind before (map text (drop i items)) → start ≡ None
-behind-bad text start items i item before within is spelled h =
-    let rest : List (List ℕ) = map text (drop (i + 1) items) in
-    let read : Option Rule → Option (List Rule) = λ first. option_map (λ more. before ++ more) (with_first first (all_in plain_rule_in rest)) in
-    let as_words : behind before (map text (drop i items)) ≡ behind before (text item ∷ rest) = ap (behind before) (cut-first text items i item within is) in
-    h ∙ as_words ∙ ap read (sym spelled)
-
 -- All words were read.
 pub behind-end : {X : Type 0} (text : X → List ℕ) (start : Option (List Rule)) (items : List X) (i : ℕ) (known : List Rule) → length items ≤ i → start ≡ behind known (map text (drop i items)) → start ≡ Some known
 behind-end text start items i known all h = h ∙ ap (λ xs. behind known (map text xs)) (drop_all i items all) ∙ ap Some (append-nil known)

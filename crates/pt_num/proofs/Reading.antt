@@ -10,11 +10,6 @@ abbrev pub above : ℕ → ℕ → Field ℕ → Field ℕ
 above value scale (Ok high) = Ok (value + scale * high.0, high.1)
 above value scale (Err fault) = Err fault
 
--- Above nothing is the field itself.
-above-nothing : (field : Field ℕ) → field ≡ above 0 1 field
-above-nothing (Ok high) = let same : high.0 ≡ 0 + 1 * high.0 = omega arith in ap (λ (n : ℕ). Ok (n, high.1)) same
-above-nothing (Err fault) = refl
-
 -- A group at its place.
 group_value : (value scale b high : ℕ) → value + scale * (b % 128 + 128 * high) ≡ (value + b % 128 * scale) + scale * 128 * high
 group_value value scale b high = grind arith
