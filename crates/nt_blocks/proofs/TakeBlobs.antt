@@ -17,7 +17,7 @@ use Rattle.nt_blocks.specs.declared.take.BodyFault.{BodyFault}
 use Rattle.nt_blocks.specs.declared.take.BodyFault.TheVariants as fault
 use Rattle.nt_blocks.specs.Each.{One, each_at}
 use Rattle.nt_blocks.specs.Refusals.{BadHead, BlobPlace, Refusal, at_end, blob_at, blob_body_at, header_at, held_at, may_head, refusal}
-use Rattle.nt_blocks.specs.Taking.{Appends, IsFault}
+use Rattle.nt_blocks.specs.Taking.{Appends, IsFault, StandsWithin}
 use Rattle.nt_blocks.specs.state.Taken.{ReadsBlob, ReadsHead}
 use Rattle.nt_blocks.proofs.Turns.{with_things, turn_first, turn_more, turn_stops, turn_ends}
 
@@ -34,6 +34,14 @@ fault_first read next at fault.OutOfMemory e = tt
 -- What is read alike has the same fault.
 pub fault_same : {A : Type 0} (read other : Result A Refusal) (at : ℕ) (why : BodyFault) → other ≡ read → IsFault read at why → IsFault other at why
 fault_same {A} read other at why same e = subst (λ (r : Result A Refusal). IsFault r at why) (sym same) e
+
+-- A fault within fewer bytes stands within more.
+pub stands_more : (few most : ℕ) (why : BodyFault) → few ≤ most → StandsWithin few why → StandsWithin most why
+stands_more few most (fault.BadBlock place) more within = omega (arith, within)
+stands_more few most (fault.BadHead place) more within = omega (arith, within)
+stands_more few most (fault.BadMeta place) more within = omega (arith, within)
+stands_more few most (fault.Uncompressed place) more within = omega (arith, within)
+stands_more few most fault.OutOfMemory more within = tt
 
 -- ---- one blob
 

@@ -1,5 +1,5 @@
 -- What taking a body answers.
-use Rattle.std.specs.Prelude.{◌≡◌, ℕ, ◌+◌, List, ◌++◌, Result, Ok, Err}
+use Rattle.std.specs.Prelude.{◌≡◌, ℕ, ◌+◌, ◌≤◌, List, ◌++◌, Result, Ok, Err}
 use Rattle.ep_defs.specs.declared.item.Item.{Item}
 use Rattle.nt_blocks.specs.declared.take.BodyFault.{BodyFault}
 use Rattle.nt_blocks.specs.declared.take.BodyFault.TheVariants as fault
@@ -18,3 +18,11 @@ IsFault read at (fault.BadHead place) = read ≡ Err (refusal (at + place) BadHe
 IsFault read at (fault.BadMeta place) = read ≡ Err (refusal (at + place) BadMeta)
 IsFault read at (fault.Uncompressed place) = read ≡ Err (refusal (at + place) Uncompressed)
 IsFault read at fault.OutOfMemory = Unit {0}
+
+-- The fault stands at most so many bytes behind the body's first one.
+abbrev pub StandsWithin : ℕ → BodyFault → Type 0
+StandsWithin most (fault.BadBlock place) = place ≤ most
+StandsWithin most (fault.BadHead place) = place ≤ most
+StandsWithin most (fault.BadMeta place) = place ≤ most
+StandsWithin most (fault.Uncompressed place) = place ≤ most
+StandsWithin most fault.OutOfMemory = Unit {0}

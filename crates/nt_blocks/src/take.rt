@@ -3,7 +3,7 @@ ghost use Rattle.std.specs.Prelude.{◌≡◌, ℕ, ◌+◌, ◌<◌, ◌≤◌,
 ghost use Rattle.nt_blocks.specs.Making.{HoldsBlobs};
 ghost use Rattle.nt_object.specs.declared.object.BlockKind.TheVariants as block;
 ghost use Rattle.nt_blocks.specs.Refusals.{BadBlock, BadHead, StackPlace, blob_at, blob_body_at, body_at, header_at, held_at, may_head, point_body_at, refusal, stack_at, stack_body_at, thread_at, threads_at};
-ghost use Rattle.nt_blocks.specs.Taking.{Appends, IsFault};
+ghost use Rattle.nt_blocks.specs.Taking.{Appends, IsFault, StandsWithin};
 ghost use Rattle.nt_blocks.specs.state.Kept.{Keeps};
 ghost use Rattle.nt_blocks.specs.state.Taken.{CountsStacks, CountsThreads, ReadsBlob, ReadsHead, ReadsStack, ReadsThread};
 
@@ -71,7 +71,7 @@ impl<T: Drop> From<AllocFailed<T>> for BodyFault {
 
 /// Takes a whole body of this kind, which stands at this offset of the stream, and appends its items.
 ///
-/// The fault is the first in reading order. After one the items are as before. An empty payload takes no memory, nor
+/// The fault is the first in reading order, and stands in the body or at its end. After one the items are as before. An empty payload takes no memory, nor
 /// does a claimed count.
 pub fn take_body(
     alloc: Global,
@@ -83,6 +83,7 @@ pub fn take_body(
     requires { at + length body.now < 2 ^ 63 }
     ensures ok { OnOk result (Appends (body_at kind at body.now) items.old.items items.new.items) }
     ensures fault { IfErr result (λ fault. IsFault (body_at kind at body.now) at fault) }
+    ensures stands { IfErr result (λ fault. StandsWithin (length body.now) fault) }
     ensures err { OnErr result (items.new.items ≡ items.old.items) }
 {
     let count = items.len();
@@ -103,6 +104,7 @@ fn take_items(
     requires { at + length body.now < 2 ^ 63 }
     ensures ok { OnOk result (Appends (body_at kind at body.now) items.old.items items.new.items) }
     ensures fault { IfErr result (λ fault. IsFault (body_at kind at body.now) at fault) }
+    ensures stands { IfErr result (λ fault. StandsWithin (length body.now) fault) }
     ensures err { OnErr result (Keeps items.old.items items.new.items) }
 {
     match kind {
@@ -118,6 +120,7 @@ fn header_size(body: &[u8]) -> Result<usize, BodyFault>
     ensures ok { IfOk result (λ size. (at : ℕ) → header_at at body.now ≡ Ok size) }
     ensures within { IfOk result (λ size. size ≤ length body.now) }
     ensures fault { IfErr result (λ fault. (at : ℕ) → IsFault (header_at at body.now) at fault) }
+    ensures stands { IfErr result (λ fault. StandsWithin (length body.now) fault) }
 {
     if body.len() < HEADER_BYTES {
         return Err(BodyFault::BadBlock { at: 0 });
@@ -144,6 +147,7 @@ fn take_blobs(
     requires at { at + length body.now < 2 ^ 63 }
     ensures ok { OnOk result (Appends (blob_body_at kind at body.now) items.old.items items.new.items) }
     ensures fault { IfErr result (λ fault. IsFault (blob_body_at kind at body.now) at fault) }
+    ensures stands { IfErr result (λ fault. StandsWithin (length body.now) fault) }
     ensures err { OnErr result (Keeps items.old.items items.new.items) }
 {
     let mut here = header_size(body)?;
@@ -185,6 +189,7 @@ fn take_blob(
     requires here { here + length bytes.now < 2 ^ 63 }
     ensures ok { IfOk result (λ blob. (at : ℕ) → ReadsBlob kind at here before.now bytes.now blob) }
     ensures fault { IfErr result (λ fault. (at : ℕ) → IsFault (blob_at kind (record { at = at + here; before = before.now }) bytes.now) at fault) }
+    ensures stands { IfErr result (λ fault. StandsWithin (here + length bytes.now) fault) }
 {
     let Some(BlobHead { state, used }) = blob_head(kind, before, bytes) else {
         return Err(BodyFault::BadHead { at: here });
@@ -241,6 +246,7 @@ fn held(
     requires { HoldsBlobs kind }
     ensures ok { IfOk result (λ held. (at : ℕ) → held_at kind head.now at payload.now ≡ Ok held) }
     ensures fault { IfErr result (λ fault. (at : ℕ) → IsFault (held_at kind head.now (at + place) payload.now) at fault) }
+    ensures stands { IfErr result (λ fault. StandsWithin place fault) }
 {
     match kind {
         BlockKind::Event => Ok(event(head, Bytes::new(Vec::from_slice(alloc, payload)?))),
@@ -274,6 +280,7 @@ fn take_stacks(alloc: Global, body: &[u8], at: u64, items: &mut Vec<Item>) -> Re
     requires { at + length body.now < 2 ^ 63 }
     ensures ok { OnOk result (Appends (stack_body_at at body.now) items.old.items items.new.items) }
     ensures fault { IfErr result (λ fault. IsFault (stack_body_at at body.now) at fault) }
+    ensures stands { IfErr result (λ fault. StandsWithin (length body.now) fault) }
     ensures err { OnErr result (Keeps items.old.items items.new.items) }
 {
     let Some((first, count)) = stack_counts(body) else {
@@ -326,6 +333,7 @@ fn stack_in(bytes: &[u8]) -> Option<&[u8]>
 fn take_point(alloc: Global, body: &[u8], at: u64, items: &mut Vec<Item>) -> Result<(), BodyFault>
     ensures ok { OnOk result (Appends (point_body_at at body.now) items.old.items items.new.items) }
     ensures fault { IfErr result (λ fault. IsFault (point_body_at at body.now) at fault) }
+    ensures stands { IfErr result (λ fault. StandsWithin (length body.now) fault) }
     ensures err { OnErr result (Keeps items.old.items items.new.items) }
 {
     let Some((stamp, count)) = point_counts(body) else {
@@ -359,6 +367,7 @@ fn point_counts(body: &[u8]) -> Option<(u64, u32)>
 fn take_threads(alloc: Global, count: u32, bytes: &[u8]) -> Result<Vec<(u64, u32)>, BodyFault>
     ensures ok { IfOk result (λ threads. (at : ℕ) → threads_at at count bytes.now ≡ Ok threads.items) }
     ensures fault { IfErr result (λ fault. (at : ℕ) → IsFault (threads_at at count bytes.now) at fault) }
+    ensures stands { IfErr result (λ fault. StandsWithin 0 fault) }
 {
     let mut threads = Vec::new(alloc);
     let mut here = 0;

@@ -1,6 +1,6 @@
-use Rattle.std.proofs.Common.{◌≡◌, ◌+◌, ◌-◌, take, drop, ap, arith}
+use Rattle.std.proofs.Common.{◌≡◌, ◌+◌, ◌-◌, length, take, drop, ap, arith}
 use Rattle.std.proofs.lemmas.Result.{err_from_is_err_and}
-use Rattle.nt_blocks.proofs.TakeBlobs.{blob_found, blob_unheld}
+use Rattle.nt_blocks.proofs.TakeBlobs.{blob_found, blob_unheld, stands_more}
 use Rattle.nt_blocks.proofs.take.take_blob.Goals as goal
 
 pub returns-in_err-held-clause-fault : goal.returns-in_err-held-clause-fault
@@ -20,3 +20,8 @@ returns-clause-ok c = λ at.
       within = c.in-Some.ensures.some.within;
       read = blob_found c.args.kind at c.args.here head.used c.args.before.now head.state c.args.bytes.now c.in_ok-held.held c.in-Some.ensures.some (λ place. rw payload at (c.in_ok-held.ensures.ok place));
     }
+
+pub returns-in_err-held-clause-stands : goal.returns-in_err-held-clause-stands
+returns-in_err-held-clause-stands c =
+    let p = err_from_is_err_and c.from_residual.result c.from_residual.ensures.1 in
+    rw (p.1, p.2) (stands_more (c.args.here + c.in-Some.field-0.used) (c.args.here + length c.args.bytes.now) c.in_err-held.field-0.0 (omega (arith, c.in-Some.ensures.some.within)) c.in_err-held.ensures.stands)

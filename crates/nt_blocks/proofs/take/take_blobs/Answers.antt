@@ -1,9 +1,9 @@
-use Rattle.std.proofs.Common.{drop, arith, length-drop}
+use Rattle.std.proofs.Common.{◌+◌, length, drop, arith, length-drop}
 use Rattle.std.proofs.lemmas.List.{drop-drop}
 use Rattle.std.proofs.lemmas.Result.{err_from_is_err_and}
 use Rattle.nt_blocks.specs.Refusals.{header_at}
 use Rattle.nt_blocks.proofs.TakeParts.{rest_is}
-use Rattle.nt_blocks.proofs.TakeBlobs.{fault_first, going_start, going_step, going_end, going_stop}
+use Rattle.nt_blocks.proofs.TakeBlobs.{fault_first, stands_more, going_start, going_step, going_end, going_stop}
 use Rattle.nt_blocks.proofs.take.take_blobs.Goals as goal
 
 pub returns-in_err-here-clause-fault : goal.returns-in_err-here-clause-fault
@@ -44,3 +44,9 @@ loop-here-preserved c =
 pub returns-clause-ok : goal.returns-clause-ok
 returns-clause-ok c =
     going_end c.args.kind c.args.at c.loop-here.here c.args.body.now c.args.items.now.items c.loop-here.items.items c.loop-here.before (drop c.loop-here.here c.args.body.now) c.loop-here.invariant (omega (arith, length-drop c.loop-here.here c.args.body.now))
+
+pub returns-in_err-held-clause-stands : goal.returns-in_err-held-clause-stands
+returns-in_err-held-clause-stands c =
+    let p = err_from_is_err_and c.from_residual-in_err-held.result c.from_residual-in_err-held.ensures.1 in
+    rw (p.1, p.2)
+    (stands_more (c.loop-here.here + length (drop c.loop-here.here c.args.body.now)) (length c.args.body.now) c.in_err-held.field-0.0 (omega (arith, length-drop c.loop-here.here c.args.body.now)) (rw (rest_is c.loop-here.here c.args.body.now) at c.in_err-held.ensures.stands))
