@@ -1,0 +1,4 @@
+pub mod Infos
+pub mod Objects
+pub mod Streams
+pub mod Units
