@@ -1,4 +1,6 @@
+pub mod Cuts
 pub mod Infos
 pub mod Objects
 pub mod Streams
+pub mod Told
 pub mod Units

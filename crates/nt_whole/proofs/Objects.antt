@@ -23,7 +23,7 @@ use Rattle.nt_whole.proofs.Infos.{info-there, length-fixed32, number-there, payl
 -- ---- the parts of an object
 
 -- The 14 bytes behind the first tag of an object.
-pub begun : ℕ → List ℕ → List ℕ
+unfoldable pub begun : ℕ → List ℕ → List ℕ
 begun version name = 5 ∷ 1 ∷ [] ++ fixed w32 version ++ fixed w32 version ++ fixed w32 (length name)
 
 -- A name with the tag behind it.

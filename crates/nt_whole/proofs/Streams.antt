@@ -22,7 +22,7 @@ pub record BodiesRead : Type 0 where
   pub body : (kind : BlockKind) (at : ℕ) (items : List Item) (bytes : List ℕ) → IsBody kind at items bytes → body_at kind at bytes ≡ Ok items
 
 -- An object that is found stands before those behind it.
-object-step : (more : ℕ) (has_trace : _) (items : List Item) (at : ℕ) (bytes : List ℕ) (object : Object) → object_at has_trace (at + 1) bytes ≡ Ok object → objects_at (suc more) has_trace items at (5 ∷ bytes) ≡ objects_at more true (items ++ object.items) object.next object.rest
+pub object-step : (more : ℕ) (has_trace : _) (items : List Item) (at : ℕ) (bytes : List ℕ) (object : Object) → object_at has_trace (at + 1) bytes ≡ Ok object → objects_at (suc more) has_trace items at (5 ∷ bytes) ≡ objects_at more true (items ++ object.items) object.next object.rest
 unfolding objects_at
 object-step more has_trace items at bytes object found = rw (objects_at, found)
 
@@ -59,12 +59,12 @@ trace-read reads info blocks others (suc more) fits follow hold small few =
     ∙ blocks-read reads blocks others (trace_item info ∷ []) 102 more follow hold small (omega (arith, few, ap length parts, length-append (trace_object info) rest))
 
 -- The head is there.
-headed : (rest : List ℕ) → verdict (stream_head ++ rest) ≡ objects_at (length (stream_head ++ rest)) false [] 32 rest
+pub headed : (rest : List ℕ) → verdict (stream_head ++ rest) ≡ objects_at (length (stream_head ++ rest)) false [] 32 rest
 unfolding fixed
 headed rest = rw (verdict, unit-there stream_head rest 32 refl)
 
 -- The parts of a stream, one after another.
-stream-grouped : (head trace blocks : List ℕ) → head ++ trace ++ blocks ++ 1 ∷ [] ≡ head ++ (trace ++ (blocks ++ 1 ∷ []))
+pub stream-grouped : (head trace blocks : List ℕ) → head ++ trace ++ blocks ++ 1 ∷ [] ≡ head ++ (trace ++ (blocks ++ 1 ∷ []))
 stream-grouped head trace blocks = simp append_assoc
 
 -- A well-formed stream is read whole.

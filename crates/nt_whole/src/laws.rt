@@ -1,12 +1,12 @@
 //! Laws: what holds of the definitions alone.
-ghost use Rattle.std.specs.Prelude.{◌≡◌, ℕ, List};
+ghost use Rattle.std.specs.Prelude.{◌≡◌, ℕ, ◌<◌, List, ◌++◌, length};
 ghost use Rattle.ep_defs.specs.declared.session.TraceInfo.{TraceInfo};
 ghost use Rattle.ep_defs.specs.declared.item.Item.{Item};
 ghost use Rattle.ep_defs.specs.Entry.{Entry};
 ghost use Rattle.nt_blocks.specs.Verdict.{Good, verdict};
 ghost use Rattle.nt_write.specs.Trace.{IsTrace};
 ghost use Rattle.nt_write.specs.Canonical.{IsCanonical};
-ghost use Rattle.nt_whole.specs.Reading.{IsReadAs};
+ghost use Rattle.nt_whole.specs.Reading.{IsBegun, IsBegunAs, IsReadAs};
 
 use nt_blocks::what_a_body_holds_is_read;
 
@@ -25,4 +25,14 @@ pub fn a_canonical_stream_is_read_whole()
     ensures only { (info : TraceInfo) (entries : List Entry) (items : List Item) (bytes : List ℕ) → IsCanonical info entries bytes → verdict bytes ≡ Good items → IsReadAs info entries items bytes }
 {
     a_well_formed_stream_is_read_whole();
+}
+
+/// A stream that is cut, anywhere before its end, is found to go on: nothing in it is refused, and its first items are
+/// found (`cut`). Those of a canonical stream stand in order and tell the first entries (`told`): so does what a writer's
+/// sink took up to a fault.
+pub fn a_stream_that_is_cut_is_not_refused()
+    ensures cut { (info : TraceInfo) (items : List Item) (part left : List ℕ) → IsTrace info items (part ++ left) → 0 < length left → IsBegun items part }
+    ensures told { (info : TraceInfo) (entries : List Entry) (part left : List ℕ) → IsCanonical info entries (part ++ left) → 0 < length left → IsBegunAs entries part }
+{
+    what_a_body_holds_is_read();
 }

@@ -2,26 +2,22 @@ use Rattle.std.proofs.Common.{◌≡◌, ℕ, List, ap, sym, ◌∙◌, subst}
 use Rattle.ep_defs.specs.declared.session.TraceInfo.{TraceInfo}
 use Rattle.ep_defs.specs.declared.item.Item.{Item}
 use Rattle.ep_defs.specs.Entry.{Entry}
-use Rattle.nt_blocks.specs.Ordered.{AreOrdered, Tell}
 use Rattle.nt_blocks.specs.Verdict.{Good, Bad, More, Verdict, verdict}
 use Rattle.nt_write.specs.Trace.{IsTrace}
 use Rattle.nt_write.specs.Canonical.{IsCanonical}
 use Rattle.nt_whole.specs.Reading.{IsReadAs}
+use Rattle.nt_whole.proofs.Told.{told-ordered}
 use Rattle.nt_whole.proofs.laws.a_canonical_stream_is_read_whole.Goals as goal
 
 -- Well-formed streams are read whole.
 abbrev AreReadWhole : Type 0
 AreReadWhole = (info : TraceInfo) (items : List Item) (bytes : List ℕ) → IsTrace info items bytes → verdict bytes ≡ Good items
 
--- Items that tell entries are in order.
-ordered : (items : List Item) (entries : List Entry) → Tell items entries → AreOrdered items
-ordered items entries told = rw told
-
 -- The canonical stream has its items.
 read : AreReadWhole → (info : TraceInfo) (entries : List Entry) (bytes : List ℕ) (canonical : IsCanonical info entries bytes) → IsReadAs info entries canonical.items bytes
 read whole info entries bytes canonical = record {
   found = whole info canonical.items bytes canonical.read;
-  ordered = ordered canonical.items entries canonical.told;
+  ordered = told-ordered canonical.items entries canonical.told;
   told = canonical.told;
   others = canonical.read.others;
   first = canonical.read.hold;
