@@ -117,7 +117,7 @@ impl BlobBlock {
 
     /// Adds a blob with this header, which says the payload's size, and this payload. In an event block the header
     /// names the event's definition; in a metadata block it has the metadata id 0 and no sequence, and the payload
-    /// defines an event. On want of memory the blobs stay as they were.
+    /// defines an event. Out of memory, the blobs stay as they were.
     pub fn add(&mut self, head: &HeadState, payload: &[u8]) -> Result<(), AllocError>
         requires room { HEADER_BYTES + length self.old.bytes + HEAD_BYTES + length payload.now ≤ WRITTEN_BYTES }
         requires size { head.now.size ≡ length payload.now }

@@ -1,10 +1,15 @@
 //! Bodies of stacks and of points.
-ghost use Rattle.std.specs.Prelude.{◌≡◌, ◌+◌, ◌<◌, ◌≤◌, ◌^◌, ◌++◌, length, OnOk, OnErr};
-ghost use Rattle.nt_blocks.specs.Bodies.{point_body, stack_body, stack_bytes, thread_bytes};
+ghost use Rattle.std.specs.Prelude.{◌≡◌, ℕ, ◌+◌, ◌<◌, ◌≤◌, ◌^◌, [], ◌∷◌, ◌++◌, length, OnOk, OnErr};
+ghost use Rattle.std.specs.List.{AllByRecursion};
+ghost use Rattle.ep_defs.specs.Ranges.{AreBytes};
+ghost use Rattle.ep_defs.specs.declared.item.ItemKind.TheVariants as item;
+ghost use Rattle.nt_object.specs.declared.object.BlockKind.TheVariants as block;
+ghost use Rattle.nt_blocks.specs.Bodies.{IsBody, point_body, stack_body, stack_bytes, stack_items, thread_bytes};
 ghost use Rattle.nt_blocks.specs.declared.limits.TheConstants.{LAST_COUNT, POINT_THREADS};
 ghost use Rattle.nt_blocks.specs.state.Kept.{Keeps};
 
 use ep_defs::Bytes;
+use ep_defs::ranges::bytes_fit;
 use pt_num::{put_u32, put_u64};
 use std::alloc::AllocError;
 
@@ -14,6 +19,7 @@ pub fn put_stacks(out: &mut Vec<u8>, first: u32, stacks: &[Bytes]) -> Result<(),
     requires ids { first + length stacks.now ≤ LAST_COUNT }
     requires small { length (stack_body first stacks.now) < 2 ^ 31 }
     ensures ok { OnOk result (out.new.items ≡ out.old.items ++ stack_body first stacks.now) }
+    ensures form { (at : ℕ) → OnOk result (IsBody block.Stack at (stack_items (at + 8) first stacks.now) (stack_body first stacks.now)) }
     ensures err { OnErr result (out.new.items ≡ out.old.items) }
 {
     let start = out.len();
@@ -28,6 +34,7 @@ fn append_stacks(out: &mut Vec<u8>, first: u32, stacks: &[Bytes]) -> Result<(), 
     requires ids { first + length stacks.now ≤ LAST_COUNT }
     requires small { length (stack_body first stacks.now) < 2 ^ 31 }
     ensures ok { OnOk result (out.new.items ≡ out.old.items ++ stack_body first stacks.now) }
+    ensures bytes { OnOk result (AreBytes out.new.items) }
     ensures err { OnErr result (Keeps out.old.items out.new.items) }
 {
     put_u32(out, first)?;
@@ -35,6 +42,7 @@ fn append_stacks(out: &mut Vec<u8>, first: u32, stacks: &[Bytes]) -> Result<(), 
     for stack in stacks {
         append_stack(out, stack)?;
     }
+    bytes_fit(out);
     Ok(())
 }
 
@@ -52,6 +60,7 @@ fn append_stack(out: &mut Vec<u8>, stack: &Bytes) -> Result<(), AllocError>
 pub fn put_point(out: &mut Vec<u8>, stamp: u64, threads: &[(u64, u32)]) -> Result<(), AllocError>
     requires { length threads.now ≤ POINT_THREADS }
     ensures ok { OnOk result (out.new.items ≡ out.old.items ++ point_body stamp threads.now) }
+    ensures form { (at : ℕ) → OnOk result (IsBody block.Point at (record { at = at; kind = item.Point stamp threads.now } ∷ []) (point_body stamp threads.now)) }
     ensures err { OnErr result (out.new.items ≡ out.old.items) }
 {
     let start = out.len();
@@ -65,6 +74,8 @@ pub fn put_point(out: &mut Vec<u8>, stamp: u64, threads: &[(u64, u32)]) -> Resul
 fn append_point(out: &mut Vec<u8>, stamp: u64, threads: &[(u64, u32)]) -> Result<(), AllocError>
     requires { length threads.now ≤ POINT_THREADS }
     ensures ok { OnOk result (out.new.items ≡ out.old.items ++ point_body stamp threads.now) }
+    ensures bytes { OnOk result (AreBytes out.new.items) }
+    ensures fit { OnOk result (AllByRecursion (λ thread. (thread.0 < 2 ^ 64) × (thread.1 < 2 ^ 32)) threads.now) }
     ensures err { OnErr result (Keeps out.old.items out.new.items) }
 {
     put_u64(out, stamp)?;
@@ -73,5 +84,6 @@ fn append_point(out: &mut Vec<u8>, stamp: u64, threads: &[(u64, u32)]) -> Result
         put_u64(out, *thread)?;
         put_u32(out, *number)?;
     }
+    bytes_fit(out);
     Ok(())
 }
