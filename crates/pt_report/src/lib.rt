@@ -15,5 +15,7 @@ mod lines;
 mod report;
 mod stacks;
 mod tally;
+#[cfg(test)]
+mod tests;
 
 pub use report::Report;
