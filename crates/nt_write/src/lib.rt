@@ -26,10 +26,10 @@ pub use laws::{
 };
 pub use vectors::{
     a_body_of_964_events_takes_1956_bytes, a_first_event_takes_seven_bytes,
-    a_missing_number_takes_three_bytes_more, a_new_activity_takes_16_bytes,
-    a_second_event_takes_two_bytes, a_session_without_events_takes_158_bytes,
-    a_stack_is_written_again_after_a_point, five_events_of_one_thread_and_one_of_another,
-    nested_fields_stand_before_the_name, one_event_takes_310_bytes, the_start_takes_102_bytes,
-    varuints_have_their_low_bits_first,
+    a_header_of_22_bytes_is_passed_over, a_missing_number_takes_three_bytes_more,
+    a_new_activity_takes_16_bytes, a_second_event_takes_two_bytes,
+    a_session_without_events_takes_158_bytes, a_stack_is_written_again_after_a_point,
+    five_events_of_one_thread_and_one_of_another, nested_fields_stand_before_the_name,
+    one_event_takes_310_bytes, the_start_takes_102_bytes, varuints_have_their_low_bits_first,
 };
 pub use writer::{EventOut, TraceWriter};

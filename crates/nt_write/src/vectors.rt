@@ -1,6 +1,7 @@
-ghost use Rattle.std.specs.Prelude.{◌≡◌, List, [], ◌∷◌, ◌++◌, length};
+ghost use Rattle.std.specs.Prelude.{◌≡◌, List, Ok, [], ◌∷◌, ◌++◌, length};
 ghost use Rattle.std.specs.Int.{w32, w64};
 ghost use Rattle.ep_defs.specs.Session.{standard_info_of};
+ghost use Rattle.ep_defs.specs.declared.item.ItemKind.TheVariants as item;
 ghost use Rattle.nt_object.specs.declared.object.BlockKind.TheVariants as block;
 ghost use Rattle.pt_num.specs.Numbers.{short_var};
 ghost use Rattle.nt_object.specs.Stream.{stream_start};
@@ -8,8 +9,9 @@ ghost use Rattle.nt_head.specs.Head.{zero_state};
 ghost use Rattle.nt_meta.specs.Meta.{meta_payload};
 ghost use Rattle.nt_head.specs.Fewest.{head_bytes};
 ghost use Rattle.nt_blocks.specs.Drafts.{blob_body};
+ghost use Rattle.nt_blocks.specs.Refusals.{body_at};
 ghost use Rattle.nt_write.specs.Canonical.{encoded};
-ghost use Rattle.nt_write.specs.Vectors.{none_written, one_written, start_bytes, none_written_bytes, one_written_bytes, bodies_of, two_threads, two_threads_bytes, one_stack, one_stack_bytes, before_point_bytes, after_point_bytes, nth, many_drafts, some_id, first_of_thread_2, nested, nested_bytes};
+ghost use Rattle.nt_write.specs.Vectors.{none_written, one_written, start_bytes, none_written_bytes, one_written_bytes, bodies_of, two_threads, two_threads_bytes, one_stack, one_stack_bytes, before_point_bytes, after_point_bytes, nth, many_drafts, some_id, first_of_thread_2, nested, nested_bytes, zero_id, longer_header_bytes};
 
 /// The head of a stream and its Trace object.
 pub fn the_start_takes_102_bytes()
@@ -79,4 +81,9 @@ pub fn a_stack_is_written_again_after_a_point()
 /// A field's name stands behind the fields inside it.
 pub fn nested_fields_stand_before_the_name()
     ensures bytes { meta_payload 7 nested ≡ nested_bytes }
+{}
+
+/// A reader passes over what a body's header has behind its first 20 bytes, and takes a number that is not in its shortest form.
+pub fn a_header_of_22_bytes_is_passed_over()
+    ensures { body_at block.Event 100 longer_header_bytes ≡ Ok (record { at = 122; kind = item.Event 1 1 1 0 1 0 100 zero_id zero_id [] } ∷ []) }
 {}
