@@ -1,0 +1,4 @@
+pub mod Fuel
+pub mod Pieces
+pub mod Steps
+pub mod Unit

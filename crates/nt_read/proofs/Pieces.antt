@@ -1,0 +1,264 @@
+-- Units one after another, and pieces.
+use Rattle.std.proofs.Common.{◌≡◌, ◌≢◌, ℕ, ◌+◌, ◌<◌, ◌≤◌, Option, Some, None, Result, Ok, Err, List, [], ◌∷◌, ◌++◌, length, take, drop, refl, sym, ap, subst, ◌∙◌, arith, append_assoc, length-append}
+use Rattle.std.proofs.lemmas.List.{append-nil, take-append-drop}
+use Rattle.ep_defs.specs.declared.item.Item.{Item}
+use Rattle.nt_blocks.specs.Refusals.{Refusal}
+use Rattle.nt_blocks.specs.Verdict.{Verdict, Bad, Good, More, verdict}
+use Rattle.nt_read.specs.declared.fault.ReadFault.{ReadFault}
+use Rattle.nt_read.specs.declared.fault.ReadFault.TheVariants as fault
+use Rattle.nt_read.specs.declared.fault.ReadKind.TheVariants as kind
+use Rattle.nt_read.specs.declared.reader.TraceReader.{TraceReader}
+use Rattle.nt_read.specs.declared.stage.Stage.{Stage}
+use Rattle.nt_read.specs.declared.stage.Stage.TheVariants as stage
+use Rattle.nt_read.specs.Answers.{Gives, IsKept, answer_of, end_answer, fault_of, items_of}
+use Rattle.nt_read.specs.Reading.{GoesOn, HasJudged, HasRead, IsRefused, used}
+use Rattle.nt_read.specs.Stages.{goes_on, needs, waiting}
+use Rattle.nt_read.specs.state.Reads.{Reads, Stops, StopsAt, from}
+use Rattle.nt_read.specs.state.Units.{Faults, Refuses, Turns, given, left}
+use Rattle.nt_read.proofs.Steps.{verdict-starts, waits}
+
+-- ---- part of a piece
+
+pub reads-none : (reader : TraceReader) (bytes : List ℕ) (items : List Item) → Reads reader bytes reader bytes items items
+reads-none reader bytes items = record {
+  found = [];
+  given = sym (append-nil items);
+  goes = λ told more. rw (append-nil told) refl;
+}
+
+pub reads-then : (a b c : TraceReader) (bytes mid rest : List ℕ) (old between new : List Item) → Reads a bytes b mid old between → Reads b mid c rest between new → Reads a bytes c rest old new
+reads-then a b c bytes mid rest old between new first later = record {
+  found = first.found ++ later.found;
+  given = later.given ∙ ap (λ (l : List Item). l ++ later.found) first.given ∙ append_assoc old first.found later.found;
+  goes = λ told more.
+      first.goes told more
+      ∙ later.goes (told ++ first.found) more
+      ∙ ap (λ (l : List Item). from c l (rest ++ more)) (append_assoc told first.found later.found);
+}
+
+pub stops-then : (a b : TraceReader) (bytes mid : List ℕ) (old between new : List Item) (refused : ReadFault) → Reads a bytes b mid old between → StopsAt b mid between new refused → StopsAt a bytes old new refused
+stops-then a b bytes mid old between new (fault.Bad at kind) first later = record {
+  why = later.why;
+  found = first.found ++ later.found;
+  is = later.is;
+  given = later.given ∙ ap (λ (l : List Item). l ++ later.found) first.given ∙ append_assoc old first.found later.found;
+  goes = λ told more.
+      first.goes told more
+      ∙ later.goes (told ++ first.found) more
+      ∙ ap (λ (l : List Item). Bad later.why l) (append_assoc told first.found later.found);
+}
+stops-then a b bytes mid old between new fault.OutOfMemory first later = tt
+
+-- What is left of a piece is kept.
+pub reads-kept : (a b c : TraceReader) (bytes rest : List ℕ) (old new : List Item) → Reads a bytes b rest old new → c.stage ≡ b.stage → c.at ≡ b.at → c.pending.items ≡ b.pending.items → c.kept.items ≡ b.kept.items ++ rest → Reads a bytes c [] old new
+reads-kept a b c bytes rest old new first stage at pending kept = record {
+  found = first.found;
+  given = first.given;
+  goes = λ told more. first.goes told more ∙ rw (stage, at, pending, kept, append_assoc b.kept.items rest more) refl;
+}
+
+-- The unit whose last bytes are these, before what follows it.
+unit-front : (kept bytes more : List ℕ) (lacking : ℕ) → kept ++ (bytes ++ more) ≡ (kept ++ take lacking bytes) ++ (drop lacking bytes ++ more)
+unit-front kept bytes more lacking =
+    ap (λ (l : List ℕ). kept ++ (l ++ more)) (sym (take-append-drop lacking bytes))
+    ∙ ap (λ (l : List ℕ). kept ++ l) (append_assoc (take lacking bytes) (drop lacking bytes) more)
+    ∙ sym (append_assoc kept (take lacking bytes) (drop lacking bytes ++ more))
+
+pub step-reads : (before after : TraceReader) (bytes : List ℕ) (lacking : ℕ) (next : Stage) (items old new : List Item) → Turns before.stage before.at before.pending.items (before.kept.items ++ take lacking bytes) next items → after.stage ≡ next → after.at ≡ before.at + length (before.kept.items ++ take lacking bytes) → after.pending.items ≡ left before.stage items → after.kept.items ≡ [] → new ≡ old ++ given before.stage items → Reads before bytes after (drop lacking bytes) old new
+step-reads before after bytes lacking next items old new turns stage at pending kept more_items = record {
+  found = given before.stage items;
+  given = more_items;
+  goes = λ told more.
+      ap (goes_on before.stage before.at before.pending.items told) (unit-front before.kept.items bytes more lacking)
+      ∙ turns.goes told (drop lacking bytes ++ more)
+      ∙ rw (stage, at, pending, kept) refl;
+}
+
+pub step-stops : (before : TraceReader) (bytes : List ℕ) (lacking : ℕ) (items : List Item) (refused : ReadFault) → Faults before.stage before.at before.pending.items (before.kept.items ++ take lacking bytes) refused → StopsAt before bytes items items refused
+step-stops before bytes lacking items (fault.Bad at kind) refuses = record {
+  why = refuses.why;
+  found = [];
+  is = refuses.is;
+  given = sym (append-nil items);
+  goes = λ told more.
+      ap (goes_on before.stage before.at before.pending.items told) (unit-front before.kept.items bytes more lacking)
+      ∙ refuses.goes told (drop lacking bytes ++ more)
+      ∙ ap (λ (l : List Item). Bad refuses.why l) (sym (append-nil told));
+}
+step-stops before bytes lacking items fault.OutOfMemory refuses = tt
+
+-- ---- pieces
+
+items-waiting : (here : Stage) (told : List Item) → items_of (waiting here told) ≡ told
+items-waiting stage.Head told = refl
+items-waiting (stage.Tag has_trace) told = refl
+items-waiting (stage.Begun has_trace) told = refl
+items-waiting (stage.Name has_trace n version least) told = refl
+items-waiting stage.Trace told = refl
+items-waiting (stage.Size block) told = refl
+items-waiting (stage.Padding block size) told = refl
+items-waiting (stage.Body block size) told = refl
+items-waiting stage.Close told = refl
+items-waiting stage.Ended told = refl
+
+answer-waiting : (here : Stage) (told : List Item) → answer_of (waiting here told) ≡ Ok tt
+answer-waiting stage.Head told = refl
+answer-waiting (stage.Tag has_trace) told = refl
+answer-waiting (stage.Begun has_trace) told = refl
+answer-waiting (stage.Name has_trace n version least) told = refl
+answer-waiting stage.Trace told = refl
+answer-waiting (stage.Size block) told = refl
+answer-waiting (stage.Padding block size) told = refl
+answer-waiting (stage.Body block size) told = refl
+answer-waiting stage.Close told = refl
+answer-waiting stage.Ended told = refl
+
+-- Nothing was fed.
+pub new-read : (reader : TraceReader) → reader.fault ≡ None → reader.stage ≡ stage.Head → reader.at ≡ 0 → reader.kept.items ≡ [] → HasRead [] reader
+new-read reader whole stage at kept =
+    let fresh : GoesOn [] reader = record {
+      told = [];
+      used = rw (at, kept) refl;
+      few = rw (stage, kept) (omega arith);
+      goes = λ more. rw (stage, at, kept) (verdict-starts more);
+    } in
+    subst (λ (f : Option ReadFault). HasJudged [] reader f) (sym whole) fresh
+
+-- What was judged, without a fault and with one.
+pub no-fault : (bytes : List ℕ) (reader : TraceReader) → reader.fault ≡ None → HasRead bytes reader → GoesOn bytes reader
+no-fault bytes reader e read = subst (λ (f : Option ReadFault). HasJudged bytes reader f) e read
+
+pub with-fault : (bytes : List ℕ) (reader : TraceReader) (refused : ReadFault) → reader.fault ≡ Some refused → HasRead bytes reader → IsRefused bytes refused
+with-fault bytes reader refused e read = subst (λ (f : Option ReadFault). HasJudged bytes reader f) e read
+
+-- The verdict on the bytes that were read.
+pub read-verdict : (bytes : List ℕ) (reader : TraceReader) (goes : GoesOn bytes reader) → verdict bytes ≡ waiting reader.stage goes.told
+read-verdict bytes reader goes =
+    ap verdict (sym (append-nil bytes))
+    ∙ goes.goes []
+    ∙ ap (goes_on reader.stage reader.at reader.pending.items goes.told) (append-nil reader.kept.items)
+    ∙ waits reader.stage reader.at reader.pending.items goes.told reader.kept.items goes.few
+
+pub refused-verdict : (bytes : List ℕ) (refused : ReadFault) (is : IsRefused bytes refused) → verdict bytes ≡ Bad is.why is.told
+refused-verdict bytes refused is = ap verdict (sym (append-nil bytes)) ∙ is.goes []
+
+-- A piece without a refusal.
+pub piece-read : (before after : TraceReader) (bytes piece : List ℕ) (old new : List Item) → Reads before piece after [] old new → length after.kept.items < needs after.stage after.at → used after ≡ used before + length piece → GoesOn bytes before → GoesOn (bytes ++ piece) after
+piece-read before after bytes piece old new reads few all goes = record {
+  told = goes.told ++ reads.found;
+  used = omega (arith, length-append bytes piece, goes.used, all);
+  few = few;
+  goes = λ more.
+      ap verdict (append_assoc bytes piece more)
+      ∙ goes.goes (piece ++ more)
+      ∙ reads.goes goes.told more;
+}
+
+pub piece-gives : (before after : TraceReader) (bytes piece : List ℕ) (old new : List Item) → Reads before piece after [] old new → length after.kept.items < needs after.stage after.at → used after ≡ used before + length piece → GoesOn bytes before → Gives (items_of (verdict bytes)) (items_of (verdict (bytes ++ piece))) old new
+unfolding piece-read
+piece-gives before after bytes piece old new reads few all goes =
+    let later = piece-read before after bytes piece old new reads few all goes in
+    record {
+      found = reads.found;
+      more =
+          ap items_of (read-verdict (bytes ++ piece) after later)
+          ∙ items-waiting after.stage (goes.told ++ reads.found)
+          ∙ ap (λ (l : List Item). l ++ reads.found) (sym (ap items_of (read-verdict bytes before goes) ∙ items-waiting before.stage goes.told));
+      given = reads.given;
+    }
+
+pub read-answer : (bytes : List ℕ) (reader : TraceReader) → GoesOn bytes reader → Ok tt ≡ answer_of (verdict bytes)
+read-answer bytes reader goes = sym (ap answer_of (read-verdict bytes reader goes) ∙ answer-waiting reader.stage goes.told)
+
+-- A piece in which a unit is refused.
+pub piece-refused : (before : TraceReader) (bytes piece : List ℕ) (old new : List Item) (refused : ReadFault) → Stops before piece refused old new → GoesOn bytes before → IsRefused (bytes ++ piece) refused
+piece-refused before bytes piece old new refused stops goes = record {
+  why = stops.why;
+  told = goes.told ++ stops.found;
+  is = stops.is;
+  goes = λ more.
+      ap verdict (append_assoc bytes piece more)
+      ∙ goes.goes (piece ++ more)
+      ∙ stops.goes goes.told more;
+}
+
+pub refused-gives : (before : TraceReader) (bytes piece : List ℕ) (old new : List Item) (refused : ReadFault) → Stops before piece refused old new → GoesOn bytes before → Gives (items_of (verdict bytes)) (items_of (verdict (bytes ++ piece))) old new
+unfolding piece-refused
+refused-gives before bytes piece old new refused stops goes =
+    let later = piece-refused before bytes piece old new refused stops goes in
+    record {
+      found = stops.found;
+      more =
+          ap items_of (refused-verdict (bytes ++ piece) refused later)
+          ∙ ap (λ (l : List Item). l ++ stops.found) (sym (ap items_of (read-verdict bytes before goes) ∙ items-waiting before.stage goes.told));
+      given = stops.given;
+    }
+
+pub refused-answer : (bytes : List ℕ) (refused : ReadFault) → IsRefused bytes refused → Err refused ≡ answer_of (verdict bytes)
+refused-answer bytes refused is = ap (λ (f : ReadFault). Err f) is.is ∙ sym (ap answer_of (refused-verdict bytes refused is))
+
+-- After a refusal nothing changes it.
+pub still-refused : (bytes piece : List ℕ) (refused : ReadFault) → IsRefused bytes refused → IsRefused (bytes ++ piece) refused
+still-refused bytes piece refused is = record {
+  why = is.why;
+  told = is.told;
+  is = is.is;
+  goes = λ more. ap verdict (append_assoc bytes piece more) ∙ is.goes (piece ++ more);
+}
+
+pub still-gives : (bytes piece : List ℕ) (refused : ReadFault) (items : List Item) → IsRefused bytes refused → Gives (items_of (verdict bytes)) (items_of (verdict (bytes ++ piece))) items items
+unfolding still-refused
+still-gives bytes piece refused items is =
+    let later = still-refused bytes piece refused is in
+    record {
+      found = [];
+      more =
+          ap items_of (refused-verdict (bytes ++ piece) refused later)
+          ∙ sym (ap items_of (refused-verdict bytes refused is))
+          ∙ sym (append-nil (items_of (verdict bytes)));
+      given = sym (append-nil items);
+    }
+
+-- ---- the end
+
+pub ends-refused : (bytes : List ℕ) (refused : ReadFault) → IsRefused bytes refused → Err refused ≡ end_answer (length bytes) (verdict bytes)
+ends-refused bytes refused is =
+    ap (λ (f : ReadFault). Err f) is.is ∙ sym (ap (end_answer (length bytes)) (refused-verdict bytes refused is))
+
+pub ends-good : (bytes : List ℕ) (reader : TraceReader) → reader.stage ≡ stage.Ended → GoesOn bytes reader → Ok tt ≡ end_answer (length bytes) (verdict bytes)
+ends-good bytes reader ended goes =
+    let good : verdict bytes ≡ Good goes.told = rw ended at (read-verdict bytes reader goes) in
+    sym (ap (end_answer (length bytes)) good)
+
+waiting-more : (here : Stage) (told : List Item) → here ≢ stage.Ended → waiting here told ≡ More told
+waiting-more stage.Head told other = refl
+waiting-more (stage.Tag has_trace) told other = refl
+waiting-more (stage.Begun has_trace) told other = refl
+waiting-more (stage.Name has_trace n version least) told other = refl
+waiting-more stage.Trace told other = refl
+waiting-more (stage.Size block) told other = refl
+waiting-more (stage.Padding block size) told other = refl
+waiting-more (stage.Body block size) told other = refl
+waiting-more stage.Close told other = refl
+waiting-more stage.Ended told other = absurd (other refl)
+
+pub ends-more : (bytes : List ℕ) (reader : TraceReader) → reader.stage ≢ stage.Ended → GoesOn bytes reader → Err (fault.Bad (used reader) kind.Truncated) ≡ end_answer (length bytes) (verdict bytes)
+ends-more bytes reader other goes =
+    let more = read-verdict bytes reader goes ∙ waiting-more reader.stage goes.told other in
+    ap (λ n. Err (fault.Bad n kind.Truncated)) (sym goes.used) ∙ sym (ap (end_answer (length bytes)) more)
+
+-- ---- what feeding answers
+
+pub still-read : (reader : TraceReader) (bytes piece : List ℕ) (refused : ReadFault) → reader.fault ≡ Some refused → HasRead bytes reader → HasRead (bytes ++ piece) reader
+still-read reader bytes piece refused e read =
+    let still = still-refused bytes piece refused (with-fault bytes reader refused e read) in
+    subst (λ (f : Option ReadFault). HasJudged (bytes ++ piece) reader f) (sym e) still
+
+pub ok-read : (before after : TraceReader) (bytes piece : List ℕ) (old new : List Item) → before.fault ≡ None → after.fault ≡ before.fault → Reads before piece after [] old new → length after.kept.items < needs after.stage after.at → used after ≡ used before + length piece → HasRead bytes before → HasRead (bytes ++ piece) after
+ok-read before after bytes piece old new none same reads few all read =
+    let more = piece-read before after bytes piece old new reads few all (no-fault bytes before none read) in
+    subst (λ (f : Option ReadFault). HasJudged (bytes ++ piece) after f) (sym (same ∙ none)) more
+
+pub kept-stops : (before : TraceReader) (bytes : List ℕ) (old new : List Item) (refused : ReadFault) → IsKept (Err refused) → StopsAt before bytes old new refused → Stops before bytes refused old new
+kept-stops before bytes old new (fault.Bad at kind) kept stops = stops
+kept-stops before bytes old new fault.OutOfMemory kept stops = absurd kept

@@ -1,0 +1,9 @@
+use Rattle.nt_read.proofs.Steps.{close-refused, close-turns}
+use Rattle.nt_read.proofs.judge.close.Goals as goal
+
+pub returns-then-unit-ne-END_OBJECT : goal.returns-then-unit-ne-END_OBJECT
+returns-then-unit-ne-END_OBJECT c = λ pending.
+    rw c.bad.ensures (close-refused c.args.at pending c.args.unit.now c.requires c.if-unit-ne-END_OBJECT.true)
+
+pub returns : goal.returns
+returns c = λ pending. close-turns c.args.at pending c.args.unit.now c.requires c.if-unit-ne-END_OBJECT.false
