@@ -1,10 +1,8 @@
 -- Lists that ascend by a key.
-use Rattle.std.proofs.Common.{◌≡◌, ℕ, zero, suc, ◌<◌, ◌≤◌, Bool, true, false, List, [], ◌∷◌, length, refl, ap, sym, ◌∙◌, arith}
-use Rattle.std.specs.Prelude.{slice_index_or, slice_set, nat_lt, ◌==◌, if◌then◌else◌}
+use Rattle.std.proofs.Common.{◌≡◌, ℕ, zero, suc, ◌<◌, ◌≤◌, Bool, List, [], ◌∷◌, length, refl, ap, sym, ◌∙◌, arith}
+use Rattle.std.specs.Prelude.{slice_index_or, slice_set, nat_lt, if◌then◌else◌}
 use Rattle.std.specs.List.{insert}
-use Rattle.std.specs.List.Sorted.{IsNonDecreasingBy}
-use Rattle.std.proofs.lemmas.Bool.{lt-ltb, le-ltb, eqb-true, eqb-false}
-use Rattle.std.proofs.lemmas.List.{get_or-set_same, get_or-set_other}
+use Rattle.std.proofs.lemmas.Bool.{lt-ltb, le-ltb}
 use Rattle.ep_stream.specs.declared.opened.Named.{Named}
 use Rattle.ep_stream.specs.Named.{insert_by, with_thread}
 
@@ -40,23 +38,3 @@ changes_none change thread (n ∷ names) (suc i) within below above =
     let later : names ≡ with_thread change thread names = changes_none change thread names i (omega (arith, within)) (λ k e small. below (suc k) e (omega (arith, small))) (λ e small. above e (omega (arith, small))) in
     ap (λ (ns : List Named). n ∷ ns) later
     ∙ sym (ap (λ (v : Bool). if v then n ∷ with_thread change thread names else (if nat_lt thread n.thread then n ∷ names else change n ∷ names)) (lt-ltb n.thread thread (below 0 n (omega arith))))
-
-same_key : {A : Type 0} (key : A → ℕ) (xs : List A) (i : ℕ) (x : A) → i < length xs → ((d : A) → key x ≡ key (slice_index_or xs i d)) → (k : ℕ) (d : A) → key (slice_index_or (slice_set xs i x) k d) ≡ key (slice_index_or xs k d)
-same_key key xs i x within same k d =
-    elim (k == i) as (λ v. (k == i) ≡ v → key (slice_index_or (slice_set xs i x) k d) ≡ key (slice_index_or xs k d)) [
-      | true ↦ λ is. let e : k ≡ i = eqb-true k i is in
-          ap (λ (j : ℕ). key (slice_index_or (slice_set xs i x) j d)) e
-          ∙ ap key (get_or-set_same xs i x d within)
-          ∙ same d
-          ∙ ap (λ (j : ℕ). key (slice_index_or xs j d)) (sym e)
-      | false ↦ λ is. ap key (get_or-set_other xs i k x d (eqb-false k i is))
-    ]
-    refl
-
--- A list ascends as before where one item is changed and keeps its key.
-pub keeps_rise : {A : Type 0} (key : A → ℕ) (xs : List A) (i : ℕ) (x : A) → i < length xs → length (slice_set xs i x) ≡ length xs → ((d : A) → key x ≡ key (slice_index_or xs i d)) → IsNonDecreasingBy key xs → IsNonDecreasingBy key (slice_set xs i x)
-keeps_rise key xs i x within long same rises a b d le small =
-    let old : key (slice_index_or xs a d) ≤ key (slice_index_or xs b d) = rises a b d le (omega (arith, small, long)) in
-    let left : key (slice_index_or (slice_set xs i x) a d) ≡ key (slice_index_or xs a d) = same_key key xs i x within same a d in
-    let right : key (slice_index_or (slice_set xs i x) b d) ≡ key (slice_index_or xs b d) = same_key key xs i x within same b d in
-    omega (arith, old, left, right)

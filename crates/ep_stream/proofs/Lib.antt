@@ -3,3 +3,5 @@ pub mod Hands
 pub mod Telling
 pub mod Reading
 pub mod Taking
+pub mod Sweep
+pub mod Staying

@@ -67,7 +67,7 @@ entry_is events stacks r def out defined thread number stamp activity related fr
     ∙ ap (λ (x : List ℕ). make out.thread out.number out.stamp out.activity out.related out.frames.now x) (sym payload)
 
 -- A call that was to tell entries after others that were told, and failed.
-pub tells_after : {S : Type 0} (tells : S → Bool) (taken : S → List ℕ) (before : List ℕ) (defs : ℕ → Option EventDef) (info : TraceInfo) (told first entries more : List Entry) (fault : Fault) (writer : TraceWriter S) → Tells {A = Unit {0}} tells taken before defs info (told ++ first) entries (Err fault) writer → Tells {A = Unit {0}} tells taken before defs info told (first ++ (entries ++ more)) (Err fault) writer
+pub tells_after : {S A : Type 0} (tells : S → Bool) (taken : S → List ℕ) (before : List ℕ) (defs : ℕ → Option EventDef) (info : TraceInfo) (told first entries more : List Entry) (fault : Fault) (writer : TraceWriter S) → Tells {A = A} tells taken before defs info (told ++ first) entries (Err fault) writer → Tells {A = A} tells taken before defs info told (first ++ (entries ++ more)) (Err fault) writer
 tells_after tells taken before defs info told first entries more fault writer t =
     record {
       done = first ++ t.done;
@@ -81,14 +81,14 @@ tells_after tells taken before defs info told first entries more fault writer t 
     }
 
 -- A call that told all of its entries after others.
-pub told_after : {S : Type 0} (tells : S → Bool) (taken : S → List ℕ) (before : List ℕ) (defs : ℕ → Option EventDef) (info : TraceInfo) (told first entries : List Entry) (u : Unit {0}) (writer : TraceWriter S) → Tells {A = Unit {0}} tells taken before defs info (told ++ first) entries (Ok u) writer → IsTelling tells taken before defs info (told ++ (first ++ entries)) writer
-told_after tells taken before defs info told first entries u writer t =
+pub told_after : {S A : Type 0} (tells : S → Bool) (taken : S → List ℕ) (before : List ℕ) (defs : ℕ → Option EventDef) (info : TraceInfo) (told first entries : List Entry) (a : A) (writer : TraceWriter S) → Tells tells taken before defs info (told ++ first) entries (Ok a) writer → IsTelling tells taken before defs info (told ++ (first ++ entries)) writer
+told_after tells taken before defs info told first entries a writer t =
     subst (λ (es : List Entry). IsTelling tells taken before defs info es writer)
     (append_assoc told first t.done ∙ ap (λ (es : List Entry). told ++ (first ++ es)) t.all) t.telling
 
 -- A writer that stands for entries has told all of them.
-pub tells_all : {S : Type 0} (tells : S → Bool) (taken : S → List ℕ) (before : List ℕ) (defs : ℕ → Option EventDef) (info : TraceInfo) (told entries : List Entry) (u : Unit {0}) (writer : TraceWriter S) → IsTelling tells taken before defs info (told ++ entries) writer → Tells {A = Unit {0}} tells taken before defs info told entries (Ok u) writer
-tells_all tells taken before defs info told entries u writer telling =
+pub tells_all : {S A : Type 0} (tells : S → Bool) (taken : S → List ℕ) (before : List ℕ) (defs : ℕ → Option EventDef) (info : TraceInfo) (told entries : List Entry) (a : A) (writer : TraceWriter S) → IsTelling tells taken before defs info (told ++ entries) writer → Tells {A = A} tells taken before defs info told entries (Ok a) writer
+tells_all tells taken before defs info told entries a writer telling =
     record { done = entries; front = ([], append-nil entries); telling = telling; all = refl }
 
 -- A definition by its number.
@@ -112,7 +112,7 @@ pub err_is : {A : Type 0} (result : Result A Fault) (fault : Fault) → IsErrAnd
 err_is (Ok a) fault is = absurd is
 err_is (Err other) fault is = ap Err is
 
-on_err : {A X : Type 0} (result : Result A Fault) → X → OnErr result X
+pub on_err : {A X : Type 0} (result : Result A Fault) → X → OnErr result X
 on_err (Ok a) x = tt
 on_err (Err fault) x = x
 
@@ -140,7 +140,7 @@ later_risen : (old mid now : ℕ) → mid ≤ now → HasRisen old mid → HasRi
 later_risen old mid now later (inl less) = inl (omega (arith, later, less))
 later_risen old mid now later (inr full) = inr (omega (arith, later, full))
 
-risen_later : (old mid now : ℕ) → old ≤ mid → HasRisen mid now → HasRisen old now
+pub risen_later : (old mid now : ℕ) → old ≤ mid → HasRisen mid now → HasRisen old now
 risen_later old mid now later (inl less) = inl (omega (arith, later, less))
 risen_later old mid now later (inr full) = inr full
 

@@ -6,3 +6,4 @@ pub mod Named
 pub mod Opened
 pub mod Fates
 pub mod Session
+pub mod Sweep

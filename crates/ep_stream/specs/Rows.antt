@@ -1,5 +1,5 @@
 -- What a session's stream and the rows of a program's threads know of each other (this project's profile).
-use Rattle.std.specs.Prelude.{◌≡◌, ℕ, ◌+◌, ◌<◌, ◌≤◌, ◌&&◌, ◌==◌, if◌then◌else◌, List, length, IsTrue, ◌↔◌}
+use Rattle.std.specs.Prelude.{◌≡◌, ◌≢◌, ℕ, ◌+◌, ◌<◌, ◌≤◌, ◌&&◌, ◌==◌, if◌then◌else◌, List, Option, length, IsTrue, ◌↔◌}
 use Rattle.std.specs.List.{All}
 use Rattle.ep_defs.specs.declared.event.EventDef.{EventDef}
 use Rattle.ep_defs.specs.declared.session.Config.{Config}
@@ -52,6 +52,22 @@ TestsHandsAs old new = (row : ℕ) (hand : HandState) → new row hand ↔ old r
 -- Both tests on marks say the same of each, for each configuration.
 abbrev pub TestsMarksAs : (Config → Marks → Type 0) → (Config → Marks → Type 0) → Type 0
 TestsMarksAs old new = (config : Config) (marks : Marks) → new config marks ↔ old config marks
+
+-- ---- what stays
+
+-- What a row set has of no session stays: how many rows there are, the definitions and the tests.
+pub record KeepsSet {R : Type 0} (count : R → ℕ) (definitions : R → List EventDef) (tests_record : R → Config → ℕ → ℕ → ℕ → Write → Type 0) (tests_hand : R → ℕ → HandState → Type 0) (tests_marks : R → Config → Marks → Type 0) (old new : R) : Type 0 where
+  pub count_is : count new ≡ count old
+  pub definitions_are : definitions new ≡ definitions old
+  pub records : TestsRecordsAs (tests_record old) (tests_record new)
+  pub hands : TestsHandsAs (tests_hand old) (tests_hand new)
+  pub marks : TestsMarksAs (tests_marks old) (tests_marks new)
+
+-- What a row set has of the sessions in other slots stays.
+pub record KeepsSlots {R : Type 0} (expected : R → ℕ → ℕ → Option HandState) (configured : R → ℕ → ℕ → Option Config) (out : R → ℕ → ℕ) (slot : ℕ) (old new : R) : Type 0 where
+  pub hands : (r s : ℕ) → s ≢ slot → expected new r s ≡ expected old r s
+  pub configs : (r s : ℕ) → s ≢ slot → configured new r s ≡ configured old r s
+  pub chunks : (s : ℕ) → s ≢ slot → out new s ≡ out old s
 
 -- ---- batches
 

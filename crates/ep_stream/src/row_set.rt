@@ -53,7 +53,7 @@ pub trait RowSet {
     fn threads(&self) -> u32
         ensures { result ≡ count self.now };
 
-    /// Opens a session in a slot of a row, where none is open. On want of memory none is open there.
+    /// Opens a session in a slot of a row, where none is open. Out of memory it opens none.
     fn attach(
         &mut self,
         alloc: Global,

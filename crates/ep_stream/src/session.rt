@@ -11,9 +11,9 @@ ghost use Rattle.ep_defs.specs.declared.limits.TheConstants.{SESSIONS as SLOTS};
 ghost use Rattle.ep_slot.specs.Hand.{HandState};
 ghost use Rattle.pt_io.specs.Faults.{HasRisen};
 ghost use Rattle.pt_io.specs.Taken.{TookAll, TookPart as TookPartOf};
-ghost use Rattle.nt_write.specs.declared.fault.Fault.TheVariants.{TooLong, WriteFault};
+ghost use Rattle.nt_write.specs.declared.fault.Fault.TheVariants.{TooLong, WriteFault, OutOfMemory};
 ghost use Rattle.nt_write.specs.Writer.{point_of};
-ghost use Rattle.ep_stream.specs.Rows.{IsRow};
+ghost use Rattle.ep_stream.specs.Rows.{IsRow, KeepsSet, KeepsSlots};
 ghost use Rattle.ep_stream.specs.Steps.{TellsStep, CanOpen, CanClose, Opens, Steals, Closes, GivesBack, Stays};
 ghost use Rattle.ep_stream.specs.Telling.{IsTelling, IsFaulty, entries_of};
 ghost use Rattle.ep_stream.specs.Named.{still_open, numbers_of};
@@ -86,6 +86,7 @@ struct Place {
 }
 
 impl<S: Sink> Session<S> {
+    ghost use Rattle.ep_stream.specs.Sweep.{Swept, SweptRow, MayFail, TellsTakings, entries_in, sweep_entries, point_after, named_behind};
     ghost use Rattle.ep_stream.specs.Session.{writer_of, sink_of, fault_of, hand_on, opened_count, rest_of, new_rest, WasOpened, AreRowsOf, SameHands, Started, TookStart, Attached, Stolen, Detached, Writes, Ended};
 
     /// Begins the stream of a session: writes the reply to who asked for it, if there is one, and the stream's start. It
@@ -105,6 +106,9 @@ impl<S: Sink> Session<S> {
         ensures part { IfErr result (λ failed. TookStart S.tells_taken S.taken reply.now info.now sink failed.0) }
         ensures write_fault { IfErr result (λ failed. failed.1 ≡ WriteFault → HasRisen (S.write_faults sink) (S.write_faults failed.0)) }
         ensures not_long { IfErr result (λ failed. failed.1 ≢ TooLong) }
+        ensures memory { IfErr result (λ failed. failed.1 ≡ OutOfMemory → S.write_faults failed.0 ≡ S.write_faults sink) }
+        ensures wrote { IfOk result (λ session. S.write_faults (sink_of session) ≡ S.write_faults sink) }
+        ensures later { IfErr result (λ failed. S.write_faults sink ≤ S.write_faults failed.0) }
         ensures hands { IfOk result (λ session. (row : ℕ) → hand_on session row ≡ None) }
         ensures rest { IfOk result (λ session. rest_of session ≡ new_rest seat config) }
         ensures count { IfOk result (λ session. opened_count session ≡ 0) }
@@ -127,8 +131,8 @@ impl<S: Sink> Session<S> {
         })
     }
 
-    /// Opens the session on a row where it is not open, for a thread on which it was never opened. On want of memory it
-    /// is as before.
+    /// Opens the session on a row where it is not open, for a thread on which it was never opened. Where it is out of
+    /// memory it is as before.
     pub fn attach<R: RowSet>(
         &mut self,
         alloc: Global,
@@ -150,6 +154,8 @@ impl<S: Sink> Session<S> {
         ensures none_count { OnErr result (opened_count self.new ≡ opened_count self.old) }
         ensures writer { writer_of self.new ≡ writer_of self.old }
         ensures rows { AreRowsOf R.expected R.configured R.out rows.new self.new }
+        ensures set { KeepsSet R.count R.definitions R.tests_record R.tests_hand R.tests_marks rows.old rows.new }
+        ensures slots { KeepsSlots R.expected R.configured R.out (rest_of self.old).seat.slot rows.old rows.new }
     {
         self.opened.reserve(row)?;
         let hand = rows.attach(
@@ -187,6 +193,8 @@ impl<S: Sink> Session<S> {
         ensures faulty { IsFaulty S.write_faults (writer_of self.old) (writer_of self.new) result }
         ensures count { opened_count self.new ≡ opened_count self.old }
         ensures rows { AreRowsOf R.expected R.configured R.out rows.new self.new }
+        ensures set { KeepsSet R.count R.definitions R.tests_record R.tests_hand R.tests_marks rows.old rows.new }
+        ensures slots { KeepsSlots R.expected R.configured R.out (rest_of self.old).seat.slot rows.old rows.new }
     {
         let mut hand = self.opened.lift(row);
         let before = hand.taken();
@@ -217,6 +225,8 @@ impl<S: Sink> Session<S> {
         ensures none { (rest_of self.old).in_hand ≡ 0 → rows.new ≡ rows.old }
         ensures told { 0 < (rest_of self.old).in_hand → TellsStep (GivesBack (rest_of self.old).seat.slot (rest_of self.old).in_hand) (R.rows rows.old) (R.rows rows.new) }
         ensures rows { AreRowsOf R.expected R.configured R.out rows.new self.new }
+        ensures set { KeepsSet R.count R.definitions R.tests_record R.tests_hand R.tests_marks rows.old rows.new }
+        ensures slots { KeepsSlots R.expected R.configured R.out (rest_of self.old).seat.slot rows.old rows.new }
     {
         if let Some(batch) = self.batch.take() {
             if batch.chain.count() > 0 {
@@ -251,6 +261,95 @@ impl<S: Sink> Session<S> {
         Ok(())
     }
 
+    /// Takes all that is pending of each row on which the session is open, in the order of rows, writes it, and gives it
+    /// back before it goes on. Where there was a record it ends with a point. After a fault it gives back what it took
+    /// and takes nothing more. Answers how many records there were.
+    pub fn sweep<R: RowSet>(
+        &mut self,
+        alloc: Global,
+        rows: &mut R,
+        stamp: u64,
+        events: &[EventDef],
+    ) -> Result<u64, Fault>
+        requires empty { (rest_of self.old).in_hand ≡ 0 }
+        requires rows { AreRowsOf R.expected R.configured R.out rows.old self.old }
+        requires events { events.now ≡ R.definitions rows.old }
+        requires few { length events.now ≤ EVENTS }
+        requires valid { IsTrue (list_all is_valid_event events.now) }
+        requires distinct { AreDistinct (definition_at events.now) }
+        ensures swept { Swept
+            (R.tests_record rows.old (rest_of self.old).config)
+            (λ takings. TellsTakings (rest_of self.old).seat.slot takings (R.rows rows.old) (R.rows rows.new))
+            (λ takings. Writes S.tells_taken S.taken events.now (sweep_entries events.now (rest_of self.old).config.stackwalk stamp (rest_of self.old).named takings) self.old self.new result)
+            events.now (R.count rows.old) self.old self.new result }
+        ensures faulty { IsFaulty S.write_faults (writer_of self.old) (writer_of self.new) result }
+        ensures count { opened_count self.new ≡ opened_count self.old }
+        ensures rows { AreRowsOf R.expected R.configured R.out rows.new self.new }
+        ensures set { KeepsSet R.count R.definitions R.tests_record R.tests_hand R.tests_marks rows.old rows.new }
+        ensures slots { KeepsSlots R.expected R.configured R.out (rest_of self.old).seat.slot rows.old rows.new }
+    {
+        let mut count = 0;
+        for place in 0..rows.threads() {
+            let taken = self.sweep_row(alloc, rows, place + 1, events)?;
+            count += u64::from(taken);
+        }
+        self.end_sweep(alloc, stamp, count)?;
+        Ok(count)
+    }
+
+    // Takes all that a row has pending, if the session is open there, writes it, and gives it back, also after a fault.
+    fn sweep_row<R: RowSet>(
+        &mut self,
+        alloc: Global,
+        rows: &mut R,
+        row: u32,
+        events: &[EventDef],
+    ) -> Result<u32, Fault>
+        requires row { 0 < row }
+        requires empty { (rest_of self.old).in_hand ≡ 0 }
+        requires rows { AreRowsOf R.expected R.configured R.out rows.old self.old }
+        requires events { events.now ≡ R.definitions rows.old }
+        requires few { length events.now ≤ EVENTS }
+        requires valid { IsTrue (list_all is_valid_event events.now) }
+        requires distinct { AreDistinct (definition_at events.now) }
+        ensures swept { SweptRow
+            (R.tests_record rows.old (rest_of self.old).config)
+            (λ takings. TellsTakings (rest_of self.old).seat.slot takings (R.rows rows.old) (R.rows rows.new))
+            (λ takings. Writes S.tells_taken S.taken events.now (entries_in events.now (rest_of self.old).config.stackwalk takings) self.old self.new result)
+            events.now row self.old self.new result }
+        ensures faulty { MayFail S.write_faults (writer_of self.old) (writer_of self.new) result }
+        ensures count { opened_count self.new ≡ opened_count self.old }
+        ensures rows { AreRowsOf R.expected R.configured R.out rows.new self.new }
+        ensures set { KeepsSet R.count R.definitions R.tests_record R.tests_hand R.tests_marks rows.old rows.new }
+        ensures slots { KeepsSlots R.expected R.configured R.out (rest_of self.old).seat.slot rows.old rows.new }
+    {
+        if !self.opened.is_open(row) {
+            return Ok(0);
+        }
+        let taken = self.steal(alloc, rows, row, events);
+        self.give(rows);
+        taken
+    }
+
+    // Writes a point where a sweep took records. A session that has failed answers its fault.
+    fn end_sweep(&mut self, alloc: Global, stamp: u64, taken: u64) -> Result<(), Fault>
+        ensures writes { (events : List EventValue) → Writes S.tells_taken S.taken events (point_after taken stamp (rest_of self.old).named) self.old self.new result }
+        ensures others { rest_of self.new ≡ record (rest_of self.old) { named = (rest_of self.new).named } }
+        ensures named { OnOk result ((rest_of self.new).named ≡ named_behind taken (rest_of self.old).named) }
+        ensures unnamed { OnErr result ((rest_of self.new).named ≡ (rest_of self.old).named) }
+        ensures hands { SameHands self.old self.new }
+        ensures faulty { IsFaulty S.write_faults (writer_of self.old) (writer_of self.new) result }
+        ensures count { opened_count self.new ≡ opened_count self.old }
+    {
+        if let Some(fault) = self.writer.failed() {
+            return Err(fault);
+        }
+        if taken == 0 {
+            return Ok(());
+        }
+        self.point(alloc, stamp)
+    }
+
     /// Closes the session on a row, and writes what it still had pending. That stays in hand until `give`, and what the
     /// session had of the row's thread is kept for the end, both also after a fault.
     pub fn detach<R: RowSet>(
@@ -277,6 +376,8 @@ impl<S: Sink> Session<S> {
         ensures faulty { IsFaulty S.write_faults (writer_of self.old) (writer_of self.new) result }
         ensures count { opened_count self.new ≡ opened_count self.old }
         ensures rows { AreRowsOf R.expected R.configured R.out rows.new self.new }
+        ensures set { KeepsSet R.count R.definitions R.tests_record R.tests_hand R.tests_marks rows.old rows.new }
+        ensures slots { KeepsSlots R.expected R.configured R.out (rest_of self.old).seat.slot rows.old rows.new }
     {
         let hand = self.opened.lift(row);
         let thread = hand.thread();
@@ -335,6 +436,7 @@ fn write_reply<S: Sink>(sink: &mut S, reply: &[u8]) -> Result<(), Fault>
     ensures wrote { OnOk result (S.write_faults sink.new ≡ S.write_faults sink.old) }
     ensures write_fault { OnErr result (HasRisen (S.write_faults sink.old) (S.write_faults sink.new)) }
     ensures fault { IfErr result (λ fault. fault ≡ WriteFault) }
+    ensures later { S.write_faults sink.old ≤ S.write_faults sink.new }
 {
     if !reply.is_empty() {
         sink.write(reply)?;

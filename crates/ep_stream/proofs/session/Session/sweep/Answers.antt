@@ -1,0 +1,259 @@
+use Rattle.std.proofs.Common.{◌≡◌, ℕ, suc, ◌+◌, List, [], ◌++◌, refl, ap, sym, ◌∙◌, subst, arith}
+use Rattle.std.specs.Prelude.{Result, Ok, Err, IfOk, OnOk}
+use Rattle.std.specs.List.{All}
+use Rattle.std.proofs.lemmas.List.{append-nil}
+use Rattle.ep_defs.specs.Definitions.{definition_at}
+use Rattle.ep_defs.specs.Entry.{Entry}
+use Rattle.ep_stream.specs.Session.{Rest, hand_on, rest_of, writer_of}
+use Rattle.nt_write.specs.declared.fault.Fault.{Fault}
+use Rattle.ep_stream.specs.declared.opened.Named.{Named}
+use Rattle.ep_stream.specs.Sweep.{Taking, entries_in, named_after, named_behind, open_rows, point_after, records_in, rows_of}
+use Rattle.ep_stream.specs.Telling.{IsFaulty, IsTelling, Tells}
+use Rattle.ep_stream.proofs.Staying.{set_stays, set_more, slots_stay, slots_more}
+use Rattle.ep_stream.proofs.Telling.{told_after, tells_all, err_is, on_err}
+use Rattle.ep_stream.proofs.Sweep.{hands_stay, rows_at, rows_front, next_rows, all_within, taken_next, tells_next, tells_behind, tells_last, entries_in-append, records_in-append, failed_after, faulty_after, faulty_ok, faulty_err, rows_same}
+use Rattle.ep_stream.proofs.session.Session.sweep.Goals as goal
+
+pub loop-place-init : goal.loop-place-init
+loop-place-init g c =
+    let rows = c.args.rows.now in
+    record {
+      takings = [];
+      rows_are = refl;
+      below = λ k d small. absurd (omega (arith, small));
+      within = omega arith;
+      taken = record {
+        were = λ k d small. absurd (omega (arith, small));
+        batched = λ k d small. absurd (omega (arith, small));
+        told = refl;
+        hands = λ row. refl;
+        rest = ap (λ (n : ℕ). record (rest_of c.args.self.now) { in_hand = n }) c.requires.empty;
+      };
+      telling = λ before info told now. subst (λ (es : List Entry). IsTelling g.S.Sink.tells_taken g.S.Sink.taken before (definition_at c.args.events.now) info es (writer_of c.args.self.now)) (sym (append-nil told)) now;
+      fault = refl;
+      later = omega arith;
+      counted = refl;
+      small = omega arith;
+      opened = refl;
+      rows = c.requires.rows;
+      set = set_stays g.R.RowSet.count g.R.RowSet.definitions g.R.RowSet.tests_record g.R.RowSet.tests_hand g.R.RowSet.tests_marks rows;
+      slots = slots_stay g.R.RowSet.expected g.R.RowSet.configured g.R.RowSet.out (rest_of c.args.self.now).seat.slot rows;
+    }
+
+pub sweep_row-requires-clause-empty : goal.sweep_row-requires-clause-empty
+sweep_row-requires-clause-empty g c = ap (λ (r : Rest). r.in_hand) c.loop-place.invariant.taken.rest
+
+pub sweep_row-requires-clause-events : goal.sweep_row-requires-clause-events
+sweep_row-requires-clause-events g c = c.requires.events ∙ sym c.loop-place.invariant.set.definitions_are
+
+pub loop-place-preserved : goal.loop-place-preserved
+loop-place-preserved g c =
+    let inv = c.loop-place.invariant in
+    let old = c.args.self.now in
+    let mid = c.loop-place.self in
+    let new = c.sweep_row.new.self in
+    let rows = c.args.rows.now in
+    let now = c.loop-place.rows in
+    let after = c.sweep_row.new.rows in
+    let events = c.args.events.now in
+    let place = c.loop-place.place in
+    let m = c.in_ok-taken.ensures.swept in
+    let first : List Taking = inv.takings in
+    let more : List Taking = m.takings in
+    let row_is : place + 1 ≡ suc place = omega arith in
+    let here : All (λ t. t.row ≡ place + 1) more = rows_at more (place + 1) _ m.rows_are in
+    let slot_is : (rest_of mid).seat.slot ≡ (rest_of old).seat.slot = ap (λ (r : Rest). r.seat.slot) inv.taken.rest in
+    let hand_is : hand_on mid (place + 1) ≡ hand_on old (place + 1) =
+    inv.taken.hands (place + 1)
+    ∙ hands_stay (hand_on old) first (place + 1) (λ k d small. let h = inv.below k d small in omega (arith, h))
+    in
+    let stacks = (rest_of old).config.stackwalk in
+    record {
+      takings = first ++ more;
+      rows_are = next_rows (hand_on old) (hand_on mid) first more place (place + 1) row_is inv.rows_are m.rows_are hand_is;
+      below = all_within first more place (place + 1) row_is inv.below here;
+      within = (let test = c.loop-place-test.true in let end = c.threads-place-end.ensures in omega (arith, test, end));
+      taken = taken_next g.R.RowSet.tests_record g.R.RowSet.rows events first more place (place + 1) old mid new rows now after row_is inv.below here inv.set.records inv.taken m.taken;
+      telling = λ before info told t.
+          subst (λ (es : List Entry). IsTelling g.S.Sink.tells_taken g.S.Sink.taken before (definition_at events) info (told ++ es) (writer_of new))
+          (sym (entries_in-append events stacks first more))
+          (told_after g.S.Sink.tells_taken g.S.Sink.taken before (definition_at events) info told (entries_in events stacks first) (entries_in events stacks more) c.in_ok-taken.taken (writer_of new)
+          (tells_next g.S.Sink.tells_taken g.S.Sink.taken before info told events first more old mid _ (Ok c.in_ok-taken.taken) (writer_of new) inv.taken.rest
+          (m.writes before info (told ++ entries_in events stacks first) (inv.telling before info told t))));
+      fault = c.in_ok-taken.ensures.faulty.same ∙ inv.fault;
+      later = (let a = inv.later in let b = c.in_ok-taken.ensures.faulty.later in omega (arith, a, b));
+      counted = (let a = inv.counted in let b = m.counted in let e = records_in-append first more in omega (arith, a, b, e));
+      small = (let a = inv.small in omega (arith, a));
+      opened = c.in_ok-taken.ensures.count ∙ inv.opened;
+      rows = c.in_ok-taken.ensures.rows;
+      set = set_more g.R.RowSet.count g.R.RowSet.definitions g.R.RowSet.tests_record g.R.RowSet.tests_hand g.R.RowSet.tests_marks rows now after inv.set c.in_ok-taken.ensures.set;
+      slots = slots_more g.R.RowSet.expected g.R.RowSet.configured g.R.RowSet.out (rest_of old).seat.slot (rest_of mid).seat.slot rows now after slot_is inv.slots c.in_ok-taken.ensures.slots;
+    }
+
+pub returns-in_err-taken-clause-swept : goal.returns-in_err-taken-clause-swept
+returns-in_err-taken-clause-swept g c =
+    let inv = c.loop-place.invariant in
+    let old = c.args.self.now in
+    let mid = c.loop-place.self in
+    let new = c.sweep_row.new.self in
+    let rows = c.args.rows.now in
+    let now = c.loop-place.rows in
+    let after = c.sweep_row.new.rows in
+    let events = c.args.events.now in
+    let place = c.loop-place.place in
+    let count : ℕ = g.R.RowSet.count rows in
+    let m = c.in_err-taken.ensures.swept in
+    let first : List Taking = inv.takings in
+    let more : List Taking = m.takings in
+    let fault : Fault = c.in_err-taken.field-0.0 in
+    let result_is : c.from_residual.result ≡ Err fault = err_is _ _ c.from_residual.ensures.1 in
+    let row_is : place + 1 ≡ suc place = omega arith in
+    let here : All (λ t. t.row ≡ place + 1) more = rows_at more (place + 1) _ m.rows_are in
+    let hand_is : hand_on mid (place + 1) ≡ hand_on old (place + 1) =
+    inv.taken.hands (place + 1)
+    ∙ hands_stay (hand_on old) first (place + 1) (λ k d small. let h = inv.below k d small in omega (arith, h))
+    in
+    let stacks = (rest_of old).config.stackwalk in
+    let rows_is : rows_of (first ++ more) ≡ open_rows (hand_on old) (place + 1) = next_rows (hand_on old) (hand_on mid) first more place (place + 1) row_is inv.rows_are m.rows_are hand_is in
+    let front = rows_front (hand_on old) (place + 1) count (let test = c.loop-place-test.true in let end = c.threads-place-end.ensures in omega (arith, test, end)) in
+    let done = taken_next g.R.RowSet.tests_record g.R.RowSet.rows events first more place (place + 1) old mid new rows now after row_is inv.below here inv.set.records inv.taken m.taken in
+    let last : List Entry = point_after (records_in (first ++ more)) c.args.stamp (named_after (rest_of old).named (first ++ more)) in
+    record {
+      takings = first ++ more;
+      whole = subst (λ (r : Result ℕ Fault). OnOk r (rows_of (first ++ more) ≡ open_rows (hand_on old) count)) (sym result_is) tt;
+      front = (front.0, ap (λ (xs : List ℕ). xs ++ front.0) rows_is ∙ front.1);
+      were = done.were;
+      batched = done.batched;
+      told = done.told;
+      writes = λ before info told t.
+          subst (λ (r : Result ℕ Fault). Tells g.S.Sink.tells_taken g.S.Sink.taken before (definition_at events) info told (entries_in events stacks (first ++ more) ++ last) r (writer_of new)) (sym result_is)
+          (subst (λ (es : List Entry). Tells {A = ℕ} g.S.Sink.tells_taken g.S.Sink.taken before (definition_at events) info told (es ++ last) (Err fault) (writer_of new)) (sym (entries_in-append events stacks first more))
+          (tells_behind {A = ℕ} g.S.Sink.tells_taken g.S.Sink.taken before (definition_at events) info told (entries_in events stacks first) (entries_in events stacks more) last fault (writer_of new)
+          (tells_next {A = ℕ} g.S.Sink.tells_taken g.S.Sink.taken before info told events first more old mid _ (Err fault) (writer_of new) inv.taken.rest
+          (m.writes before info (told ++ entries_in events stacks first) (inv.telling before info told t)))));
+      hands = done.hands;
+      rest = done.rest ∙ ap (λ (ns : List Named). record (rest_of old) { named = ns; in_hand = 0 }) (sym (ap (λ (r : Rest). r.named) done.rest));
+      named = subst (λ (r : Result ℕ Fault). OnOk r ((rest_of new).named ≡ named_behind (records_in (first ++ more)) (named_after (rest_of old).named (first ++ more)))) (sym result_is) tt;
+      unnamed = on_err c.from_residual.result (ap (λ (r : Rest). r.named) done.rest);
+      counted = subst (λ (r : Result ℕ Fault). IfOk r (λ n. n ≡ records_in (first ++ more))) (sym result_is) tt;
+    }
+
+pub returns-in_err-taken-clause-faulty : goal.returns-in_err-taken-clause-faulty
+returns-in_err-taken-clause-faulty g c =
+    let inv = c.loop-place.invariant in
+    subst (λ (r : Result ℕ Fault). IsFaulty g.S.Sink.write_faults (writer_of c.args.self.now) (writer_of c.sweep_row.new.self) r) (sym (err_is _ _ c.from_residual.ensures.1))
+    (failed_after g.S.Sink.write_faults (writer_of c.args.self.now) (writer_of c.loop-place.self) (writer_of c.sweep_row.new.self) c.in_err-taken.field-0.0 inv.fault inv.later c.in_err-taken.ensures.faulty)
+
+pub returns-in_err-taken-clause-set : goal.returns-in_err-taken-clause-set
+returns-in_err-taken-clause-set g c =
+    set_more g.R.RowSet.count g.R.RowSet.definitions g.R.RowSet.tests_record g.R.RowSet.tests_hand g.R.RowSet.tests_marks c.args.rows.now c.loop-place.rows c.sweep_row.new.rows c.loop-place.invariant.set c.in_err-taken.ensures.set
+
+pub returns-in_err-taken-clause-slots : goal.returns-in_err-taken-clause-slots
+returns-in_err-taken-clause-slots g c =
+    slots_more g.R.RowSet.expected g.R.RowSet.configured g.R.RowSet.out (rest_of c.args.self.now).seat.slot (rest_of c.loop-place.self).seat.slot c.args.rows.now c.loop-place.rows c.sweep_row.new.rows
+    (ap (λ (r : Rest). r.seat.slot) c.loop-place.invariant.taken.rest) c.loop-place.invariant.slots c.in_err-taken.ensures.slots
+
+pub returns-clause-swept : goal.returns-clause-swept
+returns-clause-swept g c =
+    let inv = c.loop-place.invariant in
+    let old = c.args.self.now in
+    let mid = c.loop-place.self in
+    let new = c.end_sweep.new.self in
+    let events = c.args.events.now in
+    let count : ℕ = g.R.RowSet.count c.args.rows.now in
+    let first : List Taking = inv.takings in
+    let names = (rest_of old).named in
+    let stacks = (rest_of old).config.stackwalk in
+    let e = c.in_ok-end_sweep.ensures in
+    let named_is : (rest_of mid).named ≡ named_after names first = ap (λ (r : Rest). r.named) inv.taken.rest in
+    let last : List Entry = point_after c.loop-place.count c.args.stamp (rest_of mid).named in
+    let last_is : last ≡ point_after (records_in first) c.args.stamp (named_after names first) =
+    ap (λ (n : ℕ). point_after n c.args.stamp (rest_of mid).named) inv.counted
+    ∙ ap (λ (ns : List Named). point_after (records_in first) c.args.stamp ns) named_is
+    in
+    let place_is : c.loop-place.place ≡ count = (let test = c.loop-place-test.false in let end = c.threads-place-end.ensures in let within = inv.within in omega (arith, test, end, within)) in
+    let whole : rows_of first ≡ open_rows (hand_on old) count = inv.rows_are ∙ ap (open_rows (hand_on old)) place_is in
+    record {
+      takings = first;
+      whole = whole;
+      front = ([], append-nil (rows_of first) ∙ whole);
+      were = inv.taken.were;
+      batched = inv.taken.batched;
+      told = inv.taken.told;
+      writes = λ before info told t.
+          subst (λ (es : List Entry). Tells {A = ℕ} g.S.Sink.tells_taken g.S.Sink.taken before (definition_at events) info told (entries_in events stacks first ++ es) (Ok c.loop-place.count) (writer_of new)) last_is
+          (tells_all g.S.Sink.tells_taken g.S.Sink.taken before (definition_at events) info told (entries_in events stacks first ++ last) c.loop-place.count (writer_of new)
+          (told_after g.S.Sink.tells_taken g.S.Sink.taken before (definition_at events) info told (entries_in events stacks first) last c.in_ok-end_sweep.field-0 (writer_of new)
+          (e.writes events before info (told ++ entries_in events stacks first) (inv.telling before info told t))));
+      hands = λ row. e.hands row ∙ inv.taken.hands row;
+      rest = e.others ∙ ap (λ (r : Rest). record r { named = (rest_of new).named }) inv.taken.rest;
+      named = e.named
+          ∙ ap (λ (n : ℕ). named_behind n (rest_of mid).named) inv.counted
+          ∙ ap (λ (ns : List Named). named_behind (records_in first) ns) named_is;
+      unnamed = tt;
+      counted = inv.counted;
+    }
+
+pub returns-clause-faulty : goal.returns-clause-faulty
+returns-clause-faulty g c =
+    let inv = c.loop-place.invariant in
+    faulty_ok g.S.Sink.write_faults (writer_of c.args.self.now) (writer_of c.end_sweep.new.self) c.in_ok-end_sweep.field-0 c.loop-place.count
+    (faulty_after g.S.Sink.write_faults (writer_of c.args.self.now) (writer_of c.loop-place.self) (writer_of c.end_sweep.new.self) (Ok c.in_ok-end_sweep.field-0) inv.fault inv.later c.in_ok-end_sweep.ensures.faulty)
+
+pub returns-clause-rows : goal.returns-clause-rows
+returns-clause-rows g c =
+    rows_same g.R.RowSet.expected g.R.RowSet.configured g.R.RowSet.out c.loop-place.rows c.loop-place.self c.end_sweep.new.self
+    c.in_ok-end_sweep.ensures.hands c.in_ok-end_sweep.ensures.others c.loop-place.invariant.rows
+
+pub returns-in_err-end_sweep-clause-swept : goal.returns-in_err-end_sweep-clause-swept
+returns-in_err-end_sweep-clause-swept g c =
+    let inv = c.loop-place.invariant in
+    let old = c.args.self.now in
+    let mid = c.loop-place.self in
+    let new = c.end_sweep.new.self in
+    let events = c.args.events.now in
+    let count : ℕ = g.R.RowSet.count c.args.rows.now in
+    let first : List Taking = inv.takings in
+    let names = (rest_of old).named in
+    let stacks = (rest_of old).config.stackwalk in
+    let e = c.in_err-end_sweep.ensures in
+    let fault : Fault = c.in_err-end_sweep.field-0.0 in
+    let result_is : c.from_residual-in_err-end_sweep.result ≡ Err fault = err_is _ _ c.from_residual-in_err-end_sweep.ensures.1 in
+    let named_is : (rest_of mid).named ≡ named_after names first = ap (λ (r : Rest). r.named) inv.taken.rest in
+    let last : List Entry = point_after c.loop-place.count c.args.stamp (rest_of mid).named in
+    let last_is : last ≡ point_after (records_in first) c.args.stamp (named_after names first) =
+    ap (λ (n : ℕ). point_after n c.args.stamp (rest_of mid).named) inv.counted
+    ∙ ap (λ (ns : List Named). point_after (records_in first) c.args.stamp ns) named_is
+    in
+    let place_is : c.loop-place.place ≡ count = (let test = c.loop-place-test.false in let end = c.threads-place-end.ensures in let within = inv.within in omega (arith, test, end, within)) in
+    let whole : rows_of first ≡ open_rows (hand_on old) count = inv.rows_are ∙ ap (open_rows (hand_on old)) place_is in
+    record {
+      takings = first;
+      whole = subst (λ (r : Result ℕ Fault). OnOk r (rows_of first ≡ open_rows (hand_on old) count)) (sym result_is) tt;
+      front = ([], append-nil (rows_of first) ∙ whole);
+      were = inv.taken.were;
+      batched = inv.taken.batched;
+      told = inv.taken.told;
+      writes = λ before info told t.
+          subst (λ (r : Result ℕ Fault). Tells g.S.Sink.tells_taken g.S.Sink.taken before (definition_at events) info told (entries_in events stacks first ++ point_after (records_in first) c.args.stamp (named_after names first)) r (writer_of new)) (sym result_is)
+          (subst (λ (es : List Entry). Tells {A = ℕ} g.S.Sink.tells_taken g.S.Sink.taken before (definition_at events) info told (entries_in events stacks first ++ es) (Err fault) (writer_of new)) last_is
+          (tells_last {A = Unit {0}} {B = ℕ} g.S.Sink.tells_taken g.S.Sink.taken before (definition_at events) info told (entries_in events stacks first) last fault (writer_of new)
+          (e.writes events before info (told ++ entries_in events stacks first) (inv.telling before info told t))));
+      hands = λ row. e.hands row ∙ inv.taken.hands row;
+      rest = e.others ∙ ap (λ (r : Rest). record r { named = (rest_of new).named }) inv.taken.rest;
+      named = subst (λ (r : Result ℕ Fault). OnOk r ((rest_of new).named ≡ named_behind (records_in first) (named_after names first))) (sym result_is) tt;
+      unnamed = on_err c.from_residual-in_err-end_sweep.result (e.unnamed ∙ named_is);
+      counted = subst (λ (r : Result ℕ Fault). IfOk r (λ n. n ≡ records_in first)) (sym result_is) tt;
+    }
+
+pub returns-in_err-end_sweep-clause-faulty : goal.returns-in_err-end_sweep-clause-faulty
+returns-in_err-end_sweep-clause-faulty g c =
+    let inv = c.loop-place.invariant in
+    let fault : Fault = c.in_err-end_sweep.field-0.0 in
+    faulty_err {A = Unit {0}} g.S.Sink.write_faults (writer_of c.args.self.now) (writer_of c.end_sweep.new.self) (Err fault) c.from_residual-in_err-end_sweep.result fault refl (err_is _ _ c.from_residual-in_err-end_sweep.ensures.1)
+    (faulty_after g.S.Sink.write_faults (writer_of c.args.self.now) (writer_of c.loop-place.self) (writer_of c.end_sweep.new.self) (Err fault) inv.fault inv.later c.in_err-end_sweep.ensures.faulty)
+
+pub returns-in_err-end_sweep-clause-rows : goal.returns-in_err-end_sweep-clause-rows
+returns-in_err-end_sweep-clause-rows g c =
+    rows_same g.R.RowSet.expected g.R.RowSet.configured g.R.RowSet.out c.loop-place.rows c.loop-place.self c.end_sweep.new.self
+    c.in_err-end_sweep.ensures.hands c.in_err-end_sweep.ensures.others c.loop-place.invariant.rows
