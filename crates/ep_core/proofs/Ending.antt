@@ -3,6 +3,7 @@ use Rattle.std.proofs.Common.{◌≡◌, ℕ, Option, Some, List, ap, subst}
 use Rattle.ep_defs.specs.declared.event.EventDef.{EventDef}
 use Rattle.ep_defs.specs.declared.session.TraceInfo.{TraceInfo}
 use Rattle.nt_blocks.specs.Ordered.{kinds_of}
+use Rattle.nt_whole.specs.Reading.{IsReadAs}
 use Rattle.nt_write.specs.Canonical.{IsCanonical}
 use Rattle.ep_model.specs.History.{Past}
 use Rattle.ep_model.specs.today.Entries.{entries}
@@ -13,11 +14,13 @@ use Rattle.ep_core.specs.Streams.{IsStreamOf}
 
 -- The items of a canonical stream of faithful entries tell of each thread what the session admitted.
 pub stream_of : (events : List EventDef) (info : TraceInfo) (session : ℕ) (past : Past) (bytes : List ℕ) → AreFaithful (shares_of events session past no_refusals) (entries events session past)
-    → IsCanonical info (entries events session past) bytes → IsStreamOf events info session past bytes
-stream_of events info session past bytes faithful canonical =
+    → (canonical : IsCanonical info (entries events session past) bytes) → IsReadAs info (entries events session past) canonical.items bytes → IsStreamOf events info session past bytes
+stream_of events info session past bytes faithful canonical reading =
     let last = canonical.ended faithful.front (record { stamp = faithful.stamp; threads = totals (shares_of events session past no_refusals) }) faithful.ended in
     record {
       canonical = canonical;
+      found = reading.found;
+      ordered = reading.ordered;
       faithful = record {
         info = info;
         others = kinds_of canonical.read.others;

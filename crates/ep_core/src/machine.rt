@@ -21,6 +21,7 @@ use ep_defs::limits::THREADS;
 use ep_defs::{Config, EventDef, Marks, TraceInfo, Write, admits};
 use ep_model::today::{finished_sessions_are_faithful, other_sessions_steps_do_not_matter};
 use ep_model::{Step, Unlawful};
+use nt_whole::a_canonical_stream_is_read_whole;
 use std::alloc::{AllocError, Global};
 use std::collections::BTreeMap;
 
@@ -172,6 +173,7 @@ impl Machine {
             → IfSome result (λ bytes. IsCanonical info (entries events session (only session past)) bytes.now) }
     {
         finished_sessions_are_faithful();
+        a_canonical_stream_is_read_whole();
         other_sessions_steps_do_not_matter();
         let ended = self.ended.get(&session)?;
         Some(ended.sink.taken())
