@@ -10,7 +10,7 @@ use Rattle.nt_read.specs.declared.fault.ReadKind.TheVariants as kind
 use Rattle.nt_read.specs.declared.reader.TraceReader.{TraceReader}
 use Rattle.nt_read.specs.declared.stage.Stage.{Stage}
 use Rattle.nt_read.specs.declared.stage.Stage.TheVariants as stage
-use Rattle.nt_read.specs.Answers.{Gives, IsKept, answer_of, end_answer, fault_of, items_of}
+use Rattle.nt_read.specs.Answers.{Gives, IsKept, StaysRefused, answer_of, end_answer, fault_of, items_of}
 use Rattle.nt_read.specs.Reading.{GoesOn, HasJudged, HasRead, IsRefused, used}
 use Rattle.nt_read.specs.Stages.{goes_on, needs, waiting}
 use Rattle.nt_read.specs.state.Reads.{Reads, Stops, StopsAt, from}
@@ -262,3 +262,39 @@ ok-read before after bytes piece old new none same reads few all read =
 pub kept-stops : (before : TraceReader) (bytes : List ℕ) (old new : List Item) (refused : ReadFault) → IsKept (Err refused) → StopsAt before bytes old new refused → Stops before bytes refused old new
 kept-stops before bytes old new (fault.Bad at kind) kept stops = stops
 kept-stops before bytes old new fault.OutOfMemory kept stops = absurd kept
+
+-- ---- after a refusal
+
+waiting-not-bad : (here : Stage) (told items : List Item) (why : Refusal) → waiting here told ≡ Bad why items → ⊥
+waiting-not-bad stage.Head told items why e = cc
+waiting-not-bad (stage.Tag has_trace) told items why e = cc
+waiting-not-bad (stage.Begun has_trace) told items why e = cc
+waiting-not-bad (stage.Name has_trace n version least) told items why e = cc
+waiting-not-bad stage.Trace told items why e = cc
+waiting-not-bad (stage.Size block) told items why e = cc
+waiting-not-bad (stage.Padding block size) told items why e = cc
+waiting-not-bad (stage.Body block size) told items why e = cc
+waiting-not-bad stage.Close told items why e = cc
+waiting-not-bad stage.Ended told items why e = cc
+
+-- A reader without a fault has refused nothing.
+pub none-refused : {A : Type 0} (reader : TraceReader) (bytes : List ℕ) (why : Refusal) (told : List Item) → reader.fault ≡ None → HasRead bytes reader → verdict bytes ≡ Bad why told → A
+none-refused reader bytes why told none read bad =
+    let goes = no-fault bytes reader none read in
+    absurd (waiting-not-bad reader.stage goes.told told why (sym (read-verdict bytes reader goes) ∙ bad))
+
+same-refusal : (why other : Refusal) (told items : List Item) → Bad why told ≡ Bad other items → why ≡ other
+same-refusal why other told items e = cc
+
+pub stays : (reader : TraceReader) (bytes piece : List ℕ) (refused : ReadFault) (why : Refusal) (told items : List Item) → reader.fault ≡ Some refused → HasRead bytes reader → verdict bytes ≡ Bad why told → StaysRefused why told (bytes ++ piece) (Err refused) items items
+unfolding still-refused
+stays reader bytes piece refused why told items e read bad =
+    let is = with-fault bytes reader refused e read in
+    let here = refused-verdict bytes refused is in
+    let same = same-refusal is.why why is.told told (sym here ∙ bad) in
+    record {
+      answered = ap (λ (f : ReadFault). Err f) (is.is ∙ ap fault_of same);
+      given = refl;
+      still =
+          refused-verdict (bytes ++ piece) refused (still-refused bytes piece refused is) ∙ sym here ∙ bad;
+    }

@@ -3,7 +3,7 @@ use Rattle.std.specs.Prelude.{◌≡◌, ℕ, List, ◌++◌, Result, Ok, Err}
 use Rattle.ep_defs.specs.declared.item.Item.{Item}
 use Rattle.nt_blocks.specs.Refusals.{Reason, Refusal}
 use Rattle.nt_blocks.specs.Refusals as reason
-use Rattle.nt_blocks.specs.Verdict.{Verdict, Bad, Good, More}
+use Rattle.nt_blocks.specs.Verdict.{Verdict, Bad, Good, More, verdict}
 use Rattle.nt_read.specs.declared.fault.ReadKind.{ReadKind}
 use Rattle.nt_read.specs.declared.fault.ReadKind.TheVariants as kind
 use Rattle.nt_read.specs.declared.fault.ReadFault.{ReadFault}
@@ -52,3 +52,9 @@ pub record Gives (earlier later old new : List Item) : Type 0 where
   pub found : List Item
   pub more : later ≡ earlier ++ found
   pub given : new ≡ old ++ found
+
+-- The refusal is answered, no items are given, and the verdict on all these bytes is still the same.
+pub record StaysRefused (why : Refusal) (told : List Item) (bytes : List ℕ) (answer : Result (Unit {0}) ReadFault) (old new : List Item) : Type 0 where
+  pub answered : answer ≡ Err (fault_of why)
+  pub given : new ≡ old
+  pub still : verdict bytes ≡ Bad why told

@@ -29,9 +29,11 @@ pub struct TraceReader {
 }
 
 impl TraceReader {
-    ghost use Rattle.nt_blocks.specs.Verdict.{verdict};
+    ghost use Rattle.ep_defs.specs.declared.item.Item.{Item};
+    ghost use Rattle.nt_blocks.specs.Refusals.{Refusal};
+    ghost use Rattle.nt_blocks.specs.Verdict.{Bad, verdict};
     ghost use Rattle.nt_read.specs.declared.fault.ReadFault.TheVariants.{OutOfMemory};
-    ghost use Rattle.nt_read.specs.Answers.{Gives, IsKept, answer_of, end_answer, items_of};
+    ghost use Rattle.nt_read.specs.Answers.{Gives, IsKept, StaysRefused, answer_of, end_answer, items_of};
     ghost use Rattle.nt_read.specs.Reading.{HasFailed, HasRead, used};
     ghost use Rattle.nt_read.specs.state.Reads.{Reads, StopsAt};
     ghost use Rattle.nt_read.specs.state.Units.{Judges, given, left, turns_left};
@@ -61,6 +63,7 @@ impl TraceReader {
         ensures read { IsKept result → (bytes : List ℕ) → HasRead bytes self.old → HasRead (bytes ++ piece.now) self.new }
         ensures items { IsKept result → (bytes : List ℕ) → HasRead bytes self.old → Gives (items_of (verdict bytes)) (items_of (verdict (bytes ++ piece.now))) items.old.items items.new.items }
         ensures answer { IsKept result → (bytes : List ℕ) → HasRead bytes self.old → result ≡ answer_of (verdict (bytes ++ piece.now)) }
+        ensures stays { (bytes : List ℕ) (why : Refusal) (told : List Item) → HasRead bytes self.old → verdict bytes ≡ Bad why told → StaysRefused why told (bytes ++ piece.now) result items.old.items items.new.items }
         ensures memory { result ≡ Err OutOfMemory → HasFailed self.new }
         ensures fails { HasFailed self.old → (result ≡ Err OutOfMemory) × (items.new.items ≡ items.old.items) }
         ensures used { used self.new ≤ used self.old + length piece.now }

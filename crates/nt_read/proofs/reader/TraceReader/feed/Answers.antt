@@ -1,4 +1,4 @@
-use Rattle.nt_read.proofs.Pieces.{kept-stops, no-fault, ok-read, piece-gives, piece-read, piece-refused, read-answer, refused-answer, refused-gives, still-gives, still-read, with-fault}
+use Rattle.nt_read.proofs.Pieces.{kept-stops, no-fault, none-refused, ok-read, piece-gives, piece-read, piece-refused, read-answer, refused-answer, refused-gives, stays, still-gives, still-read, with-fault}
 use Rattle.nt_read.proofs.reader.TraceReader.feed.Goals as goal
 
 pub returns-in-Some-clause-read : goal.returns-in-Some-clause-read
@@ -31,3 +31,13 @@ returns-in-Err-clause-items c = λ kept bytes read.
 pub returns-in-Err-clause-answer : goal.returns-in-Err-clause-answer
 returns-in-Err-clause-answer c = λ kept bytes read.
     refused-answer _ c.in-Err.fault (piece-refused c.args.self.now bytes c.args.piece.now c.args.items.now.items c.read.new.items.items c.in-Err.fault (kept-stops _ _ _ _ c.in-Err.fault kept c.in-Err.ensures.err) (no-fault bytes c.args.self.now c.in_default.is read))
+
+pub returns-in-Some-clause-stays : goal.returns-in-Some-clause-stays
+returns-in-Some-clause-stays c = λ bytes why told read bad.
+    stays c.args.self.now bytes c.args.piece.now c.in-Some.fault why told c.args.items.now.items c.in-Some.is read bad
+
+pub returns-in-Ok-clause-stays : goal.returns-in-Ok-clause-stays
+returns-in-Ok-clause-stays c = λ bytes why told read bad. none-refused c.args.self.now bytes why told c.in_default.is read bad
+
+pub returns-in-Err-clause-stays : goal.returns-in-Err-clause-stays
+returns-in-Err-clause-stays c = λ bytes why told read bad. none-refused c.args.self.now bytes why told c.in_default.is read bad
