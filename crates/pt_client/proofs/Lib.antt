@@ -1,2 +1,3 @@
 mod RuleWords
 mod Silent
+mod TextWords

@@ -1,8 +1,7 @@
 -- What a client's command answers to the bytes of a peer, and what it writes (this project's profile).
-use Rattle.std.specs.Prelude.{◌≡◌, ℕ, ◌≤◌, Bool, true, false, ◌⊎◌, List, [], ◌++◌, length, IsTrue, Result, Ok, Err}
+use Rattle.std.specs.Prelude.{◌≡◌, ℕ, ◌≤◌, Bool, true, false, ◌⊎◌, List, [], length, Result, Ok, Err}
 use Rattle.pt_io.specs.Faults.{HasRisen}
 use Rattle.pt_io.specs.Taken.{TookAll, TookPart}
-use Rattle.ep_defs.specs.declared.session.Rule.{Rule}
 use Rattle.ipc_frame.specs.declared.limits.TheConstants.{MESSAGE_BYTES}
 use Rattle.ipc_body.specs.Asking.{collect_request, stop_request, info_request}
 use Rattle.ipc_body.specs.Reply.{reply_of}

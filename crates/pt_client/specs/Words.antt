@@ -1,25 +1,20 @@
 -- The words of the client's commands (this project's profile).
-use Rattle.std.specs.Prelude.{ℕ, ◌-◌, ◌^◌, Bool, true, false, ◌&&◌, not, ◌==◌, nat_le, if◌then◌else◌, List, [], ◌∷◌, length, codes, Option, Some, None}
-use Rattle.std.specs.List.{list_all}
+use Rattle.std.specs.Prelude.{ℕ, ◌-◌, ◌^◌, nat_le, if◌then◌else◌, List, [], ◌∷◌, length, codes, Option, Some, None}
 use Rattle.std.specs.Int.{is_in_range}
 use Rattle.ep_defs.specs.Event.{is_same_text}
 use Rattle.ep_defs.specs.declared.session.Rule.{Rule}
 use Rattle.ep_plan.specs.Words.{number_in, rule_in, all_in, at_least, at_most}
 use Rattle.ipc_frame.specs.declared.limits.TheConstants.{MESSAGE_BYTES}
 use Rattle.ipc_body.specs.Asking.{collect_request}
+use Rattle.pt_words.specs.Words.{has_option}
 use Rattle.pt_client.specs.declared.limits.TheConstants.{MOST_RULES}
 use Rattle.pt_client.specs.declared.words.Command.{Command}
 use Rattle.pt_client.specs.declared.words.Command.TheVariants as command
 
--- A word that begins with `-` is an option. The client's commands have none.
-abbrev pub is_option : List ℕ → Bool
-is_option [] = false
-is_option (byte ∷ word) = byte == 45
-
 -- The path of a socket has a byte or more.
 abbrev pub target_in : List ℕ → Option (List ℕ)
 target_in [] = None
-target_in (byte ∷ word) = if is_option (byte ∷ word) then None else Some (byte ∷ word)
+target_in (byte ∷ word) = Some (byte ∷ word)
 
 -- A budget has 1 to 4,294,967,295 megabytes.
 abbrev pub megabytes_in : List ℕ → Option ℕ
@@ -29,13 +24,9 @@ megabytes_in word = at_least 1 (at_most (2 ^ 32 - 1) (number_in (2 ^ 64 - 1) wor
 abbrev pub id_in : List ℕ → Option ℕ
 id_in word = number_in (2 ^ 64 - 1) word
 
--- A rule, which is no option.
-abbrev pub plain_rule_in : List ℕ → Option Rule
-plain_rule_in word = if is_option word then None else rule_in word
-
 -- 1 to 1,000 rules.
 abbrev pub rules_in : List (List ℕ) → Option (List Rule)
-rules_in words = if is_in_range 1 MOST_RULES (length words) then all_in plain_rule_in words else None
+rules_in words = if is_in_range 1 MOST_RULES (length words) then all_in rule_in words else None
 
 -- A request for a session has to fit a message.
 abbrev pub collect_of : Option (List ℕ) → Option ℕ → Option (List Rule) → Option Command
@@ -66,11 +57,15 @@ abbrev pub ps_in : List (List ℕ) → Option Command
 ps_in (target ∷ []) = ps_of (target_in target)
 ps_in words = None
 
+-- What the words are read as where none of them begins with `-`, since the client's commands have no options.
+abbrev pub without_options : (List (List ℕ) → Option Command) → List (List ℕ) → Option Command
+without_options read words = if has_option words then None else read words
+
 -- The first word names the command.
 abbrev pub command_in : List (List ℕ) → Option Command
 command_in [] = None
 command_in (word ∷ words) =
-    if is_same_text word (codes "collect") then collect_in words
-    else if is_same_text word (codes "stop") then stop_in words
-    else if is_same_text word (codes "ps") then ps_in words
+    if is_same_text word (codes "collect") then without_options collect_in words
+    else if is_same_text word (codes "stop") then without_options stop_in words
+    else if is_same_text word (codes "ps") then without_options ps_in words
     else None

@@ -17,6 +17,10 @@ const REFUSED: &[u8; 24] = b"DOTNET_IPC_V1\0\x18\0\xff\xff\0\0\x05\x40\0\x80";
 const PROGRAM: &[u8; 78] =
     b"DOTNET_IPC_V1\0\x4e\0\xff\0\0\0\x01\0\0\0\0\0\0\0\x00\x01\x02\x03\x04\x05\x06\x07\x08\x09\x0a\x0b\x0c\x0d\x0e\x0f\x01\0\0\0\0\0\x06\0\0\0l\0i\0n\0u\0x\0\0\0\x04\0\0\0x\x006\x004\0\0\0";
 
+// The stream of `examples/one_event.schedule`.
+const STREAM: &[u8; 310] =
+    b"Nettrace\x14\0\0\0!FastSerialization.1\x05\x05\x01\x04\0\0\0\x04\0\0\0\x05\0\0\0Trace\x06\xb2\x07\x01\0\x04\0\x01\0\0\0\0\0\0\0\0\0\0\0\0\0\0\0\0\0\0\xca\x9a;\0\0\0\0\x08\0\0\0\x01\0\0\0\x01\0\0\0\0\0\0\0\x06\x05\x05\x01\x02\0\0\0\x02\0\0\0\x0d\0\0\0MetadataBlock\x06;\0\0\0\0\x14\0\x01\0\0\0\0\0\0\0\0\0\0\0\0\0\0\0\0\0\xc0\0$\x01\0\0\0P\0\0\0\x01\0\0\0E\0\0\0\x01\0\0\0\0\0\0\0\0\0\0\0\x04\0\0\0\0\0\0\0\x06\x05\x05\x01\x02\0\0\0\x02\0\0\0\x0a\0\0\0EventBlock\x06\x1b\0\0\0\0\0\x14\0\x01\0d\0\0\0\0\0\0\0d\0\0\0\0\0\0\0\x07\x01\0\x01\0\x01d\x06\x05\x05\x01\x02\0\0\0\x02\0\0\0\x07\0\0\0SPBlock\x06\x18\0\0\0\0\xc8\0\0\0\0\0\0\0\x01\0\0\0\x01\0\0\0\0\0\0\0\x01\0\0\0\x06\x01";
+
 /// How a command ended, what it wrote, and what it sent.
 #[derive(Drop)]
 struct Run {
@@ -69,14 +73,14 @@ fn link_of(alloc: Global, bytes: &[u8]) -> Result<MemLink, Fail>
 }
 
 #[test]
-fn a_stream_is_collected_behind_its_reply(rt: HostRuntime) -> Result<(), Fail> {
+fn a_stream_of_310_bytes_is_collected_behind_its_reply(rt: HostRuntime) -> Result<(), Fail> {
     let alloc = rt.alloc();
     let mut bytes = SESSION.to_vec(alloc)?;
-    bytes.extend_from_slice(b"Nettrace and more")?;
+    bytes.extend_from_slice(STREAM)?;
     let words = ["collect", "/x", "1", "P:1:4"];
     let run = run_words(alloc, words.as_slice(), &bytes, Vec::new(alloc))?;
     assert_eq!(rt; run.status, 0);
-    assert_eq!(rt; run.written.as_slice(), b"Nettrace and more".as_slice());
+    assert_eq!(rt; run.written.as_slice(), STREAM.as_slice());
     let sent = run.sent.unwrap_or(Vec::new(alloc));
     let want =
         b"DOTNET_IPC_V1\0\x39\0\x02\x03\0\0\x01\0\0\0\x01\0\0\0\0\x01\0\0\0\x01\0\0\0\0\0\0\0\x04\0\0\0\x02\0\0\0P\0\0\0\0\0\0\0";

@@ -1,13 +1,14 @@
 //! What the words of the command line ask a client for.
 ghost use Rattle.std.specs.Prelude.{◌≡◌, ℕ, List, map, IfOk, IfSome};
 ghost use Rattle.std.specs.String.{string_bytes};
-ghost use Rattle.pt_client.specs.Words.{command_in, target_in, megabytes_in, is_option, plain_rule_in, rules_in, collect_in, stop_in, ps_in};
+ghost use Rattle.pt_client.specs.Words.{command_in, target_in, megabytes_in, rules_in, collect_in, stop_in, ps_in, without_options};
 ghost use Rattle.pt_client.specs.Answers.{Fits};
 
 use crate::limits::MOST_RULES;
-use ep_defs::{Items, Rule, RuleList};
+use ep_defs::{Items, RuleList};
 use ep_plan::{number, rule};
 use ipc_body::{Asked, collect_size};
+use pt_words::{one_text, several_texts, two_texts};
 use std::alloc::{AllocError, Global};
 use std::marker::Model;
 
@@ -80,27 +81,27 @@ pub fn command_of<'a>(alloc: Global, words: &'a [String]) -> Result<Option<Comma
     };
     match name.as_str() {
         "collect" => collect(alloc, rest),
-        "stop" => Ok(stop(rest)),
-        "ps" => Ok(ps(rest)),
+        "stop" => stop(alloc, rest),
+        "ps" => ps(alloc, rest),
         _ => Ok(None),
     }
 }
 
 // The words after `collect`.
 fn collect<'a>(alloc: Global, words: &'a [String]) -> Result<Option<Command<'a>>, AllocError>
-    ensures meant { IfOk result (λ command. command ≡ collect_in (map string_bytes words.now)) }
+    ensures meant { IfOk result (λ command. command ≡ without_options collect_in (map string_bytes words.now)) }
     ensures fits { IfOk result (λ command. IfSome command Fits) }
 {
-    let [target, megabytes, rules @ ..] = words else {
+    let Some(texts) = several_texts(alloc, words)? else {
         return Ok(None);
     };
-    let Some(target) = target_of(target) else {
+    let Some(target) = target_of(texts.one) else {
         return Ok(None);
     };
-    let Some(megabytes) = megabytes_of(megabytes.as_bytes()) else {
+    let Some(megabytes) = megabytes_of(texts.two.as_bytes()) else {
         return Ok(None);
     };
-    let Some(rules) = rules_of(alloc, rules)? else {
+    let Some(rules) = rules_of(alloc, &texts.rest)? else {
         return Ok(None);
     };
     let asked = Asked {
@@ -118,50 +119,44 @@ fn collect<'a>(alloc: Global, words: &'a [String]) -> Result<Option<Command<'a>>
 }
 
 // The words after `stop`.
-fn stop<'a>(words: &'a [String]) -> Option<Command<'a>>
-    ensures meant { result ≡ stop_in (map string_bytes words.now) }
-    ensures fits { IfSome result Fits }
+fn stop<'a>(alloc: Global, words: &'a [String]) -> Result<Option<Command<'a>>, AllocError>
+    ensures meant { IfOk result (λ command. command ≡ without_options stop_in (map string_bytes words.now)) }
+    ensures fits { IfOk result (λ command. IfSome command Fits) }
 {
-    let [target, id] = words else {
-        return None;
+    let Some((target, id)) = two_texts(alloc, words)? else {
+        return Ok(None);
     };
-    let target = target_of(target)?;
-    let id = number(id.as_bytes(), u64::MAX)?;
-    Some(Command::Stop { target, id })
+    let Some(target) = target_of(target) else {
+        return Ok(None);
+    };
+    let Some(id) = number(id.as_bytes(), u64::MAX) else {
+        return Ok(None);
+    };
+    Ok(Some(Command::Stop { target, id }))
 }
 
 // The words after `ps`.
-fn ps<'a>(words: &'a [String]) -> Option<Command<'a>>
-    ensures meant { result ≡ ps_in (map string_bytes words.now) }
-    ensures fits { IfSome result Fits }
+fn ps<'a>(alloc: Global, words: &'a [String]) -> Result<Option<Command<'a>>, AllocError>
+    ensures meant { IfOk result (λ command. command ≡ without_options ps_in (map string_bytes words.now)) }
+    ensures fits { IfOk result (λ command. IfSome command Fits) }
 {
-    let [target] = words else {
-        return None;
+    let Some(target) = one_text(alloc, words)? else {
+        return Ok(None);
     };
-    let target = target_of(target)?;
-    Some(Command::Ps { target })
+    let Some(target) = target_of(target) else {
+        return Ok(None);
+    };
+    Ok(Some(Command::Ps { target }))
 }
 
-// A path, which is no option.
-fn target_of<'a>(word: &'a String) -> Option<Target<'a>>
-    ensures { result ≡ target_in (string_bytes word.now) }
+// A path.
+fn target_of<'a>(word: &'a str) -> Option<Target<'a>>
+    ensures { result ≡ target_in word.now }
 {
-    if word.is_empty() || is_option(word.as_bytes()) {
+    if word.is_empty() {
         return None;
     }
-    Some(Target {
-        path: word.as_str(),
-    })
-}
-
-// Whether the word begins with `-`.
-fn is_option(word: &[u8]) -> bool
-    ensures { result ≡ is_option word.now }
-{
-    match word {
-        [first, ..] => *first == b'-',
-        [] => false,
-    }
+    Some(Target { path: word })
 }
 
 // A budget.
@@ -175,28 +170,18 @@ fn megabytes_of(word: &[u8]) -> Option<u32>
 }
 
 // 1 to 1,000 rules.
-fn rules_of(alloc: Global, words: &[String]) -> Result<Option<RuleList>, AllocError>
-    ensures { IfOk result (λ rules. rules ≡ rules_in (map string_bytes words.now)) }
+fn rules_of(alloc: Global, words: &[&str]) -> Result<Option<RuleList>, AllocError>
+    ensures { IfOk result (λ rules. rules ≡ rules_in (map (λ word. word.now) words.now)) }
 {
     if words.is_empty() || words.len() > MOST_RULES {
         return Ok(None);
     }
     let mut rules = Vec::new(alloc);
     for word in words {
-        let Some(rule) = rule_of(alloc, word.as_bytes())? else {
+        let Some(rule) = rule(alloc, word.as_bytes())? else {
             return Ok(None);
         };
         rules.push(rule)?;
     }
     Ok(Some(Items::new(rules)))
-}
-
-// A rule, which is no option.
-fn rule_of(alloc: Global, word: &[u8]) -> Result<Option<Rule>, AllocError>
-    ensures { IfOk result (λ rule. rule ≡ plain_rule_in word.now) }
-{
-    if is_option(word) {
-        return Ok(None);
-    }
-    rule(alloc, word)
 }

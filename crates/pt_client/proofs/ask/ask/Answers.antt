@@ -1,5 +1,5 @@
 -- What stays as it was took a first part of anything; a stop's request is named by its id.
-use Rattle.std.proofs.Common.{ap, sym, rules}
+use Rattle.std.proofs.Common.{ap}
 use Rattle.pt_client.specs.Answers.{request_of, stream_of}
 use Rattle.pt_client.proofs.Silent.{none-taken_on_err}
 use Rattle.pt_client.proofs.ask.ask.Goals as goal

@@ -1,0 +1,4 @@
+-- What words are as texts, and what `clap` is asked.
+pub mod Words
+pub mod Commands
+pub mod Matches

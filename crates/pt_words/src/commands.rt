@@ -1,0 +1,56 @@
+//! The commands that `clap` is given. None has help, a version or a name before its words.
+ghost use Rattle.std.specs.Prelude.{◌≡◌, IfOk, false};
+ghost use Rattle.clap.specs.Words.{app_of, rule_of};
+ghost use Rattle.pt_words.specs.Commands.{plain_command, position_rule, several_rule, one_app, two_app, several_app};
+
+use clap::{Arg, ArgAction, Command};
+use std::alloc::{AllocError, Global};
+
+/// One position.
+pub(crate) fn one_position<'a>(alloc: Global) -> Result<Command<'a>, AllocError>
+    ensures { IfOk result (λ command. app_of command ≡ one_app) }
+{
+    plain_command(alloc).arg(position(alloc, "one"))
+}
+
+/// Two positions.
+pub(crate) fn two_positions<'a>(alloc: Global) -> Result<Command<'a>, AllocError>
+    ensures { IfOk result (λ command. app_of command ≡ two_app) }
+{
+    one_position(alloc)?.arg(position(alloc, "two"))
+}
+
+/// Two positions, and behind them one or more.
+pub(crate) fn several_positions<'a>(alloc: Global) -> Result<Command<'a>, AllocError>
+    ensures { IfOk result (λ command. app_of command ≡ several_app) }
+{
+    two_positions(alloc)?.arg(several(alloc))
+}
+
+// No positions.
+fn plain_command<'a>(alloc: Global) -> Command<'a>
+    ensures { app_of result ≡ plain_command }
+{
+    Command::new(alloc, "words")
+        .no_binary_name(true)
+        .disable_help_flag(true)
+        .disable_version_flag(true)
+}
+
+// A word that has to be there.
+fn position<'a>(alloc: Global, id: &'a str) -> Arg<'a>
+    ensures rule { rule_of result ≡ position_rule id.entry.now }
+    ensures local { result.global ≡ false }
+{
+    Arg::new(alloc, id).required(true)
+}
+
+// One word or more.
+fn several<'a>(alloc: Global) -> Arg<'a>
+    ensures rule { rule_of result ≡ several_rule }
+    ensures local { result.global ≡ false }
+{
+    position(alloc, "rest")
+        .action(ArgAction::Append)
+        .num_args(1..)
+}

@@ -1,0 +1,15 @@
+//! The words behind a command's name, as texts: `clap` reads them, by one simple command for each shape of a command line.
+//!
+//! It stands on clap alone. What a text means, a number or a rule, is for those above to say.
+//!
+//! Its one contract: which words have which texts is a function of the words (`specs/Words`), whatever the words are.
+#![tactic(auto)]
+
+mod commands;
+mod matches;
+mod positions;
+
+pub use positions::{Several, one_text, several_texts, two_texts};
+
+#[cfg(test)]
+mod tests;
