@@ -1,5 +1,5 @@
 -- What bounds the objects of a stream: any bound of at least the number of bytes will do.
-use Rattle.std.proofs.Common.{◌≡◌, ℕ, zero, suc, ◌+◌, ◌<◌, ◌≤◌, Bool, true, false, inl, inr, cond, Result, Ok, Err, List, [], ◌∷◌, ◌++◌, length, take, drop, refl, ap, arith, length-drop}
+use Rattle.std.proofs.Common.{◌≡◌, ℕ, zero, suc, ◌+◌, ◌≤◌, Bool, true, false, inl, inr, cond, Result, Ok, Err, List, [], ◌∷◌, ◌++◌, length, take, drop, refl, ap, arith, length-drop}
 use Rattle.std.specs.Prelude.{◌&&◌, nat_eq, nat_le, nat_lt, slice_index, ◌==◌}
 use Rattle.std.specs.Cmp.Lexicographic.{pointwise}
 use Rattle.std.proofs.lemmas.Bool.{cases_Bool}
@@ -11,7 +11,7 @@ use Rattle.nt_object.specs.Object.{to_multiple_of_4}
 use Rattle.nt_object.specs.Reading.{is_name_length, kind_named, number_in, version_of}
 use Rattle.nt_blocks.specs.declared.limits.TheConstants.{READ_BYTES}
 use Rattle.nt_blocks.specs.Refusals.{BadObject, BadVersion, TooLarge, body_at}
-use Rattle.nt_blocks.specs.Verdict.{Object, Stop, Cut, Verdict, closed, may_stand, named_at, object_at, objects_at, or_refused, payload_at, refused, unit}
+use Rattle.nt_blocks.specs.Verdict.{Object, Stop, Cut, closed, may_stand, named_at, object_at, objects_at, or_refused, payload_at, refused, unit}
 
 -- What is left behind an object is no more than this.
 record Leaves (most : ℕ) (read : Result Object Stop) : Type 0 where

@@ -1,3 +1,4 @@
+pub mod Begins
 pub mod Fuel
 pub mod Pieces
 pub mod Steps

@@ -1,20 +1,21 @@
 -- Units one after another, and pieces.
-use Rattle.std.proofs.Common.{◌≡◌, ◌≢◌, ℕ, ◌+◌, ◌<◌, ◌≤◌, Option, Some, None, Result, Ok, Err, List, [], ◌∷◌, ◌++◌, length, take, drop, refl, sym, ap, subst, ◌∙◌, arith, append_assoc, length-append}
+use Rattle.std.proofs.Common.{◌≡◌, ◌≢◌, ℕ, ◌+◌, ◌<◌, Option, Some, None, Ok, Err, List, [], ◌++◌, length, take, drop, refl, sym, ap, subst, ◌∙◌, arith, append_assoc, length-append}
 use Rattle.std.proofs.lemmas.List.{append-nil, take-append-drop}
 use Rattle.ep_defs.specs.declared.item.Item.{Item}
 use Rattle.nt_blocks.specs.Refusals.{Refusal}
-use Rattle.nt_blocks.specs.Verdict.{Verdict, Bad, Good, More, verdict}
+use Rattle.nt_blocks.specs.Verdict.{Bad, Good, More, verdict}
 use Rattle.nt_read.specs.declared.fault.ReadFault.{ReadFault}
 use Rattle.nt_read.specs.declared.fault.ReadFault.TheVariants as fault
 use Rattle.nt_read.specs.declared.fault.ReadKind.TheVariants as kind
 use Rattle.nt_read.specs.declared.reader.TraceReader.{TraceReader}
 use Rattle.nt_read.specs.declared.stage.Stage.{Stage}
 use Rattle.nt_read.specs.declared.stage.Stage.TheVariants as stage
-use Rattle.nt_read.specs.Answers.{Gives, IsKept, StaysRefused, answer_of, end_answer, fault_of, items_of}
+use Rattle.nt_read.specs.Answers.{Gives, GivesPart, IsKept, StaysRefused, answer_of, end_answer, fault_of, items_of}
 use Rattle.nt_read.specs.Reading.{GoesOn, HasJudged, HasRead, IsRefused, used}
 use Rattle.nt_read.specs.Stages.{goes_on, needs, waiting}
-use Rattle.nt_read.specs.state.Reads.{Reads, Stops, StopsAt, from}
-use Rattle.nt_read.specs.state.Units.{Faults, Refuses, Turns, given, left}
+use Rattle.nt_read.specs.state.Reads.{Reads, RunsOut, Stops, StopsAt, from}
+use Rattle.nt_read.specs.state.Units.{Faults, Turns, given, left}
+use Rattle.nt_read.proofs.Begins.{goes-begins}
 use Rattle.nt_read.proofs.Steps.{verdict-starts, waits}
 
 -- ---- part of a piece
@@ -47,7 +48,36 @@ stops-then a b bytes mid old between new (fault.Bad at kind) first later = recor
       ∙ later.goes (told ++ first.found) more
       ∙ ap (λ (l : List Item). Bad later.why l) (append_assoc told first.found later.found);
 }
-stops-then a b bytes mid old between new fault.OutOfMemory first later = tt
+stops-then a b bytes mid old between new fault.OutOfMemory first later = record {
+  found = first.found ++ later.found;
+  given = later.given ∙ ap (λ (l : List Item). l ++ later.found) first.given ∙ append_assoc old first.found later.found;
+  goes = λ told more.
+      let begins = later.goes (told ++ first.found) more in
+      record {
+        rest = begins.rest;
+        is =
+            ap items_of (first.goes told more)
+            ∙ begins.is
+            ∙ ap (λ (l : List Item). l ++ begins.rest) (append_assoc told first.found later.found);
+      };
+}
+
+-- Memory ran out before anything was read.
+pub runs-out : (reader : TraceReader) (bytes : List ℕ) (items : List Item) → RunsOut reader bytes items items
+runs-out reader bytes items = record {
+  found = [];
+  given = sym (append-nil items);
+  goes = λ told more.
+      let begins = goes-begins reader.stage reader.at reader.pending.items told (reader.kept.items ++ (bytes ++ more)) in
+      record {
+        rest = begins.rest;
+        is = begins.is ∙ ap (λ (l : List Item). l ++ begins.rest) (sym (append-nil told));
+      };
+}
+
+-- Memory ran out behind part of the bytes.
+pub reads-out : (a b : TraceReader) (bytes rest : List ℕ) (old new : List Item) → Reads a bytes b rest old new → RunsOut a bytes old new
+reads-out a b bytes rest old new reads = stops-then a b bytes rest old new new fault.OutOfMemory reads (runs-out b rest new)
 
 -- What is left of a piece is kept.
 pub reads-kept : (a b c : TraceReader) (bytes rest : List ℕ) (old new : List Item) → Reads a bytes b rest old new → c.stage ≡ b.stage → c.at ≡ b.at → c.pending.items ≡ b.pending.items → c.kept.items ≡ b.kept.items ++ rest → Reads a bytes c [] old new
@@ -85,7 +115,7 @@ step-stops before bytes lacking items (fault.Bad at kind) refuses = record {
       ∙ refuses.goes told (drop lacking bytes ++ more)
       ∙ ap (λ (l : List Item). Bad refuses.why l) (sym (append-nil told));
 }
-step-stops before bytes lacking items fault.OutOfMemory refuses = tt
+step-stops before bytes lacking items fault.OutOfMemory refuses = runs-out before bytes items
 
 -- ---- pieces
 
@@ -297,4 +327,30 @@ stays reader bytes piece refused why told items e read bad =
       given = refl;
       still =
           refused-verdict (bytes ++ piece) refused (still-refused bytes piece refused is) ∙ sym here ∙ bad;
+    }
+
+-- ---- where memory ran out
+
+-- A reader that was out of memory before has read nothing that is known.
+pub none-kept : {A : Type 0} (reader : TraceReader) (bytes : List ℕ) (refused : ReadFault) → reader.fault ≡ Some refused → refused ≡ fault.OutOfMemory → HasRead bytes reader → A
+none-kept reader bytes refused e out read =
+    let is = with-fault bytes reader refused e read in
+    absurd (not-out is.why (sym is.is ∙ out))
+  where
+    not-out : (why : Refusal) → fault_of why ≡ fault.OutOfMemory → ⊥
+    not-out why same = cc
+
+pub part-gives : (before : TraceReader) (bytes piece : List ℕ) (old new : List Item) (refused : ReadFault) → refused ≡ fault.OutOfMemory → StopsAt before piece old new refused → GoesOn bytes before → GivesPart (items_of (verdict bytes)) (items_of (verdict (bytes ++ piece))) old new
+part-gives before bytes piece old new refused out stops goes =
+    let runs : RunsOut before piece old new = subst (λ (f : ReadFault). StopsAt before piece old new f) out stops in
+    let begins = runs.goes goes.told [] in
+    record {
+      found = runs.found;
+      rest = begins.rest;
+      more =
+          ap items_of (goes.goes piece ∙ ap (from before goes.told) (sym (append-nil piece)))
+          ∙ begins.is
+          ∙ append_assoc goes.told runs.found begins.rest
+          ∙ ap (λ (l : List Item). l ++ (runs.found ++ begins.rest)) (sym (ap items_of (read-verdict bytes before goes) ∙ items-waiting before.stage goes.told));
+      given = runs.given;
     }

@@ -1,12 +1,11 @@
 -- What each unit comes to, once it is whole.
-use Rattle.std.proofs.Common.{◌≡◌, ◌≢◌, ℕ, zero, suc, ◌+◌, ◌*◌, ◌<◌, ◌≤◌, ◌==◌, Bool, true, false, inl, inr, cond, Option, Some, None, Result, Ok, Err, List, [], ◌∷◌, ◌++◌, length, take, drop, get_or, refl, sym, ap, ◌∙◌, arith, drop-cons, length-drop, eq-eqb, length-append}
-use Rattle.std.specs.Prelude.{◌&&◌, nat_eq, nat_le}
+use Rattle.std.proofs.Common.{◌≡◌, ◌≢◌, ℕ, suc, ◌+◌, ◌<◌, ◌≤◌, ◌==◌, Bool, true, false, inl, inr, Some, None, Result, Ok, Err, List, [], ◌∷◌, ◌++◌, length, take, drop, get_or, refl, sym, arith, drop-cons, eq-eqb}
+use Rattle.std.specs.Prelude.{◌&&◌, nat_eq}
 use Rattle.std.specs.Cmp.Lexicographic.{pointwise}
-use Rattle.std.proofs.lemmas.Bool.{cases_Bool, le-leb, lt-leb, ne_eqb, and_from, and_left, and_right}
+use Rattle.std.proofs.lemmas.Bool.{cases_Bool, le-leb, lt-leb, ne_eqb, and_left}
 use Rattle.std.proofs.lemmas.List.{append-nil, drop_all}
 use Rattle.ep_defs.specs.declared.item.Item.{Item}
 use Rattle.ep_defs.specs.declared.item.ItemKind.TheVariants as item
-use Rattle.pt_num.specs.Steps.{◌>>=◌, check, or_fault}
 use Rattle.nt_object.specs.declared.object.BlockKind.{BlockKind}
 use Rattle.nt_object.specs.declared.head.ObjectKind.{ObjectKind}
 use Rattle.nt_object.specs.declared.head.ObjectKind.TheVariants as object
@@ -18,8 +17,7 @@ use Rattle.nt_blocks.specs.declared.take.BodyFault.{BodyFault}
 use Rattle.nt_blocks.specs.declared.take.BodyFault.TheVariants as body
 use Rattle.nt_blocks.specs.Refusals.{Refusal, refusal, BadMagic, BadObject, BadVersion, BadBlock, BadHead, BadMeta, Uncompressed, TooLarge, body_at}
 use Rattle.nt_blocks.specs.Taking.{Appends, IsFault}
-use Rattle.nt_blocks.specs.Verdict.{Object, Stop, Verdict, Bad, Good, More, info_in, may_stand, object_at, objects_at, payload_at, stopped, unit, verdict}
-use Rattle.nt_read.specs.declared.fault.ReadFault.{ReadFault}
+use Rattle.nt_blocks.specs.Verdict.{Object, Stop, Verdict, info_in, may_stand, object_at, objects_at, payload_at, stopped, unit, verdict}
 use Rattle.nt_read.specs.declared.fault.ReadFault.TheVariants as fault
 use Rattle.nt_read.specs.declared.fault.ReadKind.TheVariants as kind
 use Rattle.nt_read.specs.declared.stage.Stage.{Stage}

@@ -1,12 +1,12 @@
 -- A unit at the front of some bytes.
-use Rattle.std.proofs.Common.{◌≡◌, ℕ, suc, ◌+◌, ◌*◌, ◌<◌, ◌≤◌, Result, Ok, Err, List, [], ◌∷◌, ◌++◌, length, take, drop, get_or, refl, arith, length-append}
+use Rattle.std.proofs.Common.{◌≡◌, ℕ, suc, ◌+◌, ◌*◌, ◌<◌, ◌≤◌, Ok, Err, List, [], ◌∷◌, ◌++◌, length, drop, get_or, refl, arith, length-append}
 use Rattle.std.proofs.lemmas.Bool.{lt-ltb, le-ltb}
 use Rattle.std.proofs.lemmas.List.{take_at, drop_at}
 use Rattle.byteorder.specs.Endian.{little_number}
 use Rattle.pt_num.specs.Numbers.{fixed}
 use Rattle.pt_num.specs.Texts.{units_in}
 use Rattle.nt_object.specs.Stream.{stream_head}
-use Rattle.nt_blocks.specs.Verdict.{Stop, Cut, unit}
+use Rattle.nt_blocks.specs.Verdict.{Cut, unit}
 
 -- A unit whose bytes are all there.
 pub unit-there : (n : ℕ) (here more : List ℕ) → length here ≡ n → unit n (here ++ more) ≡ Ok (here, more)

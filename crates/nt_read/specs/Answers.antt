@@ -53,6 +53,13 @@ pub record Gives (earlier later old new : List Item) : Type 0 where
   pub more : later ≡ earlier ++ found
   pub given : new ≡ old ++ found
 
+-- Of the items by which there are more now the first are given behind those that were there.
+pub record GivesPart (earlier later old new : List Item) : Type 0 where
+  pub found : List Item
+  pub rest : List Item
+  pub more : later ≡ earlier ++ (found ++ rest)
+  pub given : new ≡ old ++ found
+
 -- The refusal is answered, no items are given, and the verdict on all these bytes is still the same.
 pub record StaysRefused (why : Refusal) (told : List Item) (bytes : List ℕ) (answer : Result (Unit {0}) ReadFault) (old new : List Item) : Type 0 where
   pub answered : answer ≡ Err (fault_of why)

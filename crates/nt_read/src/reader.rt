@@ -1,5 +1,5 @@
 //! The reader, which keeps what came of the next unit.
-ghost use Rattle.std.specs.Prelude.{◌≡◌, ℕ, ◌+◌, ◌-◌, ◌*◌, ◌<◌, ◌≤◌, ◌^◌, List, [], ◌++◌, length, drop, Err, IfOk, IfErr, OnOk};
+ghost use Rattle.std.specs.Prelude.{◌≡◌, ℕ, ◌+◌, ◌-◌, ◌*◌, ◌<◌, ◌≤◌, ◌^◌, List, [], ◌++◌, length, drop, Err, IfOk, IfErr, OnOk, OnErr};
 ghost use Rattle.nt_read.specs.Stages.{needs};
 
 use crate::fault::{ReadFault, ReadKind};
@@ -33,7 +33,7 @@ impl TraceReader {
     ghost use Rattle.nt_blocks.specs.Refusals.{Refusal};
     ghost use Rattle.nt_blocks.specs.Verdict.{Bad, verdict};
     ghost use Rattle.nt_read.specs.declared.fault.ReadFault.TheVariants.{OutOfMemory};
-    ghost use Rattle.nt_read.specs.Answers.{Gives, IsKept, StaysRefused, answer_of, end_answer, items_of};
+    ghost use Rattle.nt_read.specs.Answers.{Gives, GivesPart, IsKept, StaysRefused, answer_of, end_answer, items_of};
     ghost use Rattle.nt_read.specs.Reading.{HasFailed, HasRead, used};
     ghost use Rattle.nt_read.specs.state.Reads.{Reads, StopsAt};
     ghost use Rattle.nt_read.specs.state.Units.{Judges, given, left, turns_left};
@@ -56,14 +56,16 @@ impl TraceReader {
     /// Reads the next piece of the stream, and appends the items of the objects that end in it. Offsets are counted from
     /// the stream's first byte.
     ///
-    /// A unit is refused as soon as all its bytes are there; the items of the objects before it are appended. After a
-    /// fault the reader takes nothing, and answers the same fault from then on.
+    /// A unit is refused as soon as all its bytes are there; the items of the objects before it are appended. Where it is
+    /// out of memory the first of the items are appended. After a fault the reader takes nothing, and answers the same
+    /// fault from then on.
     pub fn feed(&mut self, piece: &[u8], items: &mut Vec<Item>) -> Result<(), ReadFault>
         requires { used self.old + length piece.now < 2 ^ 63 }
         ensures read { IsKept result → (bytes : List ℕ) → HasRead bytes self.old → HasRead (bytes ++ piece.now) self.new }
         ensures items { IsKept result → (bytes : List ℕ) → HasRead bytes self.old → Gives (items_of (verdict bytes)) (items_of (verdict (bytes ++ piece.now))) items.old.items items.new.items }
         ensures answer { IsKept result → (bytes : List ℕ) → HasRead bytes self.old → result ≡ answer_of (verdict (bytes ++ piece.now)) }
         ensures stays { (bytes : List ℕ) (why : Refusal) (told : List Item) → HasRead bytes self.old → verdict bytes ≡ Bad why told → StaysRefused why told (bytes ++ piece.now) result items.old.items items.new.items }
+        ensures part { result ≡ Err OutOfMemory → (bytes : List ℕ) → HasRead bytes self.old → GivesPart (items_of (verdict bytes)) (items_of (verdict (bytes ++ piece.now))) items.old.items items.new.items }
         ensures memory { result ≡ Err OutOfMemory → HasFailed self.new }
         ensures fails { HasFailed self.old → (result ≡ Err OutOfMemory) × (items.new.items ≡ items.old.items) }
         ensures used { used self.new ≤ used self.old + length piece.now }
@@ -173,6 +175,7 @@ impl TraceReader {
     fn hand_over(&mut self, items: &mut Vec<Item>) -> Result<(), AllocError>
         ensures given { OnOk result (items.new.items ≡ items.old.items ++ given self.old.stage self.old.pending.items) }
         ensures left { OnOk result (self.new.pending.items ≡ left self.old.stage self.old.pending.items) }
+        ensures err { OnErr result (items.new.items ≡ items.old.items) }
         ensures kept { self.new.kept.items ≡ self.old.kept.items }
         ensures stage { self.new.stage ≡ self.old.stage }
         ensures at { self.new.at ≡ self.old.at }

@@ -6,7 +6,7 @@ use Rattle.nt_blocks.specs.Verdict.{Verdict, Bad}
 use Rattle.nt_read.specs.declared.fault.ReadFault.{ReadFault}
 use Rattle.nt_read.specs.declared.fault.ReadFault.TheVariants as fault
 use Rattle.nt_read.specs.declared.reader.TraceReader.{TraceReader}
-use Rattle.nt_read.specs.Answers.{fault_of}
+use Rattle.nt_read.specs.Answers.{fault_of, items_of}
 use Rattle.nt_read.specs.Stages.{goes_on}
 
 -- The verdict from the reader's unit on, where these bytes follow those that it keeps.
@@ -27,7 +27,18 @@ pub record Stops (before : TraceReader) (bytes : List ℕ) (refused : ReadFault)
   pub given : new ≡ old ++ found
   pub goes : (told : List Item) (more : List ℕ) → from before told (bytes ++ more) ≡ Bad why (told ++ found)
 
+-- The list begins with these.
+pub record Begins (first all : List Item) : Type 0 where
+  pub rest : List Item
+  pub is : all ≡ first ++ rest
+
+-- Memory ran out: the items that were given are the first of those that the bytes tell.
+pub record RunsOut (before : TraceReader) (bytes : List ℕ) (old new : List Item) : Type 0 where
+  pub found : List Item
+  pub given : new ≡ old ++ found
+  pub goes : (told : List Item) (more : List ℕ) → Begins (told ++ found) (items_of (from before told (bytes ++ more)))
+
 -- A fault is a refusal, or memory ran out.
 abbrev pub StopsAt : TraceReader → List ℕ → List Item → List Item → ReadFault → Type 0
 StopsAt before bytes old new (fault.Bad at kind) = Stops before bytes (fault.Bad at kind) old new
-StopsAt before bytes old new fault.OutOfMemory = Unit {0}
+StopsAt before bytes old new fault.OutOfMemory = RunsOut before bytes old new

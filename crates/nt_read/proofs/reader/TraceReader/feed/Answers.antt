@@ -1,4 +1,4 @@
-use Rattle.nt_read.proofs.Pieces.{kept-stops, no-fault, none-refused, ok-read, piece-gives, piece-read, piece-refused, read-answer, refused-answer, refused-gives, stays, still-gives, still-read, with-fault}
+use Rattle.nt_read.proofs.Pieces.{kept-stops, no-fault, none-kept, none-refused, ok-read, part-gives, piece-gives, piece-read, piece-refused, read-answer, refused-answer, refused-gives, stays, still-gives, still-read, with-fault}
 use Rattle.nt_read.proofs.reader.TraceReader.feed.Goals as goal
 
 pub returns-in-Some-clause-read : goal.returns-in-Some-clause-read
@@ -41,3 +41,10 @@ returns-in-Ok-clause-stays c = λ bytes why told read bad. none-refused c.args.s
 
 pub returns-in-Err-clause-stays : goal.returns-in-Err-clause-stays
 returns-in-Err-clause-stays c = λ bytes why told read bad. none-refused c.args.self.now bytes why told c.in_default.is read bad
+
+pub returns-in-Some-clause-part : goal.returns-in-Some-clause-part
+returns-in-Some-clause-part c = λ out bytes read. none-kept c.args.self.now bytes c.in-Some.fault c.in-Some.is (cc) read
+
+pub returns-in-Err-clause-part : goal.returns-in-Err-clause-part
+returns-in-Err-clause-part c = λ out bytes read.
+    part-gives c.args.self.now bytes c.args.piece.now c.args.items.now.items c.read.new.items.items c.in-Err.fault (cc) c.in-Err.ensures.err (no-fault bytes c.args.self.now c.in_default.is read)

@@ -1,14 +1,19 @@
-use Rattle.std.proofs.Common.{◌≡◌, ◌+◌, ◌++◌, length, take, refl, ◌∙◌, arith, length-append}
+use Rattle.std.proofs.Common.{◌≡◌, ◌++◌, length, take, refl, ◌∙◌, arith, length-append}
 use Rattle.std.proofs.lemmas.List.{length-take-le}
 use Rattle.std.proofs.lemmas.Result.{err_from_is_err_and}
 use Rattle.nt_read.specs.Stages.{needs}
-use Rattle.nt_read.proofs.Pieces.{step-reads, step-stops}
+use Rattle.nt_read.proofs.Pieces.{runs-out, step-reads, step-stops}
 use Rattle.nt_read.proofs.reader.TraceReader.step.Goals as goal
 
 pub returns-in_err-next-clause-err : goal.returns-in_err-next-clause-err
 returns-in_err-next-clause-err c =
     let p = err_from_is_err_and c.from_residual.result c.from_residual.ensures.1 in
     rw (p.1, p.2) (step-stops c.args.self.now c.args.bytes.now c.lacking-lacking.result c.args.items.now.items c.in_err-next.field-0.0 c.in_err-next.ensures.judged)
+
+pub returns-in_err-hand_over-clause-err : goal.returns-in_err-hand_over-clause-err
+returns-in_err-hand_over-clause-err c =
+    let p = err_from_is_err_and c.from_residual-in_err-hand_over.result c.from_residual-in_err-hand_over.ensures.1 in
+    rw (p.1, p.2, c.in_err-hand_over.ensures.err) (runs-out c.args.self.now c.args.bytes.now c.args.items.now.items)
 
 pub returns-clause-ok : goal.returns-clause-ok
 returns-clause-ok c =
