@@ -1,0 +1,4 @@
+pub mod Cells
+pub mod OneRow
+pub mod Making
+pub mod Changing
