@@ -2,4 +2,10 @@ pub mod Items
 pub mod Borne
 pub mod Steps
 pub mod Methods
-pub mod Ends
+pub mod Finish
+pub mod Numbered
+pub mod Tied
+pub mod Calls
+pub mod Leaves
+pub mod Written
+pub mod Decides

@@ -31,6 +31,7 @@ use Rattle.ep_registry.proofs.Steps.{Moves, moved, decided-kept, begun-kept, sea
 
 pub nothing-kept : IsKept nothing_recorded
 nothing-kept = record {
+  places = refl;
   next_id = refl;
   few = omega arith;
   room = omega arith;
@@ -81,7 +82,7 @@ old-borne r id e f k there g place d at =
 
 -- ---- a slot keeps what it holds
 
-set-same : {A : Type 0} (xs : List A) (i : ℕ) (x : A) → slice_get xs i ≡ Some x → set xs i x ≡ xs
+pub set-same : {A : Type 0} (xs : List A) (i : ℕ) (x : A) → slice_get xs i ≡ Some x → set xs i x ≡ xs
 set-same {A} [] i x e = cc
 set-same {A} (y ∷ xs) zero x e = grind (arith, common_steps)
 set-same {A} (y ∷ xs) (suc i) x e = ap (λ (ys : List A). y ∷ ys) (set-same xs i x e)
@@ -473,7 +474,7 @@ accept-seat r slot id k room h = by_place (position is_free r.table.seats) refl
         let same-id : r.table.next ≡ id = cc in
         rw p (rw (← same-slot, ← same-id) (begun-kept r s k room (free-at r.table.seats s p)))
 
-count-first : (p : Entry → Bool) (x : Entry) (xs : List Entry) → count_by p (x ∷ xs) ≡ cond (p x) 1 0 + count_by p xs
+pub count-first : (p : Entry → Bool) (x : Entry) (xs : List Entry) → count_by p (x ∷ xs) ≡ cond (p x) 1 0 + count_by p xs
 count-first p x xs = sum_by-append (λ z. cond (p z) 1 0) (x ∷ []) xs ∙ omega arith
 
 -- As many pass the wider test.
@@ -561,6 +562,7 @@ ended-fitting ended ticket stage.Failed h = h
 
 pub ended-kept : (r : Recorded) → IsKept r → IsKept (record r { ended = true })
 ended-kept r k = record {
+  places = k.places;
   next_id = k.next_id;
   few = k.few;
   room = k.room;

@@ -143,6 +143,7 @@ one t = cond t 1 0
 
 pub moved : (r : Recorded) (id : ℕ) (e f : Entry) (decisions : List Decision) → IsKept r → Moves r id e f decisions → IsKept (moved_to r id e f decisions)
 moved r id e f decisions k m = record {
+  places = length-set r.table.seats e.slot (seat_of id f) ∙ k.places;
   next_id = let n : r.table.next ≡ length r.sessions + 1 = k.next_id in omega (arith, length-set r.sessions (id - 1) f);
   few =
       let a : length r.sessions ≤ length r.decisions = k.few in
@@ -164,6 +165,7 @@ moved r id e f decisions k m = record {
 
 pub decided-kept : (r : Recorded) (d : Decision) → IsKept r → length r.decisions < CONNECTIONS → is_borne r.sessions (length r.decisions + 1) d ≡ true → IsKept (decided r d)
 decided-kept r d k room b = record {
+  places = k.places;
   next_id = k.next_id;
   few = let a : length r.sessions ≤ length r.decisions = k.few in omega (arith, length-append r.decisions (d ∷ []));
   room = omega (arith, length-append r.decisions (d ∷ []));
@@ -215,6 +217,7 @@ begun-own r slot k l = record {
 
 pub begun-kept : (r : Recorded) (slot : ℕ) → IsKept r → length r.decisions < CONNECTIONS → slice_get r.table.seats slot ≡ Some None → IsKept (begun_in r slot)
 begun-kept r slot k room free = record {
+  places = length-set r.table.seats slot (Some (record { id = r.table.next; live = true })) ∙ k.places;
   next_id = let n : r.table.next ≡ length r.sessions + 1 = k.next_id in omega (arith, length-append r.sessions (b ∷ []));
   few = let a : length r.sessions ≤ length r.decisions = k.few in omega (arith, length-append r.decisions (d ∷ []), length-append r.sessions (b ∷ []));
   room = omega (arith, length-append r.decisions (d ∷ []));

@@ -121,6 +121,7 @@ pub record IsSession (seats : List (Option Seat)) (decisions : List Decision) (e
 
 -- What every registry keeps.
 pub record IsKept (r : Recorded) : Type 0 where
+  pub places : length r.table.seats ≡ SLOTS
   pub next_id : r.table.next ≡ length r.sessions + 1
   pub few : length r.sessions ≤ length r.decisions
   pub room : length r.decisions ≤ CONNECTIONS

@@ -1,5 +1,5 @@
 //! What was decided, and what became of the sessions.
-ghost use Rattle.std.specs.Prelude.{◌≡◌, ◌+◌, ◌<◌, ◌≤◌, length, IfOk, IsTrue, true};
+ghost use Rattle.std.specs.Prelude.{◌≡◌, ◌+◌, ◌<◌, ◌≤◌, length, IfOk, IsTrue, true, count_by};
 ghost use Rattle.ep_table.specs.Sessions.{accepted_by, held_count};
 ghost use Rattle.ep_registry.specs.declared.decision.Decision.TheVariants as decision;
 ghost use Rattle.ep_registry.specs.declared.limits.TheConstants.{CONNECTIONS};
@@ -7,6 +7,7 @@ ghost use Rattle.ep_registry.specs.Items.{item, passes};
 ghost use Rattle.ep_registry.specs.Recorded as recorded;
 ghost use Rattle.ep_registry.specs.Recorded.{nothing_recorded, decided, after_accepting, answer_to, after_stopping, after_failing, after_end, after_opening, found, after_looking, may_end};
 ghost use Rattle.ep_registry.specs.Told.{AreTold};
+ghost use Rattle.ep_registry.specs.Registered.{is_of};
 ghost use Rattle.ep_registry.specs.Kept.{IsKept, is_on, is_serving_entry, is_last};
 
 use crate::decision::Decision;
@@ -23,15 +24,6 @@ pub struct Journal {
     decisions: Log<Decision>,
     sessions: Log<Entry>,
     ended: bool,
-}
-
-/// What a registry leaves in the end.
-#[derive(Debug, Drop)]
-pub struct Ended {
-    /// By connection, from 1.
-    pub decisions: Log<Decision>,
-    /// By id, from 1.
-    pub sessions: Log<Entry>,
 }
 
 impl Model for Journal {
@@ -165,10 +157,19 @@ impl Journal {
             .set(id, staged(entry, Stage::Over(fate), count));
     }
 
+    /// Whether all writers have ended.
+    pub fn has_ended(&self) -> bool
+        ensures value { result ≡ self.now.ended }
+        ensures kept { IsKept self.now }
+    {
+        self.ended
+    }
+
     /// How many connections were decided.
     pub fn decided(&self) -> u32
         ensures value { result ≡ length self.now.decisions }
         ensures bound { result ≤ CONNECTIONS }
+        ensures kept { IsKept self.now }
     {
         self.decisions.len()
     }
@@ -214,23 +215,31 @@ impl Journal {
         }
     }
 
+    /// How many sessions of this role go on, where there are so many roles.
+    pub fn serving(&self, roles: u32, role: u32) -> u32
+        requires { 0 < roles }
+        ensures value { result ≡ count_by (is_of roles role) self.now.sessions }
+        ensures bound { result ≤ CONNECTIONS }
+    {
+        let entries = self.sessions.as_slice().iter();
+        entries.filter(|entry| is_of(roles, role, entry)).count() as u32
+    }
+
     /// How many slots are held.
     pub fn held(&self) -> u32
-        ensures { result ≡ held_count self.now.table }
+        ensures value { result ≡ held_count self.now.table }
+        ensures sessions { result ≡ count_by is_on self.now.sessions }
     {
         self.table.held()
     }
 
-    /// The decisions by connection and the sessions by id, when every slot is free.
-    pub fn finish(self) -> Ended
-        requires { held_count self.table ≡ 0 }
-        ensures told { AreTold result.decisions result.sessions self.ended }
-        ensures same { (result.decisions ≡ self.decisions) × (result.sessions ≡ self.sessions) }
+    /// The decisions by connection and the sessions by id, once no session goes on.
+    pub fn finish(self) -> (Log<Decision>, Log<Entry>)
+        requires { count_by is_on self.sessions ≡ 0 }
+        ensures told { AreTold result.0 result.1 self.ended }
+        ensures same { (result.0 ≡ self.decisions) × (result.1 ≡ self.sessions) }
     {
-        Ended {
-            decisions: self.decisions,
-            sessions: self.sessions,
-        }
+        (self.decisions, self.sessions)
     }
 
     /// All writers have ended.
@@ -272,6 +281,13 @@ fn staged(entry: Entry, stage: Stage, count: u32) -> Entry
         gone: entry.gone.or(Some(count)),
         ..entry
     }
+}
+
+fn is_of(roles: u32, role: u32, entry: &Entry) -> bool
+    requires { 0 < roles }
+    ensures { result ≡ is_of roles role entry.now }
+{
+    entry.slot % roles == role && matches!(entry.stage, Stage::Serving | Stage::Ending(_))
 }
 
 fn ends_as(fate: Fate, stage: Stage) -> bool

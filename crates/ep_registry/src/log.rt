@@ -33,11 +33,19 @@ impl<I: Copy> Log<I> {
         Ok(Log { items })
     }
 
+    /// How many items there are.
     pub fn len(&self) -> u32
         ensures value { result ≡ length self.now }
         ensures bound { result ≤ CONNECTIONS }
     {
         self.items.len() as u32
+    }
+
+    /// The items in their order.
+    pub fn as_slice(&self) -> &[I]
+        ensures { result.now ≡ self.now }
+    {
+        self.items.as_slice()
     }
 
     /// One item more.

@@ -55,8 +55,8 @@ fn a_stop_before_the_programs_end_is_granted_and_one_after_it_is_refused(
     assert!(rt; journal.decision(3) == Some(Decision::Ticket { id: 1 }));
     assert!(rt; journal.decision(5) == Some(Decision::Refused { id: 2 }));
     if journal.held() == 0 {
-        let ended = journal.finish();
-        assert!(rt; ended.decisions.len() == 5 && ended.sessions.len() == 2);
+        let (decisions, sessions) = journal.finish();
+        assert!(rt; decisions.len() == 5 && sessions.len() == 2);
     }
     Ok(())
 }

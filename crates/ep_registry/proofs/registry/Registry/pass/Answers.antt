@@ -1,0 +1,24 @@
+use Rattle.std.proofs.Common.{List, [], ◌∷◌, ◌++◌, ap, sym, ◌∙◌}
+use Rattle.ep_registry.specs.declared.decision.Decision.{Decision}
+use Rattle.ep_registry.specs.declared.decision.Decision.TheVariants as decision
+use Rattle.ep_registry.specs.Recorded.{Recorded}
+use Rattle.ep_registry.specs.Registered.{Desk}
+use Rattle.ep_registry.proofs.Tied.{book-is}
+use Rattle.ep_registry.proofs.Calls.{passed}
+use Rattle.ep_registry.proofs.Decides.{half-is}
+use Rattle.ep_registry.proofs.registry.Registry.pass.Goals as goal
+
+pub invariant_of-self : goal.invariant_of-self
+invariant_of-self g c =
+    let d : Desk = record { recorded = c.self.inside.journal; book = c.self.inside.book; holds = c.self.inside.holds; spare = c.self.inside.spare.items; marks = c.self.inside.marks; roles = c.self.inside.roles; closed = c.self.inside.closed; early = c.self.inside.early } in
+    record {
+      tied = rw (c.tell.ensures.book, c.decisions.ensures, c.pass.ensures, c.meet.ensures.same.1) (passed d decision.Nothing c.self.invariant.tied);
+      ended = rw c.pass.ensures c.self.invariant.ended;
+      many = c.self.invariant.many;
+    }
+
+pub returns-clause-half : goal.returns-clause-half
+returns-clause-half g c =
+    let told = book-is c.self.inside.book c.args.server.now.decisions c.self.inside.journal.decisions c.self.invariant.tied.book c.meet.ensures.equal in
+    half-is c.args.server.now c.meet.new.self c.tell.new.self c.decisions.result.now (c.args.server.now.decisions ++ decision.Nothing ∷ []) c.tell.ensures.value c.meet.ensures.same.0
+    (c.decisions.ensures ∙ ap (λ (r : Recorded). r.decisions) c.pass.ensures ∙ ap (λ (ds : List Decision). ds ++ decision.Nothing ∷ []) (sym told))

@@ -1,0 +1,66 @@
+-- What whoever has a session knows of it, and that the registry knows the same.
+use Rattle.std.specs.Prelude.{◌≡◌, ℕ, ◌+◌, ◌-◌, ◌<◌, ◌≤◌, false, Option, Some, None, List, length, slice_get}
+use Rattle.ep_tie.specs.Tied.{Tied}
+use Rattle.ep_table.specs.declared.limits.TheConstants.{SLOTS}
+use Rattle.ep_table.specs.declared.table.Accepted.{Accepted}
+use Rattle.ep_table.specs.declared.table.Accepted.TheVariants as accepted
+use Rattle.ep_table.specs.declared.table.StopAnswer.{StopAnswer}
+use Rattle.ep_table.specs.declared.table.StopAnswer.TheVariants as answer
+use Rattle.ep_registry.specs.declared.decision.Decision.{Decision}
+use Rattle.ep_registry.specs.declared.decision.Decision.TheVariants as decision
+use Rattle.ep_registry.specs.declared.hold.Hold.{Hold}
+use Rattle.ep_registry.specs.declared.session.Entry.{Entry}
+use Rattle.ep_registry.specs.declared.session.Fate.{Fate}
+use Rattle.ep_registry.specs.declared.session.Stage.{Stage}
+use Rattle.ep_registry.specs.declared.session.Stage.TheVariants as stage
+use Rattle.ep_registry.specs.declared.limits.TheConstants.{CONNECTIONS}
+use Rattle.ep_registry.specs.Items.{item}
+use Rattle.ep_registry.specs.Recorded.{Recorded}
+
+-- The ties of sessions are taken from the last place on.
+pub record IsHolder (hold : Hold) (half : Tied (Option Hold)) : Type 0 where
+  pub first : 0 < hold.id
+  pub last : hold.id ≤ CONNECTIONS
+  pub slot : hold.slot < SLOTS
+  pub place : half.place ≡ CONNECTIONS - hold.id
+  pub value : half.value ≡ Some (Some hold)
+
+abbrev pub hold_of : ℕ → Entry → Hold
+hold_of id e = record { id = id; conn = e.conn; slot = e.slot; stage = e.stage; early = e.early }
+
+abbrev pub held_as : ℕ → Option Entry → Option Hold
+held_as id None = None
+held_as id (Some e) = Some (hold_of id e)
+
+-- What is known of the session of this id, if there is one.
+abbrev pub hold_at : List Entry → ℕ → Option Hold
+hold_at sessions id = held_as id (item sessions id)
+
+-- The registry's halves show what its sessions are.
+abbrev pub AreHeld : List (Option (Option Hold)) → List Entry → Type 0
+AreHeld holds sessions = (id : ℕ) → 0 < id → id ≤ CONNECTIONS → slice_get holds (CONNECTIONS - id) ≡ Some (Some (hold_at sessions id))
+
+-- A session that begins, or none where all slots are held.
+abbrev pub begun_as : Recorded → Accepted → Option Hold
+begun_as r (accepted.Seat slot id) =
+    Some (record { id = id; conn = length r.decisions + 1; slot = slot; stage = stage.Serving; early = false })
+begun_as r accepted.Full = None
+
+-- The stage of a session at which a role has looked.
+abbrev pub stage_found : Stage → Option Fate → Stage
+stage_found s None = s
+stage_found s (Some fate) = stage.Ending fate
+
+-- A session that waits stands in the place of its slot.
+abbrev pub AreInSlots : List (Option Hold) → Type 0
+AreInSlots places = (place : ℕ) (hold : Hold) → slice_get places place ≡ Some (Some hold) → hold.slot ≡ place
+
+-- What is decided where a session begins, or where all slots are held.
+abbrev pub accept_decides : Option Hold → Decision
+accept_decides None = decision.Full
+accept_decides (Some hold) = decision.Accepted hold.id
+
+-- What is decided on a stop.
+abbrev pub stop_decides : StopAnswer → Decision
+stop_decides (answer.Ticket ticket) = decision.Ticket ticket.id
+stop_decides (answer.NotLive id) = decision.Refused id

@@ -1,0 +1,134 @@
+-- A registry with its halves of the ties, and the halves of the server and of the roles.
+use Rattle.std.specs.Prelude.{◌≡◌, ℕ, ◌+◌, ◌-◌, ◌<◌, ◌≤◌, ◌%◌, Bool, true, false, ◌&&◌, Option, Some, None, List, [], ◌∷◌, length, count_by, slice_get, slice_set, ◌==◌}
+use Rattle.ep_tie.specs.Tied.{Tied}
+use Rattle.ep_table.specs.declared.limits.TheConstants.{SLOTS}
+use Rattle.ep_registry.specs.declared.decision.Decision.{Decision}
+use Rattle.ep_registry.specs.declared.session.Entry.{Entry}
+use Rattle.ep_registry.specs.declared.hold.Hold.{Hold}
+use Rattle.ep_registry.specs.declared.server.Mark.{Mark}
+use Rattle.ep_registry.specs.declared.limits.TheConstants.{CONNECTIONS}
+use Rattle.ep_registry.specs.Recorded.{Recorded}
+use Rattle.ep_registry.specs.Kept.{is_on, is_session}
+use Rattle.ep_registry.specs.Places.{numbered}
+use Rattle.ep_registry.specs.Held.{AreHeld}
+use Rattle.ep_registry.specs.Written.{all_there}
+
+-- What a registry is to its callers: what was decided, whether the server has ended, how many roles there are, which writers
+-- have ended by thread, and which sessions wait for their roles by slot.
+pub record Registered : Type 0 where
+  pub recorded : Recorded
+  pub closed : Bool
+  pub roles : ℕ
+  pub there : List Bool
+  pub waiting : List (Option Hold)
+
+-- ---- halves
+
+pub record ServerHalf : Type 0 where
+  pub decisions : List Decision
+  pub early : ℕ
+  pub left : Bool
+
+pub record RoleHalf : Type 0 where
+  pub number : ℕ
+  pub roles : ℕ
+  pub left : Bool
+
+abbrev pub mark_of : ServerHalf → Mark
+mark_of s = record { count = s.early; left = s.left }
+
+abbrev pub list_in : Option (List Decision) → List Decision
+list_in None = []
+list_in (Some decisions) = decisions
+
+-- The server's half of the decisions is that of the first place, and its mark is that of the last, after those of the roles.
+pub record IsServer (book : Tied (List Decision)) (mark : Mark) (half : Tied Mark) : Type 0 where
+  pub book_place : book.place ≡ 0
+  pub book_value : book.value ≡ Some (list_in book.value)
+  pub place : half.place ≡ SLOTS
+  pub value : half.value ≡ Some mark
+
+-- A role's mark is that of its number.
+pub record IsRole (number : ℕ) (mark : Mark) (half : Tied Mark) : Type 0 where
+  pub one_of : number < mark.count
+  pub few : mark.count ≤ SLOTS
+  pub place : half.place ≡ number
+  pub value : half.value ≡ Some mark
+
+-- ---- what the registry keeps
+
+-- The session goes on, in a slot that this role serves: the slots are dealt out by their remainders.
+abbrev pub is_of : ℕ → ℕ → Entry → Bool
+is_of roles role e = (e.slot % roles == role) && is_on e
+
+-- A session that was opened on all rows before any write.
+abbrev pub is_early : Entry → Bool
+is_early e = e.early && is_session e
+
+-- The registry's lists, with its halves of the ties by place.
+pub record Desk : Type 0 where
+  pub recorded : Recorded
+  pub book : List (Option (List Decision))
+  pub holds : List (Option (Option Hold))
+  pub spare : List (Tied (Option Hold))
+  pub marks : List (Option Mark)
+  pub roles : ℕ
+  pub closed : Bool
+  pub early : ℕ
+
+-- A role that has left does so after the server, and none of its sessions goes on.
+abbrev pub IsMarked : Desk → ℕ → Option (Option Mark) → Type 0
+IsMarked d role None = ⊥
+IsMarked d role (Some None) = ⊥
+IsMarked d role (Some (Some mark)) =
+    (mark.count ≡ d.roles) × (mark.left ≡ true → (d.closed ≡ true) × (count_by (is_of d.roles role) d.recorded.sessions ≡ 0))
+
+pub record IsTied (d : Desk) : Type 0 where
+  -- The server's half shows the decisions.
+  pub book : d.book ≡ Some d.recorded.decisions ∷ []
+  -- Who has a session knows of it what the registry knows.
+  pub places : length d.holds ≡ CONNECTIONS
+  pub holds : AreHeld d.holds d.recorded.sessions
+  pub spare : d.spare ≡ numbered (CONNECTIONS - length d.recorded.sessions) None
+  pub few : length d.recorded.sessions ≤ CONNECTIONS
+  -- The server knows how many sessions were opened before any write, and whether it has ended.
+  pub marks : length d.marks ≡ SLOTS + 1
+  pub server : slice_get d.marks SLOTS ≡ Some (Some (record { count = d.early; left = d.closed }))
+  pub early : d.early ≡ count_by is_early d.recorded.sessions
+  pub role : (role : ℕ) → role < SLOTS → IsMarked d role (slice_get d.marks role)
+  pub some : 0 < d.roles
+
+-- One more, or none.
+abbrev pub counted_if : Bool → ℕ
+counted_if true = 1
+counted_if false = 0
+
+-- All roles have ended, each with its half.
+pub record AreLeft (roles : List RoleHalf) : Type 0 where
+  pub some : 0 < length roles
+  pub few : length roles ≤ SLOTS
+  pub each : (number : ℕ) → number < length roles → slice_get roles number ≡ Some (record { number = number; roles = length roles; left = true })
+
+-- The registry's marks are those of the roles.
+abbrev pub AreMarked : List (Option Mark) → List RoleHalf → Type 0
+AreMarked marks roles =
+    (place : ℕ) (role : RoleHalf) → slice_get roles place ≡ Some role → slice_get marks role.number ≡ Some (Some (record { count = role.roles; left = role.left }))
+
+-- What a registry leaves.
+pub record EndedLists : Type 0 where
+  pub decisions : List Decision
+  pub sessions : List Entry
+
+-- The program has ended once all writers have.
+pub record IsRegistered (threads : ℕ) (d : Desk) (there : List Bool) : Type 0 where
+  pub tied : IsTied d
+  pub ended : d.recorded.ended ≡ all_there there
+  pub many : length there ≡ threads
+
+-- The writer of this thread has ended.
+abbrev pub after_writer : Registered → ℕ → Registered
+after_writer r thread =
+    record r {
+      there = slice_set r.there (thread - 1) true;
+      recorded = record r.recorded { ended = all_there (slice_set r.there (thread - 1) true) };
+    }
