@@ -1,0 +1,5 @@
+pub mod Answers
+pub mod Errors
+pub mod Found
+pub mod Input
+pub mod state
