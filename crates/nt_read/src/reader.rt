@@ -16,8 +16,9 @@ use std::alloc::{AllocError, Global};
 #[derive(Drop)]
 pub struct TraceReader {
     alloc: Global,
+    // Which unit is the next one.
     stage: Stage,
-    // The offset of that unit in the stream.
+    // Its offset in the stream.
     at: u64,
     // What came of it.
     kept: Vec<u8>,
