@@ -1,7 +1,8 @@
 -- The words name one session.
-use Rattle.std.proofs.Common.{◌≡◌, ℕ, List, [], ◌∷◌, ◌++◌, Some, codes, sym, ap, ◌∙◌, inl, inr}
+use Rattle.std.proofs.Common.{◌≡◌, ℕ, List, [], ◌∷◌, ◌++◌, Some, codes, get_or, refl, sym, ap, ◌∙◌, inl, inr, arith}
 use Rattle.ep_plan.specs.Words.{number_in}
-use Rattle.pt_cli.specs.Words.{IsSession, IsReplay}
+use Rattle.std.specs.Prelude.{Bool, false, IsTrue}
+use Rattle.pt_cli.specs.Words.{IsSession, IsReplay, IsReport, AsksNobody}
 
 session-one : (digits digits' : List ℕ) (a b : ℕ) → digits ≡ digits' → IsSession digits a → IsSession digits' b → a ≡ b
 session-one digits digits' a b same one other =
@@ -39,3 +40,24 @@ replay-one words a b (inr (inr one)) (inl other) = absurd (one-two _ _ _ (sym ot
 replay-one words a b (inr (inr one)) (inr (inl other)) = absurd (two-three _ _ _ _ _ (sym one.1 ∙ other.1))
 replay-one words a b (inr (inr one)) (inr (inr other)) =
     session-one one.0 other.0 a b (rest-is (codes "--session=") one.0 other.0 (second-is _ _ _ _ (sym one.1 ∙ other.1))) one.2 other.2
+
+-- The words are not both.
+pub report-not_replay : (words : List (List ℕ)) (session : ℕ) → IsReport words → IsReplay words session → ⊥
+report-not_replay words session is (inl alone) = absurd (apart (sym is ∙ alone.0))
+  where
+    apart : codes "report" ∷ [] ≡ codes "replay" ∷ [] → ⊥
+    apart same =
+        let fourth : 111 ≡ 108 = ap (λ (words : List (List ℕ)). get_or (get_or words 0 []) 3 0) same in
+        omega (arith, fourth)
+report-not_replay words session is (inr (inl option)) = one-three _ _ _ _ (sym is ∙ option.1)
+report-not_replay words session is (inr (inr option)) = one-two _ _ _ (sym is ∙ option.1)
+
+-- A test that answers no.
+pub no-report : (words : List (List ℕ)) (answer : Bool) → (IsReport words → IsTrue answer) → answer ≡ false → IsReport words → ⊥
+no-report words answer holds fails is =
+    let there = holds is in
+    cc
+
+-- They call nobody.
+pub report-asks_nobody : (words : List (List ℕ)) → IsReport words → AsksNobody words
+report-asks_nobody words is = rw is refl

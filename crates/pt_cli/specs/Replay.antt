@@ -1,15 +1,15 @@
 -- What the program answers and writes.
-use Rattle.std.specs.Prelude.{◌≡◌, ℕ, ◌+◌, ◌⊎◌, Bool, true, false, List, length}
-use Rattle.pt_io.specs.Taken.{ReadAll}
+use Rattle.std.specs.Prelude.{◌≡◌, ℕ, ◌⊎◌, true, false, List}
 use Rattle.ep_defs.specs.Session.{standard_info_of}
 use Rattle.ep_model.specs.History.{is_finished}
 use Rattle.ep_model.specs.today.Lawful.{IsLawful}
 use Rattle.ep_core.specs.Streams.{IsStreamOf}
 use Rattle.ep_plan.specs.declared.line.Line.{Line}
+use Rattle.pt_reading.specs.Answers as reading
 use Rattle.pt_cli.specs.declared.errors.Refusal.{Refusal}
 use Rattle.pt_cli.specs.Errors.{words_error, refusal_error, unfinished_error}
 use Rattle.pt_cli.specs.Schedule.{definitions_of, past_of, IsSchedule, IsRefused}
-use Rattle.pt_cli.specs.Words.{IsReplay}
+use Rattle.pt_cli.specs.Words.{IsReplay, IsReport, AreReading}
 
 -- The stream is what replaying the bytes for a session gives: they are a schedule, each of its steps could be made, the
 -- session is finished, and the stream is the one of its entries and faithful.
@@ -34,14 +34,10 @@ IsError session bytes text =
     ((refusal : Refusal) × IsRefused bytes refusal × (text ≡ refusal_error refusal))
     ⊎ (IsUnfinished session bytes × (text ≡ unfinished_error session))
 
--- The input was read to its end: where it tells its bytes it gave these, and told or not it gave as many.
-pub record ReadWhole {I : Type 0} (tells : I → Bool) (given left : I → List ℕ) (may_give : I → ℕ) (old new : I) (bytes : List ℕ) : Type 0 where
-  pub told : ReadAll tells given left old new bytes
-  pub counted : may_give new + length bytes ≡ may_give old
-
 -- What is written for the words and the input, if nothing fails.
 abbrev pub IsAnswer : List (List ℕ) → List ℕ → List ℕ → Type 0
 IsAnswer words bytes text =
-    (((session : ℕ) → IsReplay words session → ⊥) × (text ≡ words_error))
+    ((AreReading words → ⊥) × (text ≡ words_error))
     ⊎ ((session : ℕ) × IsReplay words session × IsError session bytes text)
     ⊎ ((session : ℕ) × IsReplay words session × IsReplayed session bytes text)
+    ⊎ (IsReport words × reading.IsAnswer bytes text)

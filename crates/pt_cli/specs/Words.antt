@@ -17,3 +17,11 @@ IsReplay words session =
 -- The words are no client's, as all that call nobody are.
 abbrev pub AsksNobody : List (List ℕ) → Type 0
 AsksNobody words = command_in words ≡ None
+
+-- The words are `report`.
+abbrev pub IsReport : List (List ℕ) → Type 0
+IsReport words = words ≡ codes "report" ∷ []
+
+-- The words ask for what reads the input.
+abbrev pub AreReading : List (List ℕ) → Type 0
+AreReading words = ((session : ℕ) × IsReplay words session) ⊎ IsReport words

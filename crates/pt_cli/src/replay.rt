@@ -1,4 +1,4 @@
-//! What the program does that waits for nobody: a schedule is replayed.
+//! What the program does that waits for nobody: a schedule is replayed, or a stream is reported.
 ghost use Rattle.std.specs.Prelude.{◌≡◌, ◌≢◌, ◌⊎◌, ℕ, List, map, IsTrue, IfOk, OnOk, IsOkAnd};
 ghost use Rattle.std.specs.String.{string_bytes};
 ghost use Rattle.pt_io.specs.Faults.{HasRisen};
@@ -8,41 +8,54 @@ ghost use Rattle.pt_cli.specs.declared.replay.ReadFault.TheVariants.{OutOfMemory
 ghost use Rattle.pt_cli.specs.Errors.{words_error};
 ghost use Rattle.pt_cli.specs.Schedule.{IsRefused};
 ghost use Rattle.pt_cli.specs.Reading.{IsJudged};
-ghost use Rattle.pt_cli.specs.Words.{IsReplay};
-ghost use Rattle.pt_cli.specs.Replay.{IsReplayed, IsUnfinished, Finishes, IsError, ReadWhole, IsAnswer};
+ghost use Rattle.pt_reading.specs.Answers as reading;
+ghost use Rattle.pt_reading.specs.Found.{IsWhole, IsReported};
+ghost use Rattle.pt_reading.specs.Input.{ReadWhole};
+ghost use Rattle.pt_cli.specs.Words.{IsReplay, IsReport, AreReading};
+ghost use Rattle.pt_cli.specs.Replay.{IsReplayed, IsUnfinished, Finishes, IsError, IsAnswer};
 
 use crate::ends::Plain;
 use crate::errors::{refusal_text, unfinished_text};
 use crate::laws::a_text_has_one_outcome;
 use crate::text::{Outcome, Reader};
-use crate::words::session_of;
+use crate::words::{is_report, session_of};
 use pt_io::{Failed, Sink, Source};
+use pt_reading::report;
 use std::alloc::{AllocError, Global};
 
 /// Does what the words of the command line ask for, where that waits for nobody.
 ///
 /// With `replay`, `replay --session N` or `replay --session=N` it reads a schedule from `input` to its end and writes the
-/// stream of session N, by default 1, to `output` in one write. With status 2 or 3 the output took one error line. Nothing
-/// is written before the input was read.
+/// stream of session N, by default 1, to `output` in one write. With `report` it reads a stream from `input` to its end and
+/// writes the report of what the stream holds. With status 2 or 3 the output took one error line. Nothing is written before
+/// the input was read.
 pub fn plain<I: Source, O: Sink>(
     alloc: Global,
     words: &[String],
     input: &mut I,
     output: &mut O,
 ) -> Plain
-    ensures done { result.status ≡ 0 → (session : ℕ) × IsReplay (map string_bytes words.now) session × ((bytes : List ℕ) × (stream : List ℕ)
+    ensures done { (session : ℕ) → IsReplay (map string_bytes words.now) session → result.status ≡ 0 → (bytes : List ℕ) × (stream : List ℕ)
         × ReadWhole I.tells_given I.given I.left I.may_give input.old input.new bytes
-        × IsReplayed session bytes stream × TookAll O.tells_taken O.taken output.old output.new stream) }
+        × IsReplayed session bytes stream × TookAll O.tells_taken O.taken output.old output.new stream }
+    ensures reported { IsReport (map string_bytes words.now) → result.status ≡ 0 → (bytes : List ℕ) × (text : List ℕ)
+        × ReadWhole I.tells_given I.given I.left I.may_give input.old input.new bytes
+        × IsReported bytes text × TookAll O.tells_taken O.taken output.old output.new text }
 
-    // Words that are not `replay`.
-    ensures words { result.status ≡ 2 → ((session : ℕ) → IsReplay (map string_bytes words.now) session → ⊥)
+    // Words that are neither.
+    ensures words { result.status ≡ 2 → (AreReading (map string_bytes words.now) → ⊥)
         × TookAll O.tells_taken O.taken output.old output.new words_error × (input.new ≡ input.old) }
-    ensures words_refused { ((session : ℕ) → IsReplay (map string_bytes words.now) session → ⊥) → (result.status ≡ 2) ⊎ (result.status ≡ 5) }
+    ensures words_refused { (AreReading (map string_bytes words.now) → ⊥) → (result.status ≡ 2) ⊎ (result.status ≡ 5) }
 
     // An input that is no schedule, or does not finish the session.
-    ensures refused { result.status ≡ 3 → (session : ℕ) × IsReplay (map string_bytes words.now) session × ((bytes : List ℕ) × (text : List ℕ)
+    ensures refused { (session : ℕ) → IsReplay (map string_bytes words.now) session → result.status ≡ 3 → (bytes : List ℕ) × (text : List ℕ)
         × ReadWhole I.tells_given I.given I.left I.may_give input.old input.new bytes
-        × IsError session bytes text × TookAll O.tells_taken O.taken output.old output.new text) }
+        × IsError session bytes text × TookAll O.tells_taken O.taken output.old output.new text }
+
+    // An input that is no stream, or not whole, or has an item that can't stand where it does.
+    ensures stream_refused { IsReport (map string_bytes words.now) → result.status ≡ 3 → (bytes : List ℕ) × (text : List ℕ)
+        × ReadWhole I.tells_given I.given I.left I.may_give input.old input.new bytes
+        × reading.IsError bytes result.at text × TookAll O.tells_taken O.taken output.old output.new text }
 
     // An input that tells its bytes is judged by them, unless something fails.
     ensures refused_exactly { (session : ℕ) (refusal : Refusal) → IsReplay (map string_bytes words.now) session → IsTrue (I.tells_given input.old)
@@ -51,14 +64,16 @@ pub fn plain<I: Source, O: Sink>(
         → IsUnfinished session (I.left input.old) → (result.status ≡ 3) ⊎ (result.status ≡ 4) ⊎ (result.status ≡ 5) ⊎ (result.status ≡ 9) }
     ensures taken { (session : ℕ) → IsReplay (map string_bytes words.now) session → IsTrue (I.tells_given input.old)
         → Finishes session (I.left input.old) → (result.status ≡ 0) ⊎ (result.status ≡ 4) ⊎ (result.status ≡ 5) ⊎ (result.status ≡ 9) }
+    ensures whole { IsReport (map string_bytes words.now) → IsTrue (I.tells_given input.old) → IsWhole (I.left input.old) → result.status ≢ 3 }
+    ensures not_whole { IsReport (map string_bytes words.now) → IsTrue (I.tells_given input.old) → (IsWhole (I.left input.old) → ⊥) → result.status ≢ 0 }
 
     // A fault comes only from the object that was handed in, in this call.
-    ensures read_fault { result.status ≡ 4 → ((session : ℕ) × IsReplay (map string_bytes words.now) session)
+    ensures read_fault { result.status ≡ 4 → AreReading (map string_bytes words.now)
         × HasRisen (I.read_faults input.old) (I.read_faults input.new) × (output.new ≡ output.old) }
     ensures all_read { result.status ≢ 4 → I.read_faults input.new ≡ I.read_faults input.old }
     ensures write_fault { result.status ≡ 5 → HasRisen (O.write_faults output.old) (O.write_faults output.new) }
     ensures written_part { result.status ≡ 5 → (bytes : List ℕ) × (text : List ℕ)
-        × ((session : ℕ) → IsReplay (map string_bytes words.now) session → ReadWhole I.tells_given I.given I.left I.may_give input.old input.new bytes)
+        × (AreReading (map string_bytes words.now) → ReadWhole I.tells_given I.given I.left I.may_give input.old input.new bytes)
         × IsAnswer (map string_bytes words.now) bytes text
         × (IsTrue (O.tells_taken output.old) → TookPartOf text (O.taken output.old) (O.taken output.new)) }
     ensures all_written { result.status ≢ 5 → O.write_faults output.new ≡ O.write_faults output.old }
@@ -66,9 +81,16 @@ pub fn plain<I: Source, O: Sink>(
     // Out of memory: nothing was written.
     ensures memory { result.status ≡ 9 → output.new ≡ output.old }
     ensures statuses { (result.status ≡ 0) ⊎ (result.status ≡ 2) ⊎ (result.status ≡ 3) ⊎ (result.status ≡ 4) ⊎ (result.status ≡ 5) ⊎ (result.status ≡ 9) }
-    ensures no_offset { result.at ≡ 0 }
+    ensures no_offset { (IsReport (map string_bytes words.now) → ⊥) ⊎ (result.status ≢ 3) → result.at ≡ 0 }
 {
     a_text_has_one_outcome();
+    if is_report(words) {
+        let end = report(alloc, input, output);
+        return Plain {
+            status: end.status,
+            at: end.at,
+        };
+    }
     let Some(session) = session_of(words) else {
         return say(output, b"error: words\n", 2);
     };

@@ -10,8 +10,11 @@ ghost use Rattle.pt_client.specs.Answers.{target_of, request_of, Answers};
 ghost use Rattle.pt_cli.specs.declared.errors.Refusal.{Refusal};
 ghost use Rattle.pt_cli.specs.Errors.{words_error};
 ghost use Rattle.pt_cli.specs.Schedule.{IsRefused};
-ghost use Rattle.pt_cli.specs.Words.{IsReplay, AsksNobody};
-ghost use Rattle.pt_cli.specs.Replay.{IsReplayed, IsUnfinished, Finishes, IsError, ReadWhole, IsAnswer};
+ghost use Rattle.pt_reading.specs.Answers as reading;
+ghost use Rattle.pt_reading.specs.Found.{IsWhole, IsReported};
+ghost use Rattle.pt_reading.specs.Input.{ReadWhole};
+ghost use Rattle.pt_cli.specs.Words.{IsReplay, IsReport, AreReading, AsksNobody};
+ghost use Rattle.pt_cli.specs.Replay.{IsReplayed, IsUnfinished, Finishes, IsError, IsAnswer};
 ghost use Rattle.pt_cli.specs.Finished.{end_of};
 
 use crate::ends::{Finished, Plain};
@@ -24,8 +27,9 @@ use std::alloc::{AllocError, Global};
 /// Does what the words of the command line ask for.
 ///
 /// With `replay`, `replay --session N` or `replay --session=N` it reads a schedule from `input` to its end and writes the
-/// stream of session N, by default 1, to `output` in one write. With status 2 or 3 the output took one error line. Nothing
-/// is written before the input was read.
+/// stream of session N, by default 1, to `output` in one write. With `report` it reads a stream from `input` to its end and
+/// writes the report of what the stream holds. With status 2 or 3 the output took one error line. Nothing is written before
+/// the input was read.
 ///
 /// With `collect TARGET MB RULE..`, `stop TARGET ID` or `ps TARGET` it calls the program whose socket is at the path TARGET
 /// and asks it for a session of MB megabytes, for the end of the session ID, or what it is. It writes the session's stream
@@ -37,24 +41,30 @@ pub fn tracepipe<I: Source, O: Sink, K: Caller>(
     output: &mut O,
     caller: &mut K,
 ) -> Finished<K::Link>
-    ensures done { AsksNobody (map string_bytes words.now) → result.status ≡ 0 → (session : ℕ) × IsReplay (map string_bytes words.now) session
-        × ((bytes : List ℕ) × (stream : List ℕ)
+    ensures done { (session : ℕ) → AsksNobody (map string_bytes words.now) → IsReplay (map string_bytes words.now) session → result.status ≡ 0
+        → (bytes : List ℕ) × (stream : List ℕ)
         × ReadWhole I.tells_given I.given I.left I.may_give input.old input.new bytes
-        × IsReplayed session bytes stream × TookAll O.tells_taken O.taken output.old output.new stream) }
+        × IsReplayed session bytes stream × TookAll O.tells_taken O.taken output.old output.new stream }
+    ensures reported { IsReport (map string_bytes words.now) → result.status ≡ 0 → (bytes : List ℕ) × (text : List ℕ)
+        × ReadWhole I.tells_given I.given I.left I.may_give input.old input.new bytes
+        × IsReported bytes text × TookAll O.tells_taken O.taken output.old output.new text }
 
-    // Words that are neither `replay` nor a client's.
-    ensures words { AsksNobody (map string_bytes words.now) → result.status ≡ 2
-        → ((session : ℕ) → IsReplay (map string_bytes words.now) session → ⊥)
+    // Words that are neither a client's nor ask for what reads the input.
+    ensures words { AsksNobody (map string_bytes words.now) → result.status ≡ 2 → (AreReading (map string_bytes words.now) → ⊥)
         × TookAll O.tells_taken O.taken output.old output.new words_error × (input.new ≡ input.old) }
-    ensures words_refused { AsksNobody (map string_bytes words.now)
-        → ((session : ℕ) → IsReplay (map string_bytes words.now) session → ⊥)
+    ensures words_refused { AsksNobody (map string_bytes words.now) → (AreReading (map string_bytes words.now) → ⊥)
         → (result.status ≡ 2) ⊎ (result.status ≡ 5) ⊎ (result.status ≡ 9) }
 
     // An input that is no schedule, or does not finish the session.
-    ensures refused { AsksNobody (map string_bytes words.now) → result.status ≡ 3
-        → (session : ℕ) × IsReplay (map string_bytes words.now) session × ((bytes : List ℕ) × (text : List ℕ)
+    ensures refused { (session : ℕ) → AsksNobody (map string_bytes words.now) → IsReplay (map string_bytes words.now) session → result.status ≡ 3
+        → (bytes : List ℕ) × (text : List ℕ)
         × ReadWhole I.tells_given I.given I.left I.may_give input.old input.new bytes
-        × IsError session bytes text × TookAll O.tells_taken O.taken output.old output.new text) }
+        × IsError session bytes text × TookAll O.tells_taken O.taken output.old output.new text }
+
+    // An input that is no stream, or not whole, or has an item that can't stand where it does.
+    ensures stream_refused { IsReport (map string_bytes words.now) → result.status ≡ 3 → (bytes : List ℕ) × (text : List ℕ)
+        × ReadWhole I.tells_given I.given I.left I.may_give input.old input.new bytes
+        × reading.IsError bytes result.at text × TookAll O.tells_taken O.taken output.old output.new text }
 
     // An input that tells its bytes is judged by them, unless something fails.
     ensures refused_exactly { (session : ℕ) (refusal : Refusal) → AsksNobody (map string_bytes words.now)
@@ -66,14 +76,16 @@ pub fn tracepipe<I: Source, O: Sink, K: Caller>(
     ensures taken { (session : ℕ) → AsksNobody (map string_bytes words.now)
         → IsReplay (map string_bytes words.now) session → IsTrue (I.tells_given input.old)
         → Finishes session (I.left input.old) → (result.status ≡ 0) ⊎ (result.status ≡ 4) ⊎ (result.status ≡ 5) ⊎ (result.status ≡ 9) }
+    ensures whole { IsReport (map string_bytes words.now) → IsTrue (I.tells_given input.old) → IsWhole (I.left input.old) → result.status ≢ 3 }
+    ensures not_whole { IsReport (map string_bytes words.now) → IsTrue (I.tells_given input.old) → (IsWhole (I.left input.old) → ⊥) → result.status ≢ 0 }
 
     // A fault of the input or the output comes only from the object that was handed in, in this call.
-    ensures read_fault { result.status ≡ 4 → ((session : ℕ) × IsReplay (map string_bytes words.now) session)
+    ensures read_fault { result.status ≡ 4 → AreReading (map string_bytes words.now)
         × HasRisen (I.read_faults input.old) (I.read_faults input.new) × (output.new ≡ output.old) }
     ensures all_read { result.status ≢ 4 → I.read_faults input.new ≡ I.read_faults input.old }
     ensures write_fault { result.status ≡ 5 → HasRisen (O.write_faults output.old) (O.write_faults output.new) }
     ensures written_part { AsksNobody (map string_bytes words.now) → result.status ≡ 5 → (bytes : List ℕ) × (text : List ℕ)
-        × ((session : ℕ) → IsReplay (map string_bytes words.now) session → ReadWhole I.tells_given I.given I.left I.may_give input.old input.new bytes)
+        × (AreReading (map string_bytes words.now) → ReadWhole I.tells_given I.given I.left I.may_give input.old input.new bytes)
         × IsAnswer (map string_bytes words.now) bytes text
         × (IsTrue (O.tells_taken output.old) → TookPartOf text (O.taken output.old) (O.taken output.new)) }
     ensures all_written { result.status ≢ 5 → O.write_faults output.new ≡ O.write_faults output.old }
@@ -83,7 +95,8 @@ pub fn tracepipe<I: Source, O: Sink, K: Caller>(
     ensures statuses { AsksNobody (map string_bytes words.now) → (result.status ≡ 0) ⊎ (result.status ≡ 2)
         ⊎ (result.status ≡ 3) ⊎ (result.status ≡ 4) ⊎ (result.status ≡ 5) ⊎ (result.status ≡ 9) }
     ensures nobody { AsksNobody (map string_bytes words.now) → (result.peer ≡ None) × (caller.new ≡ caller.old)
-        × (result.code ≡ 0) × (result.at ≡ 0) }
+        × (result.code ≡ 0) }
+    ensures no_stream { AsksNobody (map string_bytes words.now) → (IsReport (map string_bytes words.now) → ⊥) → result.at ≡ 0 }
 
     // A client's command answers what the peer says, where the link tells it, and leaves the input alone.
     ensures answered { (command : Command) → command_in (map string_bytes words.now) ≡ Some command
@@ -92,7 +105,7 @@ pub fn tracepipe<I: Source, O: Sink, K: Caller>(
     ensures peer_line { result.status ≡ 7 → TookAll O.tells_taken O.taken output.old output.new (peer_error result.code) }
     ensures reply_line { result.status ≡ 8 → TookAll O.tells_taken O.taken output.old output.new (reply_error result.at) }
     ensures no_code { result.status ≢ 7 → result.code ≡ 0 }
-    ensures no_offset { result.status ≢ 8 → result.at ≡ 0 }
+    ensures no_offset { result.status ≢ 3 → result.status ≢ 8 → result.at ≡ 0 }
     ensures client_statuses { (command : Command) → command_in (map string_bytes words.now) ≡ Some command
         → (result.status ≡ 0) ⊎ (result.status ≡ 5) ⊎ (result.status ≡ 6) ⊎ (result.status ≡ 7) ⊎ (result.status ≡ 8) ⊎ (result.status ≡ 9) }
     ensures apart { (command : Command) → command_in (map string_bytes words.now) ≡ Some command → input.new ≡ input.old }

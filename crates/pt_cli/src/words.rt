@@ -1,7 +1,7 @@
 //! The words of the command line.
 ghost use Rattle.std.specs.Prelude.{◌≡◌, ◌↔◌, ℕ, map, IsTrue, IfSome, IfNone};
 ghost use Rattle.std.specs.String.{string_bytes};
-ghost use Rattle.pt_cli.specs.Words.{IsReplay, IsSession};
+ghost use Rattle.pt_cli.specs.Words.{IsReplay, IsReport, IsSession};
 
 use ep_plan::number;
 
@@ -19,6 +19,16 @@ pub(crate) fn session_of(words: &[String]) -> Option<u32>
             session(digits.as_bytes())
         }
         _ => None,
+    }
+}
+
+/// Whether the words are `report`.
+pub(crate) fn is_report(words: &[String]) -> bool
+    ensures { IsTrue result ↔ IsReport (map string_bytes words.now) }
+{
+    match words {
+        [command] => is_word(command, "report"),
+        _ => false,
     }
 }
 

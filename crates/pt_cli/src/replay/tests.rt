@@ -405,3 +405,13 @@ fn a_failed_write_ends_the_run(rt: HostRuntime) -> Result<(), Fail> {
     }
     Ok(())
 }
+
+#[test]
+fn a_stream_that_is_cut_is_refused_by_report(rt: HostRuntime) -> Result<(), Fail> {
+    let alloc = rt.alloc();
+    let run = run_on(alloc, &["report"], "Nettrace")?;
+    assert_eq!(rt; run.status, 3);
+    let want = b"error: offset 8: Truncated\n".as_slice();
+    assert_eq!(rt; run.taken.as_slice(), want);
+    Ok(())
+}

@@ -1,6 +1,12 @@
 -- The command that the words name is the one that was carried out, and the end of each is the program's.
-use Rattle.std.proofs.Common.{◌≡◌, Some, rules, sym, ◌∙◌}
+use Rattle.std.proofs.Common.{◌≡◌, Some, None, map, rules, sym, ◌∙◌}
+use Rattle.std.specs.String.{string_bytes}
+use Rattle.pt_cli.proofs.ReplayWords.{report-asks_nobody}
 use Rattle.pt_cli.proofs.top.tracepipe.Goals as goal
+
+-- What asks nobody is no command.
+no_command : {X : Type 0} (command : X) → Some command ≡ None → ⊥
+no_command command is = cc
 
 pub returns-in-Ok-Some-clause-answered : goal.returns-in-Ok-Some-clause-answered
 returns-in-Ok-Some-clause-answered g c = λ command is.
@@ -38,3 +44,50 @@ pub returns-in-Ok-None-clause-taken : goal.returns-in-Ok-None-clause-taken
 returns-in-Ok-None-clause-taken g c = λ session none is tells finishes.
     let status : c.without_peer.result.status ≡ c.plain.result.status = search rules in
     rw status (c.plain.ensures.taken session is tells finishes)
+
+pub returns-in-Ok-Some-clause-reported : goal.returns-in-Ok-Some-clause-reported
+returns-in-Ok-Some-clause-reported g c = λ is zero.
+    absurd (no_command c.in-Ok-Some.command (sym c.in-Ok-Some.field-0-is ∙ c.in-Ok-Some.ensures.meant ∙ report-asks_nobody (map string_bytes c.args.words.now) is))
+
+pub returns-in-Ok-Some-clause-stream_refused : goal.returns-in-Ok-Some-clause-stream_refused
+returns-in-Ok-Some-clause-stream_refused g c = λ is three.
+    absurd (no_command c.in-Ok-Some.command (sym c.in-Ok-Some.field-0-is ∙ c.in-Ok-Some.ensures.meant ∙ report-asks_nobody (map string_bytes c.args.words.now) is))
+
+pub returns-in-Ok-Some-clause-whole : goal.returns-in-Ok-Some-clause-whole
+returns-in-Ok-Some-clause-whole g c = λ is tells whole three.
+    absurd (no_command c.in-Ok-Some.command (sym c.in-Ok-Some.field-0-is ∙ c.in-Ok-Some.ensures.meant ∙ report-asks_nobody (map string_bytes c.args.words.now) is))
+
+pub returns-in-Ok-Some-clause-not_whole : goal.returns-in-Ok-Some-clause-not_whole
+returns-in-Ok-Some-clause-not_whole g c = λ is tells none zero.
+    absurd (no_command c.in-Ok-Some.command (sym c.in-Ok-Some.field-0-is ∙ c.in-Ok-Some.ensures.meant ∙ report-asks_nobody (map string_bytes c.args.words.now) is))
+
+pub returns-in-Ok-None-clause-done : goal.returns-in-Ok-None-clause-done
+returns-in-Ok-None-clause-done g c = λ session none is zero.
+    let status : c.without_peer.result.status ≡ c.plain.result.status = search rules in
+    c.plain.ensures.done session is (sym status ∙ zero)
+
+pub returns-in-Ok-None-clause-refused : goal.returns-in-Ok-None-clause-refused
+returns-in-Ok-None-clause-refused g c = λ session none is three.
+    let status : c.without_peer.result.status ≡ c.plain.result.status = search rules in
+    c.plain.ensures.refused session is (sym status ∙ three)
+
+pub returns-in-Ok-None-clause-reported : goal.returns-in-Ok-None-clause-reported
+returns-in-Ok-None-clause-reported g c = λ is zero.
+    let status : c.without_peer.result.status ≡ c.plain.result.status = search rules in
+    c.plain.ensures.reported is (sym status ∙ zero)
+
+pub returns-in-Ok-None-clause-whole : goal.returns-in-Ok-None-clause-whole
+returns-in-Ok-None-clause-whole g c = λ is tells whole three.
+    let status : c.without_peer.result.status ≡ c.plain.result.status = search rules in
+    c.plain.ensures.whole is tells whole (sym status ∙ three)
+
+pub returns-in-Ok-None-clause-not_whole : goal.returns-in-Ok-None-clause-not_whole
+returns-in-Ok-None-clause-not_whole g c = λ is tells none zero.
+    let status : c.without_peer.result.status ≡ c.plain.result.status = search rules in
+    c.plain.ensures.not_whole is tells none (sym status ∙ zero)
+
+pub returns-in-Ok-None-clause-stream_refused : goal.returns-in-Ok-None-clause-stream_refused
+returns-in-Ok-None-clause-stream_refused g c = λ is three.
+    let status : c.without_peer.result.status ≡ c.plain.result.status = search rules in
+    let at : c.without_peer.result.at ≡ c.plain.result.at = search rules in
+    rw at (c.plain.ensures.stream_refused is (sym status ∙ three))
