@@ -1,8 +1,9 @@
-//! Laws: what the text of a schedule comes to is determined.
-ghost use Rattle.std.specs.Prelude.{◌≡◌, ℕ, List};
+//! Laws: what the text of a schedule comes to is determined, and whom words ask.
+ghost use Rattle.std.specs.Prelude.{◌≡◌, ◌∷◌, ℕ, List, codes};
 ghost use Rattle.ep_plan.specs.declared.line.Line.{Line};
 ghost use Rattle.pt_cli.specs.declared.errors.Refusal.{Refusal};
 ghost use Rattle.pt_cli.specs.Schedule.{IsSchedule, IsRefused};
+ghost use Rattle.pt_cli.specs.Words.{IsReplay, AsksNobody};
 
 use ep_plan::a_line_means_one_thing;
 
@@ -14,3 +15,9 @@ pub fn a_text_has_one_outcome()
 {
     a_line_means_one_thing();
 }
+
+/// Words whose first is `replay` ask nobody, and so do all that ask for the stream of a session.
+pub fn replay_asks_nobody()
+    ensures first { (words : List (List ℕ)) → AsksNobody (codes "replay" ∷ words) }
+    ensures each { (words : List (List ℕ)) (session : ℕ) → IsReplay words session → AsksNobody words }
+{}

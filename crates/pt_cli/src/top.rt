@@ -18,6 +18,7 @@ ghost use Rattle.pt_cli.specs.Replay.{IsReplayed, IsUnfinished, Finishes, IsErro
 ghost use Rattle.pt_cli.specs.Finished.{end_of};
 
 use crate::ends::{Finished, Plain};
+use crate::laws::replay_asks_nobody;
 use crate::replay::plain;
 use pt_client::status::OUT_OF_MEMORY;
 use pt_client::{Called, client, command_of};
@@ -41,7 +42,7 @@ pub fn tracepipe<I: Source, O: Sink, K: Caller>(
     output: &mut O,
     caller: &mut K,
 ) -> Finished<K::Link>
-    ensures done { (session : ℕ) → AsksNobody (map string_bytes words.now) → IsReplay (map string_bytes words.now) session → result.status ≡ 0
+    ensures done { (session : ℕ) → IsReplay (map string_bytes words.now) session → result.status ≡ 0
         → (bytes : List ℕ) × (stream : List ℕ)
         × ReadWhole I.tells_given I.given I.left I.may_give input.old input.new bytes
         × IsReplayed session bytes stream × TookAll O.tells_taken O.taken output.old output.new stream }
@@ -56,7 +57,7 @@ pub fn tracepipe<I: Source, O: Sink, K: Caller>(
         → (result.status ≡ 2) ⊎ (result.status ≡ 5) ⊎ (result.status ≡ 9) }
 
     // An input that is no schedule, or does not finish the session.
-    ensures refused { (session : ℕ) → AsksNobody (map string_bytes words.now) → IsReplay (map string_bytes words.now) session → result.status ≡ 3
+    ensures refused { (session : ℕ) → IsReplay (map string_bytes words.now) session → result.status ≡ 3
         → (bytes : List ℕ) × (text : List ℕ)
         × ReadWhole I.tells_given I.given I.left I.may_give input.old input.new bytes
         × IsError session bytes text × TookAll O.tells_taken O.taken output.old output.new text }
@@ -67,15 +68,15 @@ pub fn tracepipe<I: Source, O: Sink, K: Caller>(
         × reading.IsError bytes result.at text × TookAll O.tells_taken O.taken output.old output.new text }
 
     // An input that tells its bytes is judged by them, unless something fails.
-    ensures refused_exactly { (session : ℕ) (refusal : Refusal) → AsksNobody (map string_bytes words.now)
-        → IsReplay (map string_bytes words.now) session → IsTrue (I.tells_given input.old)
-        → IsRefused (I.left input.old) refusal → (result.status ≡ 3) ⊎ (result.status ≡ 4) ⊎ (result.status ≡ 5) ⊎ (result.status ≡ 9) }
-    ensures unfinished { (session : ℕ) → AsksNobody (map string_bytes words.now)
-        → IsReplay (map string_bytes words.now) session → IsTrue (I.tells_given input.old)
-        → IsUnfinished session (I.left input.old) → (result.status ≡ 3) ⊎ (result.status ≡ 4) ⊎ (result.status ≡ 5) ⊎ (result.status ≡ 9) }
-    ensures taken { (session : ℕ) → AsksNobody (map string_bytes words.now)
-        → IsReplay (map string_bytes words.now) session → IsTrue (I.tells_given input.old)
-        → Finishes session (I.left input.old) → (result.status ≡ 0) ⊎ (result.status ≡ 4) ⊎ (result.status ≡ 5) ⊎ (result.status ≡ 9) }
+    ensures refused_exactly { (session : ℕ) (refusal : Refusal) → IsReplay (map string_bytes words.now) session
+        → IsTrue (I.tells_given input.old) → IsRefused (I.left input.old) refusal
+        → (result.status ≡ 3) ⊎ (result.status ≡ 4) ⊎ (result.status ≡ 5) ⊎ (result.status ≡ 9) }
+    ensures unfinished { (session : ℕ) → IsReplay (map string_bytes words.now) session
+        → IsTrue (I.tells_given input.old) → IsUnfinished session (I.left input.old)
+        → (result.status ≡ 3) ⊎ (result.status ≡ 4) ⊎ (result.status ≡ 5) ⊎ (result.status ≡ 9) }
+    ensures taken { (session : ℕ) → IsReplay (map string_bytes words.now) session
+        → IsTrue (I.tells_given input.old) → Finishes session (I.left input.old)
+        → (result.status ≡ 0) ⊎ (result.status ≡ 4) ⊎ (result.status ≡ 5) ⊎ (result.status ≡ 9) }
     ensures whole { IsReport (map string_bytes words.now) → IsTrue (I.tells_given input.old) → IsWhole (I.left input.old) → result.status ≢ 3 }
     ensures not_whole { IsReport (map string_bytes words.now) → IsTrue (I.tells_given input.old) → (IsWhole (I.left input.old) → ⊥) → result.status ≢ 0 }
 
@@ -131,6 +132,7 @@ pub fn tracepipe<I: Source, O: Sink, K: Caller>(
     ensures sound { result.status ≢ 6 → (K.call_faults caller.new ≡ K.call_faults caller.old)
         × IfSome result.peer (λ link. (K.Link.read_faults link ≡ 0) × (K.Link.write_faults link ≡ 0)) }
 {
+    replay_asks_nobody();
     match command_of(alloc, words) {
         Ok(Some(command)) => with_peer(client(alloc, &command, output, caller)),
         Ok(None) => without_peer(plain(alloc, words, input, output)),

@@ -31,17 +31,17 @@ returns-in-Ok-None-clause-words g c = λ none two.
     c.plain.ensures.words (sym status ∙ two)
 
 pub returns-in-Ok-None-clause-refused_exactly : goal.returns-in-Ok-None-clause-refused_exactly
-returns-in-Ok-None-clause-refused_exactly g c = λ session refusal none is tells refused.
+returns-in-Ok-None-clause-refused_exactly g c = λ session refusal is tells refused.
     let status : c.without_peer.result.status ≡ c.plain.result.status = search rules in
     rw status (c.plain.ensures.refused_exactly session refusal is tells refused)
 
 pub returns-in-Ok-None-clause-unfinished : goal.returns-in-Ok-None-clause-unfinished
-returns-in-Ok-None-clause-unfinished g c = λ session none is tells unfinished.
+returns-in-Ok-None-clause-unfinished g c = λ session is tells unfinished.
     let status : c.without_peer.result.status ≡ c.plain.result.status = search rules in
     rw status (c.plain.ensures.unfinished session is tells unfinished)
 
 pub returns-in-Ok-None-clause-taken : goal.returns-in-Ok-None-clause-taken
-returns-in-Ok-None-clause-taken g c = λ session none is tells finishes.
+returns-in-Ok-None-clause-taken g c = λ session is tells finishes.
     let status : c.without_peer.result.status ≡ c.plain.result.status = search rules in
     rw status (c.plain.ensures.taken session is tells finishes)
 
@@ -62,12 +62,12 @@ returns-in-Ok-Some-clause-not_whole g c = λ is tells none zero.
     absurd (no_command c.in-Ok-Some.command (sym c.in-Ok-Some.field-0-is ∙ c.in-Ok-Some.ensures.meant ∙ report-asks_nobody (map string_bytes c.args.words.now) is))
 
 pub returns-in-Ok-None-clause-done : goal.returns-in-Ok-None-clause-done
-returns-in-Ok-None-clause-done g c = λ session none is zero.
+returns-in-Ok-None-clause-done g c = λ session is zero.
     let status : c.without_peer.result.status ≡ c.plain.result.status = search rules in
     c.plain.ensures.done session is (sym status ∙ zero)
 
 pub returns-in-Ok-None-clause-refused : goal.returns-in-Ok-None-clause-refused
-returns-in-Ok-None-clause-refused g c = λ session none is three.
+returns-in-Ok-None-clause-refused g c = λ session is three.
     let status : c.without_peer.result.status ≡ c.plain.result.status = search rules in
     c.plain.ensures.refused session is (sym status ∙ three)
 
@@ -91,3 +91,23 @@ returns-in-Ok-None-clause-stream_refused g c = λ is three.
     let status : c.without_peer.result.status ≡ c.plain.result.status = search rules in
     let at : c.without_peer.result.at ≡ c.plain.result.at = search rules in
     rw at (c.plain.ensures.stream_refused is (sym status ∙ three))
+
+pub returns-in-Ok-Some-clause-done : goal.returns-in-Ok-Some-clause-done
+returns-in-Ok-Some-clause-done g c = λ session is zero.
+    absurd (no_command c.in-Ok-Some.command (sym c.in-Ok-Some.field-0-is ∙ c.in-Ok-Some.ensures.meant ∙ c.replay_asks_nobody.ensures.each (map string_bytes c.args.words.now) session is))
+
+pub returns-in-Ok-Some-clause-refused : goal.returns-in-Ok-Some-clause-refused
+returns-in-Ok-Some-clause-refused g c = λ session is three.
+    absurd (no_command c.in-Ok-Some.command (sym c.in-Ok-Some.field-0-is ∙ c.in-Ok-Some.ensures.meant ∙ c.replay_asks_nobody.ensures.each (map string_bytes c.args.words.now) session is))
+
+pub returns-in-Ok-Some-clause-refused_exactly : goal.returns-in-Ok-Some-clause-refused_exactly
+returns-in-Ok-Some-clause-refused_exactly g c = λ session refusal is tells refused.
+    absurd (no_command c.in-Ok-Some.command (sym c.in-Ok-Some.field-0-is ∙ c.in-Ok-Some.ensures.meant ∙ c.replay_asks_nobody.ensures.each (map string_bytes c.args.words.now) session is))
+
+pub returns-in-Ok-Some-clause-unfinished : goal.returns-in-Ok-Some-clause-unfinished
+returns-in-Ok-Some-clause-unfinished g c = λ session is tells unfinished.
+    absurd (no_command c.in-Ok-Some.command (sym c.in-Ok-Some.field-0-is ∙ c.in-Ok-Some.ensures.meant ∙ c.replay_asks_nobody.ensures.each (map string_bytes c.args.words.now) session is))
+
+pub returns-in-Ok-Some-clause-taken : goal.returns-in-Ok-Some-clause-taken
+returns-in-Ok-Some-clause-taken g c = λ session is tells finishes.
+    absurd (no_command c.in-Ok-Some.command (sym c.in-Ok-Some.field-0-is ∙ c.in-Ok-Some.ensures.meant ∙ c.replay_asks_nobody.ensures.each (map string_bytes c.args.words.now) session is))
