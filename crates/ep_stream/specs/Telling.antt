@@ -13,8 +13,10 @@ use Rattle.ep_model.specs.Entries.{entry_shown}
 use Rattle.ep_row.specs.AtRest.{write_of}
 use Rattle.pt_io.specs.Faults.{HasRisen}
 use Rattle.nt_write.specs.declared.fault.Fault.{Fault}
-use Rattle.nt_write.specs.declared.fault.Fault.TheVariants.{WriteFault}
+use Rattle.nt_write.specs.declared.fault.Fault.TheVariants.{WriteFault, TooLong}
+use Rattle.nt_write.specs.declared.limits.TheConstants.{FRAMED_EVENTS}
 use Rattle.nt_write.specs.declared.writer.TraceWriter.{TraceWriter}
+use Rattle.nt_write.specs.Writable.{framed}
 use Rattle.nt_write.specs.Writer.{fault_of, sink_of, IsWriting, TookPart, TookStream}
 use Rattle.ep_stream.specs.Rows.{IsDefined}
 
@@ -39,10 +41,11 @@ abbrev pub IsFront : List Entry → List Entry → Type 0
 IsFront first entries = (rest : List Entry) × (first ++ rest ≡ entries)
 
 -- The writer, which began when its sink had taken some bytes, stands for these entries: it writes them, or it has failed
--- and its sink took what begins their stream.
+-- and its sink took what begins their stream. Where it ran out of stack ids more of them than there are ids have a stack.
 pub record IsTelling {S : Type 0} (tells : S → Bool) (taken : S → List ℕ) (before : List ℕ) (defs : ℕ → Option EventDef) (info : TraceInfo) (told : List Entry) (writer : TraceWriter S) : Type 0 where
   pub sound : fault_of writer ≡ None → IsWriting tells taken before defs info told writer
   pub failed : (fault : Fault) → fault_of writer ≡ Some fault → TookPart tells taken before info told (sink_of writer)
+  pub spent : fault_of writer ≡ Some TooLong → FRAMED_EVENTS < framed told
 
 -- After a call that was to tell these entries the writer has told some of them, from the first one on, and all of them
 -- where the call answered no fault.
@@ -53,12 +56,14 @@ pub record Tells {S A : Type 0} (tells : S → Bool) (taken : S → List ℕ) (b
   pub all : OnOk result (done ≡ entries)
 
 -- What the sink took once the stream was to end with these entries: the one stream that tells them, or after a fault what
--- begins the stream of some of them, from the first one on.
+-- begins the stream of some of them, from the first one on. Where the writer had run out of stack ids more of the entries
+-- than there are ids have a stack.
 pub record Ends {S A : Type 0} (tells : S → Bool) (taken : S → List ℕ) (before : List ℕ) (info : TraceInfo) (told entries : List Entry) (answer : Result A Fault) (sink : S) : Type 0 where
   pub done : List Entry
   pub front : IsFront done entries
   pub whole : OnOk answer (TookStream tells taken before info (told ++ entries) sink)
   pub part : OnErr answer (TookPart tells taken before info (told ++ done) sink)
+  pub spent : answer ≡ Err TooLong → FRAMED_EVENTS < framed (told ++ done)
 
 -- A fault stays, and one of the sink comes only where the sink's count of faults rose or the writer had failed with it.
 pub record IsFaulty {S A : Type 0} (faults : S → ℕ) (old new : TraceWriter S) (result : Result A Fault) : Type 0 where

@@ -5,7 +5,7 @@ use Rattle.ep_defs.specs.Entry.{Entry, Event}
 use Rattle.nt_write.specs.declared.writer.EventOut.{EventOut}
 use Rattle.nt_write.specs.Writer.{fault_of, entry_of as written_entry}
 use Rattle.ep_stream.specs.Telling.{Tells, entry_of}
-use Rattle.ep_stream.proofs.Telling.{tells_one, entry_is, definition_is}
+use Rattle.ep_stream.proofs.Telling.{tells_one, entry_is, definition_is, spent_with}
 use Rattle.ep_stream.proofs.write.write_record.Goals as goal
 
 pub returns-clause-writes : goal.returns-clause-writes
@@ -23,4 +23,5 @@ returns-clause-writes g c before info told r of_record telling =
     (tells_one g.S.Sink.tells_taken g.S.Sink.taken before (definition_at events) info told (Event (written_entry def out)) c.args.writer.now c.event.new.self (fault_of c.args.writer.now) c.event.result refl telling
     (λ w. c.event.ensures.ok before (definition_at events) info told w c.requires.distinct defined)
     (λ w. c.event.ensures.part before (definition_at events) info told w c.requires.distinct defined)
+    (λ w e. let long = (c.event.ensures.too_long before (definition_at events) info told w).0 e in spent_with told (written_entry def out) long.0 long.1)
     c.event.ensures.fails c.event.ensures.sound c.event.ensures.stays)

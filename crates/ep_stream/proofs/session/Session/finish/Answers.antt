@@ -12,7 +12,7 @@ returns-clause-ended g c =
           (c.point.ensures.writes events before info told telling) c.point.ensures.faulty.fails c.point.ensures.faulty.sound
           (λ es w. c.end-sink.ensures.ok before (definition_at events) info es w)
           (λ es w. c.end-sink.ensures.part before (definition_at events) info es w)
-          c.end-sink.ensures.stays;
+          c.end-sink.ensures.stays c.end-sink.ensures.too_long;
       stays = λ fault is. (c.end-sink.ensures.stays fault (c.point.ensures.faulty.fails fault (c.point.ensures.faulty.stays fault is))).0;
       write_fault = ends_faulty g.S.Sink.write_faults c.args.self.writer c.point.new.self.writer c.end-sink.result.0 c.point.result c.end-sink.result.1 c.point.ensures.faulty c.end-sink.ensures.write_fault c.end-sink.ensures.later;
     }

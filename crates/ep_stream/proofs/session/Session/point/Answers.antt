@@ -7,7 +7,7 @@ use Rattle.ep_stream.specs.Named.{numbers_of}
 use Rattle.ep_stream.specs.Opened.{named_in}
 use Rattle.ep_stream.specs.Telling.{Tells}
 use Rattle.nt_write.specs.declared.fault.Fault.{Fault}
-use Rattle.ep_stream.proofs.Telling.{tells_one, err_is}
+use Rattle.ep_stream.proofs.Telling.{tells_one, err_is, ok_long, none_long}
 use Rattle.ep_stream.proofs.session.Session.point.Goals as goal
 
 pub returns-clause-writes : goal.returns-clause-writes
@@ -18,6 +18,7 @@ returns-clause-writes g c events before info told telling =
     (tells_one g.S.Sink.tells_taken g.S.Sink.taken before (definition_at events) info told (Point (point_of stamp c.numbers.result.now)) c.args.self.now.writer c.point.new.self (fault_of c.args.self.now.writer) (Ok c.in_ok-point.field-0) refl telling
     (λ w. c.in_ok-point.ensures.ok before (definition_at events) info told w)
     (λ w. c.in_ok-point.ensures.part before (definition_at events) info told w)
+    (λ w e. ok_long c.in_ok-point.field-0 e)
     c.in_ok-point.ensures.fails c.in_ok-point.ensures.sound c.in_ok-point.ensures.stays)
 
 pub returns-in_err-point-clause-writes : goal.returns-in_err-point-clause-writes
@@ -29,4 +30,5 @@ returns-in_err-point-clause-writes g c events before info told telling =
     (tells_one g.S.Sink.tells_taken g.S.Sink.taken before (definition_at events) info told (Point (point_of stamp c.numbers.result.now)) c.args.self.now.writer c.point.new.self (fault_of c.args.self.now.writer) (Err c.in_err-point.field-0.0) refl telling
     (λ w. c.in_err-point.ensures.ok before (definition_at events) info told w)
     (λ w. c.in_err-point.ensures.part before (definition_at events) info told w)
+    (λ w e. none_long c.args.self.now.writer w.sound (c.in_err-point.ensures.too_long e))
     c.in_err-point.ensures.fails c.in_err-point.ensures.sound c.in_err-point.ensures.stays))
