@@ -95,6 +95,15 @@ held_shown cells place slot write shown row new_row pool new_pool cell now withi
     let new : chunks_in now ≡ h.opened.slot.pending.chunks + chunks_taken (is_refused shown) h.opened.slot write = ap chunks_in h.now ∙ shown_chunks (is_refused shown) h.opened.slot row.stamp write in
     omega (arith, set, old, new, held, h.pool_is.free, h.pool_is.total)
 
+-- The chunks that it took are pending.
+pub kept_shown : (cells : List (Option Open)) (place slot : ℕ) (write : Write) (shown : Shown) (row new_row : RowState) (pool new_pool : PoolCounts) (cell now : Option Open) → place < length cells → cell ≡ slice_index_or cells place cell
+    → ShownIn slot write shown row new_row pool new_pool cell now → pending_chunks (slice_set cells place now) + new_pool.free ≡ pending_chunks cells + pool.free
+kept_shown cells place slot write shown row new_row pool new_pool cell now within at h =
+    let set = chunks_set cells place now within in
+    let old : chunks_in (slice_index_or cells place None) ≡ h.opened.slot.pending.chunks = ap chunks_in (sym (at ∙ get_or_default cells place cell None within) ∙ h.was) in
+    let new : chunks_in now ≡ h.opened.slot.pending.chunks + chunks_taken (is_refused shown) h.opened.slot write = ap chunks_in h.now ∙ shown_chunks (is_refused shown) h.opened.slot row.stamp write in
+    omega (arith, set, old, new, h.pool_is.free)
+
 -- What was pending of a row was taken from it.
 pub chunks_stolen : (cells : List (Option Open)) (place : ℕ) (hand new_hand : HandState) (batch : Batch) (cell now : Option Open) → place < length cells → cell ≡ slice_index_or cells place cell → StolenIn hand new_hand batch cell now
     → pending_chunks (slice_set cells place now) + length batch.chain ≡ pending_chunks cells

@@ -81,6 +81,7 @@ impl Column {
         requires fits { IsTrue (valid.fits write.now) }
         ensures shown { ShownIn slot write.now result row.old row.new self.old.pool self.new.pool (cell_at self.old.cells.items number) (cell_at self.new.cells.items number) }
         ensures others { (r : ℕ) → cell_at self.new.cells.items r ≡ (if r == number then cell_at self.new.cells.items number else cell_at self.old.cells.items r) }
+        ensures chunks { pending_chunks self.new.cells.items + self.new.pool.free ≡ pending_chunks self.old.cells.items + self.old.pool.free }
     {
         let place = number as usize - 1;
         show_in(&mut self.cells[place], &mut self.pool, row, slot, write)

@@ -163,6 +163,7 @@ pub(crate) fn show(
     requires fits { IsTrue (valid.fits write.now) }
     ensures shown { ShownIn slot write.now result row.old row.new (pool_in column.old) (pool_in column.new) (cell_in column.old number) (cell_in column.new number) }
     ensures others { (r : ℕ) → cell_in column.new r ≡ (if r == number then cell_in column.new number else cell_in column.old r) }
+    ensures chunks { pending_in column.new + (pool_in column.new).free ≡ pending_in column.old + (pool_in column.old).free }
 {
     match column {
         Some(column) => column.show(number, row, slot, write),

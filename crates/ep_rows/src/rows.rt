@@ -35,7 +35,7 @@ pub struct Rows {
 }
 
 impl Rows {
-    ghost use Rattle.ep_rows.specs.Rows.{told_of, definitions_of, AreFresh};
+    ghost use Rattle.ep_rows.specs.Rows.{told_of, definitions_of, AreFresh, KeepsOpen, ClearsSlot};
     ghost use Rattle.ep_rows.specs.Writes.{Begins, Ends, Leaves, Enters, Shows, SetsPool};
 
     /// The rows of threads 1 to `limits::THREADS`, which have made no write.
@@ -133,6 +133,7 @@ impl Rows {
         requires slot { slot < SESSIONS }
         requires off { (r : ℕ) → (told_of self.old).slot r slot ≡ None }
         ensures seated { OnOk result (SetsPool slot (record { total = chunks; free = chunks }) (told_of self.old) (told_of self.new)) }
+        ensures cleared { OnOk result (ClearsSlot slot self.old self.new) }
         ensures err { OnErr result (self.new ≡ self.old) }
         ensures definitions { definitions_of self.new ≡ definitions_of self.old }
     {
@@ -145,6 +146,7 @@ impl Rows {
         requires slot { slot < SESSIONS }
         requires off { (r : ℕ) → (told_of self.old).slot r slot ≡ None }
         ensures unseated { SetsPool slot no_chunks (told_of self.old) (told_of self.new) }
+        ensures cleared { ClearsSlot slot self.old self.new }
         ensures definitions { definitions_of self.new ≡ definitions_of self.old }
     {
         self.columns[slot as usize] = None;
@@ -160,6 +162,7 @@ impl Rows {
         requires fits { IsTrue (valid.fits write.now) }
         requires few { ((told_of self.old).row row).index < WRITES }
         ensures begins { Begins row stamp write.now (told_of self.old) (told_of self.new) }
+        ensures kept { KeepsOpen self.old self.new }
         ensures definitions { definitions_of self.new ≡ definitions_of self.old }
     {
         self.rows[row as usize - 1].begin(stamp, write);
@@ -171,6 +174,7 @@ impl Rows {
         requires in_write { ((told_of self.old).row row).in_write ≡ true }
         requires seen { ((told_of self.old).row row).due ≡ 0 }
         ensures ends { Ends row (told_of self.old) (told_of self.new) }
+        ensures kept { KeepsOpen self.old self.new }
         ensures definitions { definitions_of self.new ≡ definitions_of self.old }
     {
         self.rows[row as usize - 1].end();
@@ -182,6 +186,7 @@ impl Rows {
         requires quiet { ((told_of self.old).row row).in_write ≡ false }
         requires stays { ((told_of self.old).row row).left ≡ false }
         ensures leaves { Leaves row (told_of self.old) (told_of self.new) }
+        ensures kept { KeepsOpen self.old self.new }
         ensures definitions { definitions_of self.new ≡ definitions_of self.old }
     {
         self.rows[row as usize - 1].leave();
@@ -193,6 +198,7 @@ impl Rows {
         requires left { ((told_of self.old).row row).left ≡ true }
         requires off { All IsNone ((told_of self.old).row row).slots }
         ensures enters { Enters row thread (told_of self.old) (told_of self.new) }
+        ensures kept { KeepsOpen self.old self.new }
         ensures definitions { definitions_of self.new ≡ definitions_of self.old }
     {
         self.rows[row as usize - 1].enter(thread);
@@ -210,6 +216,7 @@ impl Rows {
         requires events { write.now.event ≤ length (definitions_of self.old) }
         requires fits { IsTrue (valid.fits write.now) }
         ensures shows { Shows row slot write.now result (told_of self.old) (told_of self.new) }
+        ensures kept { KeepsOpen self.old self.new }
         ensures definitions { definitions_of self.new ≡ definitions_of self.old }
     {
         places::show(

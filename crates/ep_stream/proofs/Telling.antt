@@ -47,10 +47,10 @@ tells_one {S} tells taken before defs info told e old new None (Ok u) is telling
       done = e ∷ [];
       front = ([], refl);
       telling = record {
-            sound = λ none. ok (telling.sound is);
-            failed = λ fault some. unlike fault (sym some ∙ sound);
-            spent = λ some. unlike TooLong (sym some ∙ sound);
-          };
+        sound = λ none. ok (telling.sound is);
+        failed = λ fault some. unlike fault (sym some ∙ sound);
+        spent = λ some. unlike TooLong (sym some ∙ sound);
+      };
       all = refl;
     }
 tells_one {S} tells taken before defs info told e old new None (Err fault) is telling ok part long fails sound stays =
@@ -58,10 +58,10 @@ tells_one {S} tells taken before defs info told e old new None (Err fault) is te
       done = e ∷ [];
       front = ([], refl);
       telling = record {
-            sound = λ none. unlike fault (sym fails ∙ none);
-            failed = λ other some. part (telling.sound is);
-            spent = λ some. long (telling.sound is) (ap Err (fault_same fault TooLong (sym fails ∙ some)));
-          };
+        sound = λ none. unlike fault (sym fails ∙ none);
+        failed = λ other some. part (telling.sound is);
+        spent = λ some. long (telling.sound is) (ap Err (fault_same fault TooLong (sym fails ∙ some)));
+      };
       all = tt;
     }
 
