@@ -1,0 +1,5 @@
+pub mod Lists
+pub mod Pasts
+pub mod Steps
+pub mod Stays
+pub mod Ends
