@@ -1,0 +1,5 @@
+mod Pasts
+mod Elsewhere
+mod Unopened
+mod Slots
+mod Pools
