@@ -1,9 +1,9 @@
 -- What each step that is made makes of the tables of sessions, threads and rows: what is named here, and nothing else (this project's profile).
-use Rattle.std.specs.Prelude.{◌≡◌, ℕ, ◌+◌, ◌==◌, ◌||◌, if◌then◌else◌, true, List, [], ◌∷◌, ◌++◌, length, Some, None, is_some, slice_get, slice_set, position, IsNone}
+use Rattle.std.specs.Prelude.{◌≡◌, ℕ, ◌+◌, ◌^◌, ◌<◌, ◌==◌, ◌||◌, if◌then◌else◌, true, false, List, [], ◌∷◌, ◌++◌, length, Some, None, is_some, slice_get, slice_set, position, IsNone}
 use Rattle.std.specs.List.{All, remove}
 use Rattle.std.specs.BTreeMap.{get, btree_map_len}
 use Rattle.std.specs.Ordering.{nat_cmp}
-use Rattle.ep_defs.specs.declared.limits.TheConstants.{THREADS}
+use Rattle.ep_defs.specs.declared.limits.TheConstants.{SESSIONS, THREADS}
 use Rattle.ep_defs.specs.Definitions.{definition_at}
 use Rattle.ep_defs.specs.Entry.{Entry, Point}
 use Rattle.ep_defs.specs.declared.event.EventDef.{EventDef}
@@ -62,8 +62,13 @@ pub record ChangesOwn (thread : ℕ) (Changes : ℕ → ToldRows → ToldRows �
   pub threads : KeepsThreads old new
   pub sessions : KeepsSessions old new
 
+-- Only slots of sessions are due on the row.
+abbrev pub FitsSlots : Tables → ℕ → Type 0
+FitsSlots tables row = ((told_of tables.rows).row row).due < 2 ^ SESSIONS
+
 pub record MakesBegin (thread stamp : ℕ) (write : Write) (old new : Tables) : Type 0 where
   pub own : ChangesOwn thread (λ row. Begins row stamp write) old new
+  pub due : FitsSlots new own.row
   pub begins : new.begins ≡ old.begins + 1
 
 pub record MakesEnd (thread : ℕ) (old new : Tables) : Type 0 where
@@ -133,6 +138,7 @@ pub record StealsOn (events : List EventDef) (row : ℕ) (was now : Present) (ol
   pub last : ℕ
   pub chunks : ℕ
   pub held : hand_on was.session row ≡ Some hand
+  pub empty : (rest_of was.session).in_hand ≡ 0
   pub told : Steals row was.slot records last chunks old new
   pub hands : SetsHand row (Some (hand_after hand (length records) last chunks)) was.session now.session
   pub rest : rest_of now.session ≡ record (rest_of was.session) { named = with_number hand.thread last true (rest_of was.session).named; in_hand = chunks }
@@ -147,6 +153,7 @@ pub record ClosesOn (events : List EventDef) (row : ℕ) (was now : Present) (ol
   pub chunks : ℕ
   pub marks : Marks
   pub held : hand_on was.session row ≡ Some hand
+  pub empty : (rest_of was.session).in_hand ≡ 0
   pub told : Closes row was.slot records last chunks marks old new
   pub hands : SetsHand row None was.session now.session
   pub rest : rest_of now.session ≡ record (rest_of was.session) { named = with_number hand.thread last false (rest_of was.session).named; marks = with_marks marks (rest_of was.session).marks; in_hand = chunks }
@@ -203,6 +210,7 @@ pub record MakesShow (thread session : ℕ) (write : Write) (old new : Tables) :
   pub stands : StandsAt session old place present
   pub shown : Shown
   pub rows : Shows row present.slot write shown (told_of old.rows) (told_of new.rows)
+  pub due : FitsSlots new row
   pub events : KeepsEvents old new
   pub threads : KeepsThreads old new
   pub sessions : KeepsSessions old new

@@ -1,0 +1,9 @@
+mod Lists
+mod Pasts
+mod Slots
+mod Follow
+mod Threads
+mod Writes
+mod Entering
+mod Turns
+mod Comings

@@ -1,0 +1,5 @@
+use Rattle.ep_made.proofs.Threads.{after_end}
+use Rattle.ep_made.proofs.laws.tables_follow_an_end.Goals as goal
+
+pub returns : goal.returns
+returns c = after_end
