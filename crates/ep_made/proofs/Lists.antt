@@ -102,7 +102,7 @@ All-remove number slot P Q (x ∷ xs) (suc i) old is numbers slots each all = (
   All-remove number slot P Q xs i old is numbers.1 slots.1 each all.1,
 )
 
-or_swap : (a b c : Bool) → (a || (b || c)) ≡ (b || (a || c))
+pub or_swap : (a b c : Bool) → (a || (b || c)) ≡ (b || (a || c))
 or_swap true true c = refl
 or_swap true false c = refl
 or_swap false true c = refl

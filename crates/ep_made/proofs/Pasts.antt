@@ -14,6 +14,7 @@ use Rattle.ep_model.specs.Lawful.{objections, IsLawful, has_due, is_next_session
 use Rattle.ep_judge.proofs.Lists.{has, IsDistinct, distinct-filter}
 use Rattle.ep_judge.proofs.Pasts.{none_there, has_present, open_somewhere, open_there}
 use Rattle.ep_judge.proofs.Taken.{has_threads, threads_distinct}
+use Rattle.ep_made.proofs.Lists.{or_swap}
 
 -- ---- sessions and threads of steps that can be made
 
@@ -286,12 +287,6 @@ pub last_less : (last next : ℕ) → nat_le next last ≡ false → last < next
 last_less last next is = let less = leb-false next last is in omega (arith, less)
 
 -- ---- threads on which a session was opened
-
-or_swap : (a b c : Bool) → (a || (b || c)) ≡ (b || (a || c))
-or_swap true true c = refl
-or_swap true false c = refl
-or_swap false true c = refl
-or_swap false false c = refl
 
 pub any_inserted : (p : ℕ → Bool) (n : ℕ) (ms : List ℕ) → list_any p (insert_ascending n ms) ≡ (p n || list_any p ms)
 any_inserted p n [] = refl
