@@ -13,6 +13,9 @@ const REFUSED: [u8; 24] = *b"DOTNET_IPC_V1\0\x18\0\xff\xff\0\0\x05\x40\0\x80";
 const COLLECT: [u8; 57] =
     *b"DOTNET_IPC_V1\0\x39\0\x02\x03\0\0\x01\0\0\0\x01\0\0\0\0\x01\0\0\0\x01\0\0\0\0\0\0\0\x04\0\0\0\x02\0\0\0P\0\0\0\0\0\0\0";
 
+const PROGRAM: [u8; 78] =
+    *b"DOTNET_IPC_V1\0\x4e\0\xff\0\0\0\x01\0\0\0\0\0\0\0\x00\x01\x02\x03\x04\x05\x06\x07\x08\x09\x0a\x0b\x0c\x0d\x0e\x0f\x01\0\0\0\0\0\x06\0\0\0l\0i\0n\0u\0x\0\0\0\x04\0\0\0x\x006\x004\0\0\0";
+
 const STREAM: [u8; 40] = [7; 40];
 
 // A link that gives these bytes, ten at most in a read.
@@ -35,6 +38,23 @@ fn collect_one(alloc: Global, link: &mut MemLink, output: &mut MemSink) -> Resul
     match collect_size(&asked) {
         Some(_) => collect(alloc, link, &asked, output),
         None => Err(CallFault::OutOfMemory),
+    }
+}
+
+// Why a program that answers with these bytes says nothing of itself.
+fn info_fault(alloc: Global, bytes: Vec<u8>) -> Option<CallFault> {
+    info(alloc, &mut link_of(bytes, Vec::new(alloc), Vec::new(alloc))).err()
+}
+
+// What is wrong with the reply of 78 bytes where its header says this size: below the header's own 20 bytes the size, and else
+// the place where the bytes or the fields end.
+fn fault_of_size(size: u8) -> Option<CallFault> {
+    match size {
+        78 => None,
+        0..20 => Some(CallFault::BadReply { at: 14 }),
+        _ => Some(CallFault::BadReply {
+            at: u64::from(size.min(78)),
+        }),
     }
 }
 
@@ -122,9 +142,7 @@ fn a_stop_is_answered_with_the_replys_id(rt: HostRuntime) -> Result<(), Fail> {
 #[test]
 fn a_program_says_what_it_is(rt: HostRuntime) -> Result<(), Fail> {
     let alloc = rt.alloc();
-    let reply =
-        *b"DOTNET_IPC_V1\0\x4e\0\xff\0\0\0\x01\0\0\0\0\0\0\0\x00\x01\x02\x03\x04\x05\x06\x07\x08\x09\x0a\x0b\x0c\x0d\x0e\x0f\x01\0\0\0\0\0\x06\0\0\0l\0i\0n\0u\0x\0\0\0\x04\0\0\0x\x006\x004\0\0\0";
-    let mut link = link_of(reply.to_vec(alloc)?, Vec::new(alloc), Vec::new(alloc));
+    let mut link = link_of(PROGRAM.to_vec(alloc)?, Vec::new(alloc), Vec::new(alloc));
     let Ok(program) = info(alloc, &mut link) else {
         panic!(rt; "no answer");
     };
@@ -136,6 +154,30 @@ fn a_program_says_what_it_is(rt: HostRuntime) -> Result<(), Fail> {
     assert_eq!(rt; program.command_line.as_slice(), [].as_slice());
     assert_eq!(rt; program.arch.as_slice(), [120, 54, 52].as_slice());
     assert_eq!(rt; link.taken(), b"DOTNET_IPC_V1\0\x14\0\x04\0\0\0".as_slice());
+    Ok(())
+}
+
+#[test]
+fn a_programs_reply_cut_short_is_bad_at_its_end(rt: HostRuntime) -> Result<(), Fail> {
+    let alloc = rt.alloc();
+    for count in 0..78 {
+        let at = count as u64;
+        let cut = PROGRAM[..count].to_vec(alloc)?;
+        assert_eq!(rt; info_fault(alloc, cut), Some(CallFault::BadReply { at }));
+    }
+    Ok(())
+}
+
+#[test]
+fn a_programs_reply_with_another_size_is_bad_there(rt: HostRuntime) -> Result<(), Fail> {
+    let alloc = rt.alloc();
+    for size in 0..=255 {
+        let mut bytes = PROGRAM.to_vec(alloc)?;
+        if let Some(low) = bytes.get_mut(14) {
+            *low = size;
+        }
+        assert_eq!(rt; info_fault(alloc, bytes), fault_of_size(size));
+    }
     Ok(())
 }
 
