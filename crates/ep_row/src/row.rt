@@ -1,5 +1,5 @@
 //! A thread's row.
-ghost use Rattle.std.specs.Prelude.{◌≡◌, ℕ, ◌+◌, ◌<◌, ◌≤◌, true, false, length, All, IfOk, IfSome, OnOk, OnErr, IsTrue, IsNone, is_some, ◌↔◌, if◌then◌else◌, Some, None, slice_set};
+ghost use Rattle.std.specs.Prelude.{◌≡◌, ℕ, ◌+◌, ◌^◌, ◌<◌, ◌≤◌, true, false, length, All, IfOk, IfSome, OnOk, OnErr, IsTrue, IsNone, is_some, ◌↔◌, if◌then◌else◌, Some, None, slice_set};
 ghost use Rattle.std.specs.Int.{bit_at};
 ghost use Rattle.ep_defs.specs.Session as valid;
 ghost use Rattle.ep_model.specs.Budget.{needs_chunk, chunks_begun, record_size};
@@ -198,6 +198,7 @@ impl Row {
         ensures open { HasOpen self.new slot buffer.new }
         ensures slots { self.new.slots ≡ slice_set self.old.slots slot (Some (opening_of buffer.new)) }
         ensures due { ClearsBit slot self.old.due self.new.due }
+        ensures bounded { self.new.due < 2 ^ 64 }
         ensures others { self.new ≡ record self.old { due = self.new.due; slots = self.new.slots } }
         ensures rest { KeepsRest self.old self.new }
         ensures numbered { KeepsSlotRest self.old slot write.now buffer.old buffer.new }

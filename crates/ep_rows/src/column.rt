@@ -1,5 +1,5 @@
 //! What a session has of the rows: its chunks, and a slot on each row where it is open.
-ghost use Rattle.std.specs.Prelude.{◌≡◌, ◌==◌, ℕ, ◌+◌, ◌-◌, ◌<◌, ◌≤◌, ◌↔◌, [], None, Some, if◌then◌else◌, is_some, IsSome, IsNone, option_map, length, min, vec_len, slice_index_or, slice_set, All, IfOk, OnOk, IsTrue};
+ghost use Rattle.std.specs.Prelude.{◌≡◌, ◌==◌, ℕ, ◌+◌, ◌-◌, ◌^◌, ◌<◌, ◌≤◌, ◌↔◌, [], None, Some, if◌then◌else◌, is_some, IsSome, IsNone, option_map, length, min, vec_len, slice_index_or, slice_set, All, IfOk, OnOk, IsTrue};
 ghost use Rattle.std.specs.Int.{bit_at};
 ghost use Rattle.std.specs.Option.{ForSome};
 ghost use Rattle.ep_defs.specs.declared.limits.TheConstants.{THREADS};
@@ -81,6 +81,7 @@ impl Column {
         requires fits { IsTrue (valid.fits write.now) }
         ensures shown { ShownIn slot write.now result row.old row.new self.old.pool self.new.pool (cell_at self.old.cells.items number) (cell_at self.new.cells.items number) }
         ensures others { (r : ℕ) → cell_at self.new.cells.items r ≡ (if r == number then cell_at self.new.cells.items number else cell_at self.old.cells.items r) }
+        ensures bounded { row.new.due < 2 ^ 64 }
         ensures chunks { pending_chunks self.new.cells.items + self.new.pool.free ≡ pending_chunks self.old.cells.items + self.old.pool.free }
     {
         let place = number as usize - 1;
@@ -146,6 +147,7 @@ fn show_in(
     requires fits { IsTrue (valid.fits write.now) }
     requires free { pool.old.free + chunks_in cell.old ≤ pool.old.total }
     ensures shown { ShownIn slot write.now result row.old row.new pool.old pool.new cell.old cell.new }
+    ensures bounded { row.new.due < 2 ^ 64 }
 {
     match cell {
         Some(one) => row.show(slot, &mut one.slot, pool, write),

@@ -1,5 +1,5 @@
 //! What the calls of a session do in its slot of a row.
-ghost use Rattle.std.specs.Prelude.{◌≡◌, ◌==◌, ℕ, ◌+◌, ◌-◌, ◌<◌, ◌≤◌, None, Some, false, if◌then◌else◌, length, min, option_map, All, IsNone, IsSome, IsTrue, IfOk, OnOk, OnErr};
+ghost use Rattle.std.specs.Prelude.{◌≡◌, ◌==◌, ℕ, ◌+◌, ◌-◌, ◌^◌, ◌<◌, ◌≤◌, None, Some, false, if◌then◌else◌, length, min, option_map, All, IsNone, IsSome, IsTrue, IfOk, OnOk, OnErr};
 ghost use Rattle.std.specs.Int.{bit_at};
 ghost use Rattle.std.specs.Option.{ForSome};
 ghost use Rattle.ep_defs.specs.declared.limits.TheConstants.{THREADS as ROWS};
@@ -163,6 +163,7 @@ pub(crate) fn show(
     requires fits { IsTrue (valid.fits write.now) }
     ensures shown { ShownIn slot write.now result row.old row.new (pool_in column.old) (pool_in column.new) (cell_in column.old number) (cell_in column.new number) }
     ensures others { (r : ℕ) → cell_in column.new r ≡ (if r == number then cell_in column.new number else cell_in column.old r) }
+    ensures bounded { row.new.due < 2 ^ 64 }
     ensures chunks { pending_in column.new + (pool_in column.new).free ≡ pending_in column.old + (pool_in column.old).free }
 {
     match column {

@@ -1,5 +1,5 @@
 //! The rows of a program's threads.
-ghost use Rattle.std.specs.Prelude.{◌≡◌, ℕ, ◌+◌, ◌<◌, ◌≤◌, ◌↔◌, ◌==◌, true, false, None, Some, is_some, slice_index_or, length, vec_len, All, IfOk, IfNone, IfSome, OnOk, OnErr, IsTrue, IsNone, IsSome};
+ghost use Rattle.std.specs.Prelude.{◌≡◌, ℕ, ◌+◌, ◌^◌, ◌<◌, ◌≤◌, ◌↔◌, ◌==◌, true, false, None, Some, is_some, slice_index_or, length, vec_len, All, IfOk, IfNone, IfSome, OnOk, OnErr, IsTrue, IsNone, IsSome};
 ghost use Rattle.std.specs.Int.{bit_at};
 ghost use Rattle.std.specs.Option.{ForSome};
 ghost use Rattle.ep_defs.specs.declared.limits.TheConstants.{EVENTS, SESSIONS as SLOTS, THREADS as ROWS, WRITES as MOST_WRITES};
@@ -162,6 +162,7 @@ impl Rows {
         requires fits { IsTrue (valid.fits write.now) }
         requires few { ((told_of self.old).row row).index < WRITES }
         ensures begins { Begins row stamp write.now (told_of self.old) (told_of self.new) }
+        ensures bounded { ((told_of self.new).row row).due < 2 ^ 64 }
         ensures kept { KeepsOpen self.old self.new }
         ensures definitions { definitions_of self.new ≡ definitions_of self.old }
     {
@@ -216,6 +217,7 @@ impl Rows {
         requires events { write.now.event ≤ length (definitions_of self.old) }
         requires fits { IsTrue (valid.fits write.now) }
         ensures shows { Shows row slot write.now result (told_of self.old) (told_of self.new) }
+        ensures bounded { ((told_of self.new).row row).due < 2 ^ 64 }
         ensures kept { KeepsOpen self.old self.new }
         ensures definitions { definitions_of self.new ≡ definitions_of self.old }
     {

@@ -1,9 +1,9 @@
-use Rattle.std.proofs.Common.{◌≡◌, ◌+◌, ◌<◌, ◌≤◌, ℕ, Option, length, ap, subst, arith}
+use Rattle.std.proofs.Common.{◌≡◌, ◌+◌, ◌^◌, ◌<◌, ◌≤◌, ℕ, Option, length, ap, sym, subst, arith}
 use Rattle.std.specs.Prelude.{◌==◌, if◌then◌else◌}
 use Rattle.ep_row.specs.Row.{RowState}
 use Rattle.ep_rows.specs.declared.column.Column.{Column}
 use Rattle.ep_rows.specs.Told.{cell_in, pool_in, pending_in}
-use Rattle.ep_rows.proofs.OneRow.{lent_row, lent_column, masks_after, cell_set}
+use Rattle.ep_rows.proofs.OneRow.{lent_row, lent_column, masks_after, cell_set, row_now}
 use Rattle.ep_rows.proofs.Changing.{shown_at, show_known, show_written, show_told}
 use Rattle.ep_rows.proofs.Keeping.{out_kept, configs_shown}
 use Rattle.ep_rows.proofs.rows.Rows.show.Goals as goal
@@ -57,3 +57,8 @@ returns-clause-kept c =
       out = out_kept c.args.self.now.columns.items c.args.slot c.show.new.column in_slots shown.pool_is.total
           (subst (λ (x : Option Column). pending_in c.show.new.column + (pool_in c.show.new.column).free ≡ pending_in x + (pool_in x).free) column_is c.show.ensures.chunks);
     }
+
+pub returns-clause-bounded : goal.returns-clause-bounded
+returns-clause-bounded c =
+    let within : c.args.row ≤ length c.args.self.now.rows.items = omega (arith, c.args.self.now.row_count, c.args.self.now.rows.ok.0, c.requires.row.1) in
+    subst (λ (x : RowState). x.due < 2 ^ 64) (sym (row_now c.args.self.now.rows.items c.args.row c.show.new.row c.requires.row.0 within)) c.show.ensures.bounded
