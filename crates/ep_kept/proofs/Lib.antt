@@ -1,4 +1,4 @@
-mod Pasts
+pub mod Pasts
 mod Elsewhere
 mod Unopened
 mod Slots

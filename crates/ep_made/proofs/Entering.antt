@@ -30,7 +30,7 @@ use Rattle.ep_made.proofs.Follow.{each_row, same_seats, sessions_stay}
 
 -- ---- the row that is free
 
-none_at : (slots : List (Option Opening)) (slot : ℕ) → All IsNone slots → is_some (slice_index_or slots slot None) ≡ false
+pub none_at : (slots : List (Option Opening)) (slot : ℕ) → All IsNone slots → is_some (slice_index_or slots slot None) ≡ false
 none_at [] slot all = refl
 none_at (x ∷ xs) zero all = All-head IsNone x xs all
 none_at (x ∷ xs) (suc slot) all = none_at xs slot (All-tail IsNone x xs all)

@@ -45,7 +45,7 @@ pub record OwnRow (past : Past) (tables : Tables) (thread row : ℕ) : Type 0 wh
   pub others : (r : ℕ) → IsRow 256 r → (r ≡ row → ⊥) → (thread == ((told_of tables.rows).row r).thread) ≡ false
   pub follows : RowFollows past ((told_of tables.rows).row row)
 
-some_is : {A : Type 0} (x y : A) → Some x ≡ Some y → x ≡ y
+pub some_is : {A : Type 0} (x y : A) → Some x ≡ Some y → x ≡ y
 some_is x y is = cc
 
 pub own_row : (events : List EventDef) (past : Past) (tables : Tables) (thread row : ℕ) → TablesFollow events past tables → row_of tables thread ≡ Some row → OwnRow past tables thread row

@@ -1,9 +1,9 @@
-mod Lists
-mod Pasts
-mod Slots
-mod Follow
+pub mod Lists
+pub mod Pasts
+pub mod Slots
+pub mod Follow
 mod Threads
 mod Writes
-mod Entering
+pub mod Entering
 mod Turns
 mod Comings
