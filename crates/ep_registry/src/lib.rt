@@ -36,4 +36,6 @@ pub use waiting::{Fits, Handed, Waiting};
 pub use writers::{Program, Writers};
 
 #[cfg(test)]
+mod histories;
+#[cfg(test)]
 mod tests;
