@@ -5,3 +5,5 @@ pub mod Reading
 pub mod Taking
 pub mod Sweep
 pub mod Staying
+pub mod Listed
+pub mod OneEvent

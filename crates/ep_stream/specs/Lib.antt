@@ -7,3 +7,4 @@ pub mod Opened
 pub mod Fates
 pub mod Session
 pub mod Sweep
+pub mod OneSlot

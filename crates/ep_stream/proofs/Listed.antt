@@ -1,0 +1,84 @@
+-- What stands at the places of a list, for the rows of tests.
+use Rattle.std.proofs.Common.{◌≡◌, ℕ, zero, suc, ◌+◌, ◌<◌, true, false, List, [], ◌∷◌, Option, None, Some, length, refl, ap, sym, ◌∙◌, subst, arith}
+use Rattle.std.specs.List.{sum_by}
+use Rattle.std.specs.Prelude.{All, IsNone, slice_index_or, slice_set, option_map, ◌==◌, if◌then◌else◌}
+use Rattle.std.proofs.lemmas.Bool.{eqb-true, eqb-false}
+use Rattle.std.proofs.lemmas.List.{get_or-set_same, get_or-set_other}
+use Rattle.std.proofs.lemmas.List.Elements.{All-head, All-tail}
+use Rattle.std.proofs.lemmas.List.Sums.{sum_by-set}
+use Rattle.ep_stream.specs.OneSlot.{at_slot}
+
+-- What is expected is open in the slot.
+is_there : {B : Type 0} (x : Option B) (slot : ℕ) (y : B) → (if slot == 3 then x else None) ≡ Some y → (slot ≡ 3) × (x ≡ Some y)
+is_there x slot y is =
+    elim (slot == 3) as (λ v. (slot == 3) ≡ v → (if v then x else None) ≡ Some y → (slot ≡ 3) × (x ≡ Some y)) [
+      | true ↦ λ same is. (eqb-true slot 3 same, is)
+      | false ↦ λ _ is. absurd (none-some is)
+    ]
+    refl is
+  where
+    none-some : {B : Type 0} {y : B} → None ≡ Some y → ⊥
+    none-some e = cc
+
+-- Nothing is something.
+pub nothing : {A B : Type 0} (x : A) → None ≡ Some x → B
+nothing x e = absurd (clash e)
+  where
+    clash : {A : Type 0} {x : A} → None ≡ Some x → ⊥
+    clash e = cc
+
+-- A function says this of what is open.
+pub said : {A B : Type 0} (f : A → B) (cell : Option A) (x : A) (y : B) → cell ≡ Some x → option_map f cell ≡ Some y → f x ≡ y
+said f cell x y is says = cc
+
+cell_set : {A : Type 0} (cells : List (Option A)) (row : ℕ) (cell : Option A) (r : ℕ) → row < length cells → slice_index_or (slice_set cells row cell) r None ≡ (if r == row then cell else slice_index_or cells r None)
+cell_set cells row cell r within =
+    elim (r == row) as (λ v. (r == row) ≡ v → slice_index_or (slice_set cells row cell) r None ≡ (if v then cell else slice_index_or cells r None)) [
+      | true ↦ λ same. ap (λ (n : ℕ). slice_index_or (slice_set cells row cell) n None) (eqb-true r row same) ∙ get_or-set_same cells row cell None within
+      | false ↦ λ other. get_or-set_other cells row r cell None (eqb-false r row other)
+    ]
+    refl
+
+-- Nothing is put down at the place before the rows.
+pub first_set : {A : Type 0} (cells : List (Option A)) (row : ℕ) (cell : Option A) → 0 < row → slice_index_or cells 0 None ≡ None → slice_index_or (slice_set cells row cell) 0 None ≡ None
+first_set cells row cell some first = get_or-set_other cells row 0 cell None (λ (e : 0 ≡ row). omega (arith, e, some)) ∙ first
+
+-- What holds of what is open at each place still holds.
+pub all_set : {A : Type 0} (P : ℕ → A → Type 0) (cells : List (Option A)) (row : ℕ) (cell : Option A) → row < length cells → ((x : A) → cell ≡ Some x → P row x) → ((r : ℕ) (x : A) → slice_index_or cells r None ≡ Some x → P r x)
+    → (r : ℕ) (x : A) → slice_index_or (slice_set cells row cell) r None ≡ Some x → P r x
+all_set P cells row cell within here all r x is =
+    elim (r == row) as (λ v. (r == row) ≡ v → (if v then cell else slice_index_or cells r None) ≡ Some x → P r x) [
+      | true ↦ λ same is. subst (λ (n : ℕ). P n x) (sym (eqb-true r row same)) (here x is)
+      | false ↦ λ _ is. all r x is
+    ]
+    refl (sym (cell_set cells row cell r within) ∙ is)
+
+-- Nothing is open where each place has nothing.
+pub none_open : {A B : Type 0} (f : A → B) (cells : List (Option A)) (row slot : ℕ) → All IsNone cells → at_slot f cells row slot ≡ None
+none_open f cells row slot all =
+    elim (slot == 3) as (λ v. (if v then option_map f (slice_index_or cells row None) else None) ≡ None) [
+      | true ↦ ap (option_map f) (none_at cells row all)
+      | false ↦ refl
+    ]
+  where
+    none_is : {A : Type 0} (x : Option A) → IsNone x → x ≡ None
+    none_is None h = refl
+    none_is (Some y) h = cc
+
+    none_at : {A : Type 0} (cells : List (Option A)) (row : ℕ) → All IsNone cells → slice_index_or cells row None ≡ None
+    none_at [] row all = refl
+    none_at (x ∷ xs) zero all = none_is x (All-head IsNone x xs all)
+    none_at (x ∷ xs) (suc row) all = none_at xs row (All-tail IsNone x xs all)
+
+-- What is open at each place has the place's number.
+pub number_there : {A B : Type 0} (f : A → B) (number : B → ℕ) (cells : List (Option A)) (row slot : ℕ) (y : B) → ((r : ℕ) (x : A) → slice_index_or cells r None ≡ Some x → number (f x) ≡ r)
+    → at_slot f cells row slot ≡ Some y → number y ≡ row
+number_there {A = A} f number cells row slot y all is = from (slice_index_or cells row None) refl (is_there (option_map f (slice_index_or cells row None)) slot y is).1
+  where
+    from : (old : Option A) → slice_index_or cells row None ≡ old → option_map f old ≡ Some y → number y ≡ row
+    from None is e = absurd (cc)
+    from (Some x) is e = let same : y ≡ f x = cc in ap number same ∙ all row x is
+
+-- What is set has nothing that is counted.
+pub sum_less : {A : Type 0} (f : Option A → ℕ) (cells : List (Option A)) (row : ℕ) (cell : Option A) → row < length cells → f cell ≡ 0 → sum_by f (slice_set cells row cell) + f (slice_index_or cells row None) ≡ sum_by f cells
+sum_less f cells row cell within none = let e = sum_by-set f cells row cell None within in omega (arith, e, none)
