@@ -56,11 +56,6 @@ impl Scene {
         self.rows.free()
     }
 
-    /// Whether the session has chunks in hand.
-    pub(super) fn in_hand(&self) -> bool {
-        self.session.in_hand()
-    }
-
     // Ends the test where the session can't be opened on the row.
     fn must_be_off(&self, rt: &impl Abort, row: u32)
         ensures row { IsRow ROWS row }
