@@ -2,6 +2,7 @@
 use Rattle.std.proofs.Common.{◌≡◌, ℕ, zero, suc, ◌+◌, ◌<◌, ◌≤◌, Bool, true, false, List, [], ◌∷◌, map, length, Option, Some, None, refl, ap, sym, ◌∙◌, subst, arith, if◌then◌else◌, inl, inr, count_by, set, get_or, cond}
 use Rattle.std.specs.Prelude.{◌&&◌, ◌||◌, not, filter, is_some, slice_get, position, remove, ◌==◌}
 use Rattle.std.proofs.lemmas.Bool.{eqb-true, eq-eqb, ne_eqb, or_parts, or_cases, or_from, cases_eq, false≢true}
+use Rattle.std.proofs.Math.ListN.{length-set}
 use Rattle.std.proofs.lemmas.List.Quantifiers.{position-Some}
 use Rattle.std.proofs.lemmas.List.Sums.{sum_by-cons, sum_by-set}
 use Rattle.std.proofs.lemmas.Option.{slice_get-get_or}
@@ -162,12 +163,12 @@ holds_set (x ∷ xs) (suc i) zero seat less = sym (ap (λ b. b || is_some x) (ne
 holds_set (x ∷ xs) (suc i) (suc s) seat less = holds_set xs i s seat (omega (arith, less)) ∙ sym (ap (λ b. b || holds (slice_get xs s)) (eqb_suc i s))
 
 -- The slot that a session gets.
-record Seated (table : Sessions) (slot : ℕ) : Type 0 where
-  found : position is_free table.seats ≡ Some slot
-  less : slot < length table.seats
-  none : is_some (get_or table.seats slot None) ≡ false
+pub record Seated (table : Sessions) (slot : ℕ) : Type 0 where
+  pub found : position is_free table.seats ≡ Some slot
+  pub less : slot < length table.seats
+  pub none : is_some (get_or table.seats slot None) ≡ false
 
-seated : (table : Sessions) (slot id : ℕ) → accepted_by table ≡ SeatAt slot id → Seated table slot
+pub seated : (table : Sessions) (slot id : ℕ) → accepted_by table ≡ SeatAt slot id → Seated table slot
 seated table slot id is = from (position is_free table.seats) refl is
   where
     not_some : (b : Bool) → not b ≡ true → b ≡ false
@@ -200,6 +201,10 @@ accept_count table slot id is =
     let none : one_more (is_some (get_or table.seats slot None)) ≡ 0 = ap one_more at.none in
     let more : count_by is_some (set table.seats slot seat) ≡ suc (count_by is_some table.seats) = omega (arith, counts, none) in
     ap (λ found. held_count (seated_at table found)) at.found ∙ more
+
+pub accept_seats : (table : Sessions) (slot id : ℕ) → accepted_by table ≡ SeatAt slot id → length (after_accept table).seats ≡ length table.seats
+accept_seats table slot id is =
+    ap (λ found. length (seated_at table found).seats) (seated table slot id is).found ∙ length-set table.seats slot (Some (record { id = table.next; live = true }))
 
 -- ---- a slot is freed
 

@@ -1,2 +1,3 @@
 pub mod Made
 pub mod Given
+pub mod Tied

@@ -1,30 +1,37 @@
 -- What each step that is made makes of the tables of sessions, threads and rows: what is named here, and nothing else (this project's profile).
-use Rattle.std.specs.Prelude.{◌≡◌, ℕ, ◌+◌, ◌^◌, ◌<◌, ◌==◌, ◌||◌, if◌then◌else◌, true, false, List, [], ◌∷◌, ◌++◌, length, Some, None, is_some, slice_get, slice_set, position, IsNone}
+use Rattle.std.specs.Prelude.{◌≡◌, ℕ, ◌+◌, ◌^◌, ◌<◌, ◌≤◌, ◌==◌, ◌||◌, if◌then◌else◌, true, false, List, [], ◌∷◌, ◌++◌, length, Some, None, is_some, slice_get, slice_set, position, IsNone, IsTrue}
+use Rattle.std.specs.Int.{is_in_range}
 use Rattle.std.specs.List.{All, remove}
 use Rattle.std.specs.BTreeMap.{get, btree_map_len}
 use Rattle.std.specs.Ordering.{nat_cmp}
-use Rattle.ep_defs.specs.declared.limits.TheConstants.{SESSIONS, THREADS}
+use Rattle.ep_defs.specs.declared.limits.TheConstants.{SESSIONS, THREADS, WRITES}
 use Rattle.ep_defs.specs.Definitions.{definition_at}
 use Rattle.ep_defs.specs.Entry.{Entry, Point}
+use Rattle.ep_defs.specs.Session.{fits}
 use Rattle.ep_defs.specs.declared.event.EventDef.{EventDef}
 use Rattle.ep_defs.specs.declared.session.Config.{Config}
 use Rattle.ep_defs.specs.declared.session.Marks.{Marks}
 use Rattle.ep_defs.specs.declared.session.TraceInfo.{TraceInfo}
 use Rattle.ep_defs.specs.declared.session.Write.{Write}
 use Rattle.pt_io.specs.Memory.{SinkState}
+use Rattle.nt_write.specs.declared.limits.TheConstants.{FRAMED_EVENTS}
+use Rattle.nt_write.specs.Writable.{framed}
 use Rattle.nt_write.specs.Writer.{point_of}
 use Rattle.ep_chunk.specs.Record.{Record}
-use Rattle.ep_table.specs.Sessions.{accepted_by, after_accept, after_free}
+use Rattle.ep_table.specs.Sessions.{accepted_by, after_accept, after_free, no_sessions}
 use Rattle.ep_table.specs.declared.table.Accepted.TheVariants.{Seat as SeatAt}
 use Rattle.ep_slot.specs.declared.shown.Shown.{Shown}
 use Rattle.ep_slot.specs.Hand.{HandState}
+use Rattle.ep_slot.specs.Slot.{SlotState}
 use Rattle.ep_stream.specs.Rows.{IsRow, hand_after}
 use Rattle.ep_stream.specs.Steps.{ToldRows, Opens, Steals, Closes}
 use Rattle.ep_stream.specs.Sweep.{TellsGive}
-use Rattle.ep_stream.specs.Telling.{IsTelling, entries_of}
+use Rattle.ep_stream.specs.Telling.{IsTelling, IsFront, entries_of}
 use Rattle.ep_stream.specs.Named.{with_number, with_marks, still_open, numbers_of}
-use Rattle.ep_stream.specs.Session.{rest_of, hand_on, writer_of, new_rest, SetsHand, SameHands, Attached}
-use Rattle.ep_rows.specs.Rows.{told_of, definitions_of}
+use Rattle.ep_stream.specs.Session.{rest_of, hand_on, writer_of, new_rest, SetsHand, SameHands, Attached, Ended}
+use Rattle.ep_stream.specs.declared.session.SessionEnd.{SessionEnd}
+use Rattle.ep_stream.specs.declared.session.Fate.TheVariants.{ProgramEnd}
+use Rattle.ep_rows.specs.Rows.{told_of, definitions_of, AreFresh}
 use Rattle.ep_rows.specs.Told.{no_chunks}
 use Rattle.ep_rows.specs.Writes.{Begins, Ends, Leaves, Enters, Shows, SetsPool}
 use Rattle.ep_judge.specs.declared.tables.Present.{Present}
@@ -249,3 +256,67 @@ pub record MakesFinish (session : ℕ) (old new : Tables) : Type 0 where
   pub events : KeepsEvents old new
   pub threads : KeepsThreads old new
   pub begins : new.begins ≡ old.begins
+
+-- ---- what a step needs or may find besides
+
+-- A session can take the write of a thread: it is open on the thread's row with a number left, and its chunks are those of its budget.
+pub record CanTake (thread session : ℕ) (write : Write) (tables : Tables) : Type 0 where
+  pub row : ℕ
+  pub own : row_of tables thread ≡ Some row
+  pub place : ℕ
+  pub present : Present
+  pub stands : StandsAt session tables place present
+  pub buffer : SlotState
+  pub slot_is : (told_of tables.rows).slot row present.slot ≡ Some buffer
+  pub few : buffer.used < WRITES
+  pub total : ((told_of tables.rows).pool present.slot).total ≡ buffer.chunks
+  pub event : 0 < write.event
+  pub events : write.event ≤ length (definitions_of tables.rows)
+  pub fit : IsTrue (fits write)
+
+-- Some of these entries, from the first one on, and those that were told before have more events with a stack since a point than there are stack ids.
+abbrev pub IsSpent : List EventDef → List Entry → Present → Type 0
+IsSpent events entries was =
+    (before : List ℕ) (info : TraceInfo) (told : List Entry)
+    → IsTelling (λ (s : SinkState). true) (λ (s : SinkState). s.taken) before (definition_at events) info told (writer_of was.session)
+    → (done : List Entry) × IsFront done entries × (FRAMED_EVENTS < framed (told ++ done))
+
+-- A Steal or a Close ran out of stack ids.
+pub record RunsOut (session thread : ℕ) (tables : Tables) : Type 0 where
+  pub row : ℕ
+  pub own : row_of tables thread ≡ Some row
+  pub place : ℕ
+  pub was : Present
+  pub stands : StandsAt session tables place was
+  pub buffer : SlotState
+  pub slot_is : (told_of tables.rows).slot row was.slot ≡ Some buffer
+  pub spent : IsSpent tables.events.items (entries_of tables.events.items (rest_of was.session).config.stackwalk buffer.records) was
+
+-- A Point ran out of stack ids.
+pub record PointRunsOut (session stamp : ℕ) (tables : Tables) : Type 0 where
+  pub place : ℕ
+  pub was : Present
+  pub stands : StandsAt session tables place was
+  pub spent : IsSpent tables.events.items (Point (point_of stamp (numbers_of (rest_of was.session).named)) ∷ []) was
+
+-- What is left of a session that was present.
+pub record EndsAs (session stamp : ℕ) (tables : Tables) (end : SessionEnd SinkState) : Type 0 where
+  pub place : ℕ
+  pub was : Present
+  pub stands : StandsAt session tables place was
+  pub marks : end.marks ≡ (rest_of was.session).marks
+  pub ended : Ended (λ (s : SinkState). true) (λ (s : SinkState). s.taken) (λ (s : SinkState). s.faults) stamp ProgramEnd was.session end.fate end.sink
+
+-- ---- before the first step
+
+-- Threads 1 to 256 have the rows of their numbers, and no session is there.
+pub record IsStart (events : List EventDef) (tables : Tables) : Type 0 where
+  pub events_are : tables.events.items ≡ events
+  pub known : definitions_of tables.rows ≡ events
+  pub rows : AreFresh (length events) (told_of tables.rows)
+  pub threads : (t : ℕ) → get nat_cmp tables.threads t ≡ (if is_in_range 1 THREADS t then Some t else None)
+  pub present : tables.present.items ≡ []
+  pub table : tables.table ≡ no_sessions
+  pub last_session : tables.last_session ≡ 0
+  pub last_thread : tables.last_thread ≡ THREADS
+  pub begins : tables.begins ≡ 0

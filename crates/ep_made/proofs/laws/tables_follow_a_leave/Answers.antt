@@ -1,4 +1,4 @@
-use Rattle.ep_made.proofs.Threads.{after_leave}
+use Rattle.ep_made.proofs.OwnSteps.{after_leave}
 use Rattle.ep_made.proofs.laws.tables_follow_a_leave.Goals as goal
 
 pub returns : goal.returns
