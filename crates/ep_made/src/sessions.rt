@@ -1,5 +1,5 @@
 //! Steps that a session makes.
-ghost use Rattle.std.specs.Prelude.{◌≡◌, ◌^◌, ◌<◌, ℕ, Some, Err, OnOk, IfOk};
+ghost use Rattle.std.specs.Prelude.{◌≡◌, ◌≢◌, ◌^◌, ◌<◌, ℕ, Some, Err, OnOk, IfOk};
 ghost use Rattle.ep_model.specs.declared.step.Step.TheVariants.{Accept, Open, Steal, Give, Point, Close, Finish};
 ghost use Rattle.nt_write.specs.declared.fault.Fault.TheVariants.{TooLong};
 ghost use Rattle.ep_judge.specs.Can.{CanMake};
@@ -33,6 +33,7 @@ pub fn accept(
     requires few { tables.old.table.next < 2 ^ 63 }
     ensures made { OnOk result (MakesAccept session config info.now tables.old tables.new) }
     ensures tied { OnOk result (AreTied tables.new) }
+    ensures not_long { result ≢ Err TooLong }
 {
     let Accepted::Seat { slot, .. } = tables.table.accept() else {
         unreachable!();
