@@ -5,6 +5,7 @@ use Rattle.std.specs.List.{list_any}
 use Rattle.std.proofs.lemmas.Bool.Decides.{nat_tests}
 use Rattle.ep_defs.specs.declared.event.EventDef.{EventDef}
 use Rattle.ep_defs.specs.Event.{is_valid_event, is_same_event}
+use Rattle.ep_defs.specs.declared.limits.TheConstants.{EVENTS}
 use Rattle.ep_plan.specs.declared.cursor.Cursor.{Cursor}
 use Rattle.ep_plan.specs.declared.line.LineFault.{LineFault}
 use Rattle.ep_plan.specs.declared.line.LineFault.TheVariants.{Bad as Refused}
@@ -82,14 +83,14 @@ order-none true true h = (refl, refl)
 order-none true false h = cc
 order-none false few h = cc
 
-order-good : (next index : ℕ) → order_fault next (Some index) ≡ None → (index ≡ next) × (index ≤ 1000)
+order-good : (next index : ℕ) → order_fault next (Some index) ≡ None → (index ≡ next) × (index ≤ EVENTS)
 order-good next index h =
-    let parts = order-none (index == next) (nat_le index 1000) h in
+    let parts = order-none (index == next) (nat_le index EVENTS) h in
     let same = parts.0 in
     let few = parts.1 in
     (grind (arith, nat_tests), grind (arith, nat_tests))
 
-index-good : (past column next : ℕ) (parts : List Part) (number : List ℕ) (words : List (List ℕ)) (index : ℕ) → first_bad past column (Index next ∷ parts) 0 (number ∷ words) ≡ None → number_of number ≡ Some index → (index ≡ next) × (index ≤ 1000)
+index-good : (past column next : ℕ) (parts : List Part) (number : List ℕ) (words : List (List ℕ)) (index : ℕ) → first_bad past column (Index next ∷ parts) 0 (number ∷ words) ≡ None → number_of number ≡ Some index → (index ≡ next) × (index ≤ EVENTS)
 unfolding first_bad fault_of
 index-good past column next parts [] words index h spelled = cc
 index-good past column next parts (byte ∷ number) words index h spelled =
@@ -102,7 +103,7 @@ judged-good true true h = cc
 judged-good true false h = (refl, refl)
 judged-good false same h = cc
 
-pub event-facts : (events : List EventDef) (stepped : Bool) (past : ℕ) (number : List ℕ) (words : List (List ℕ)) (index : ℕ) (def : EventDef) → event_bad events stepped past (number ∷ words) ≡ None → number_of number ≡ Some index → definition_of words ≡ Some def → (stepped ≡ false) × (index ≡ length events + 1) × (index ≤ 1000) × (is_valid_event def ≡ true) × (list_any (λ other. is_same_event other def) events ≡ false)
+pub event-facts : (events : List EventDef) (stepped : Bool) (past : ℕ) (number : List ℕ) (words : List (List ℕ)) (index : ℕ) (def : EventDef) → event_bad events stepped past (number ∷ words) ≡ None → number_of number ≡ Some index → definition_of words ≡ Some def → (stepped ≡ false) × (index ≡ length events + 1) × (index ≤ EVENTS) × (is_valid_event def ≡ true) × (list_any (λ other. is_same_event other def) events ≡ false)
 event-facts events stepped past number words index def good spelled defined =
     let parts = event-good events stepped past (number ∷ words) good in
     let order = index-good past 7 (length events + 1) _ number words index parts.1 spelled in

@@ -1,6 +1,8 @@
 -- What the words behind the first one are, and what they spell.
-use Rattle.std.proofs.Common.{◌≡◌, ◌==◌, ◌&&◌, ℕ, ◌+◌, Bool, true, false, List, [], ◌∷◌, length, find, codes, Option, Some, None, Result, Ok, Err, OnOk, refl, sym, ap, ◌∙◌}
-use Rattle.std.proofs.lemmas.Bool.{eqb-true}
+use Rattle.std.proofs.Common.{◌≡◌, if◌then◌else◌, option_map, ℕ, ◌+◌, Bool, true, false, List, [], ◌∷◌, length, find, codes, Option, Some, None, Result, Ok, Err, OnOk, IfOk, subst, refl, sym, ap, ◌∙◌}
+use Rattle.std.specs.Result.{MatchResult, IsOkAnd}
+use Rattle.ep_defs.proofs.Sameness.{text-means}
+use Rattle.ep_model.specs.declared.step.Step.{Step}
 use Rattle.ep_plan.specs.declared.line.LineFault.{LineFault}
 use Rattle.ep_plan.specs.declared.line.LineFault.TheVariants.{Bad as Refused}
 use Rattle.ep_plan.specs.declared.line.LineKind.{LineKind}
@@ -9,65 +11,45 @@ use Rattle.ep_defs.specs.declared.event.EventDef.{EventDef}
 use Rattle.ep_defs.specs.declared.session.Write.{Write}
 use Rattle.ep_defs.specs.Event.{is_same_text}
 use Rattle.ep_plan.specs.declared.cursor.Cursor.{Cursor}
-use Rattle.ep_plan.specs.Lines.{Form, Bad, bad_at, step_forms, form_bad, step_bad, number_of, write_of, definition_of}
+use Rattle.ep_plan.specs.declared.verb.Verb.{Verb}
+use Rattle.ep_plan.specs.Lines.{Bad, bad_at, form_of, verbs, verb_in, form_bad, step_bad, number_of, write_of, definition_of, Spells}
 use Rattle.ep_plan.specs.Words.{id_in, frames_in, payload_in, hex_in, provider_in, event_name_in, fields_in}
-use Rattle.ep_plan.specs.Cursor.{left, bad_left, BeginsAt}
+use Rattle.ep_plan.specs.Cursor.{left, bad_form, BeginsAt}
 
--- The forms whose name is this word.
-abbrev pub form_named : List ℕ → Option Form
-form_named first = find (λ form. is_same_text first form.name) step_forms
+-- What a search finds passes the test.
+found : {A : Type 0} (test : A → Bool) (xs : List A) (x : A) → find test xs ≡ Some x → test x ≡ true
+found test [] x h = cc
+found test (y ∷ xs) x h = by_test (test y) refl h (found test xs x)
+  where
+    by_test : (b : Bool) → test y ≡ b → (if b then Some y else find test xs) ≡ Some x → (find test xs ≡ Some x → test x ≡ true) → test x ≡ true
+    by_test true passed e later =
+        let same : y ≡ x = cc in
+        ap test (sym same) ∙ passed
+    by_test false failed e later = later e
 
--- A line whose first word is the name of a form has that form.
-pub step-form : (words : Cursor) (first : List ℕ) (form : Form) → form_named first ≡ Some form → BeginsAt (length first + 2) words → step_bad words.past first (left words) ≡ bad_left words form.parts form.more_rules
+-- A word that names a verb is its name.
+pub verb-name : (word : List ℕ) (verb : Verb) → verb_in word ≡ Some verb → word ≡ (form_of verb).name
+verb-name word verb named = text-means word (form_of verb).name (found (λ v. is_same_text word (form_of v).name) verbs verb named)
+
+-- A line whose first word names a verb has the verb's form.
+pub verb-form : (words : Cursor) (first : List ℕ) (verb : Verb) → verb_in first ≡ Some verb → BeginsAt (length first + 2) words → step_bad words.past first (left words) ≡ bad_form words (form_of verb)
 unfolding step_bad
-step-form words first form named begins =
-    let after : Option Form → Option Bad = form_bad words.past (length first + 2) (left words) in
-    ap after named ∙ begins form.parts form.more_rules
+verb-form words first verb named begins =
+    let after : Option Verb → Option Bad = λ v. form_bad words.past (length first + 2) (left words) (option_map form_of v) in
+    ap after named ∙ begins (form_of verb).parts (form_of verb).more_rules
 
-and_left : (a b : Bool) → (a && b) ≡ true → a ≡ true
-and_left true b h = refl
-and_left false b h = h
-
-and_right : (a b : Bool) → (a && b) ≡ true → b ≡ true
-and_right true b h = h
-and_right false b h = cc
-
--- Texts that are the same are equal.
-pub same-text : (a b : List ℕ) → is_same_text a b ≡ true → a ≡ b
-same-text [] [] h = refl
-same-text [] (y ∷ b) h = cc
-same-text (x ∷ a) [] h = cc
-same-text (x ∷ a) (y ∷ b) h =
-    let heads : x ≡ y = eqb-true x y (and_left (x == y) (is_same_text a b) h) in
-    let tails = same-text a b (and_right (x == y) (is_same_text a b) h) in
-    cc
+-- A line whose first word names no verb.
+pub no-verb : (past : ℕ) (first : List ℕ) (words : List (List ℕ)) → verb_in first ≡ None → step_bad past first words ≡ Some (bad_at 1 kind.Word)
+unfolding step_bad
+no-verb past first words none = ap (λ v. form_bad past (length first + 2) words (option_map form_of v)) none
 
 -- The first word is this name.
 pub named : (first slice name : List ℕ) → true ≡ is_same_text first slice → slice ≡ name → first ≡ name
-named first slice name h same = same-text first slice (sym h) ∙ same
+named first slice name h same = text-means first slice (sym h) ∙ same
 
 -- The first word is another one.
 pub unnamed : (first slice name : List ℕ) → false ≡ is_same_text first slice → slice ≡ name → is_same_text first name ≡ false
 unnamed first slice name h same = ap (is_same_text first) (sym same) ∙ sym h
-
--- A line whose first word is the name of no form.
-pub step-none : (past : ℕ) (first : List ℕ) (words : List (List ℕ))
-    → is_same_text first (codes "accept") ≡ false
-    → is_same_text first (codes "accept3") ≡ false
-    → is_same_text first (codes "enter") ≡ false
-    → is_same_text first (codes "leave") ≡ false
-    → is_same_text first (codes "open") ≡ false
-    → is_same_text first (codes "begin") ≡ false
-    → is_same_text first (codes "show") ≡ false
-    → is_same_text first (codes "end") ≡ false
-    → is_same_text first (codes "steal") ≡ false
-    → is_same_text first (codes "give") ≡ false
-    → is_same_text first (codes "point") ≡ false
-    → is_same_text first (codes "close") ≡ false
-    → is_same_text first (codes "finish") ≡ false
-    → step_bad past first words ≡ Some (bad_at 1 kind.Word)
-unfolding step_bad
-step-none past first words a b c d e f g h i j k l m = rw (a, b, c, d, e, f, g, h, i, j, k, l, m) refl
 
 -- A line that is good in its form.
 pub good-through : {T : Type 0} (r : Result T LineFault) (a b : Option Bad) → a ≡ b → OnOk r (b ≡ None) → OnOk r (a ≡ None)
@@ -91,3 +73,14 @@ no-word words first fault told bad at column why e =
     let line : at ≡ words.line = cc in
     let answer : bad_at 1 kind.Word ≡ bad_at column why = cc in
     (line, bad ∙ ap Some answer)
+
+-- A step that was made of what was read is what the words spell.
+pub made-of : {A : Type 0} {F : A → Step → Type 0} {Q : A → Type 0} (r : Result A LineFault) (m : Result Step LineFault) (verb its : Verb) (words : List (List ℕ)) (make : A → Step)
+    → verb ≡ its → MatchResult r (λ x. IsOkAnd m (F x)) (λ e. m ≡ Err e) → ((x : A) (made : Step) → F x made → made ≡ make x) → IfOk r Q → ((x : A) → Q x → Spells ((form_of its).name ∷ words) (make x))
+    → IfOk m (λ made. Spells ((form_of verb).name ∷ words) made)
+made-of (Ok x) (Ok made) verb its words make same by is read spells =
+    let whole : Verb → Step → Type 0 = λ v s. Spells ((form_of v).name ∷ words) s in
+    subst (λ v. whole v made) (sym same) (subst (whole its) (sym (is x made by)) (spells x read))
+made-of (Ok x) (Err e) verb its words make same by is read spells = tt
+made-of (Err e) (Ok made) verb its words make same by is read spells = cc
+made-of (Err e) (Err f) verb its words make same by is read spells = tt

@@ -6,6 +6,8 @@ use Rattle.ep_defs.specs.declared.session.Config.{Config}
 use Rattle.ep_defs.specs.Event.{is_valid_event, is_same_event}
 use Rattle.ep_model.specs.declared.step.Step.{Step}
 use Rattle.ep_model.specs.declared.step.Step.TheVariants as step
+use Rattle.ep_defs.specs.declared.limits.TheConstants.{EVENTS}
+use Rattle.ep_plan.specs.declared.limits.TheConstants.{LINE_BYTES}
 use Rattle.ep_plan.specs.declared.line.Line.{Line}
 use Rattle.ep_plan.specs.declared.line.Line.TheVariants as line
 use Rattle.ep_plan.specs.Words.{words_of, rule_in, all_in}
@@ -156,14 +158,14 @@ unless-blank false o b h = h
 words-good : (events : List EventDef) (stepped : Bool) (text : List ℕ) → bad_of events stepped text ≡ None → is_blank text ≡ false → words_bad events stepped (length text + 1) (words_of text) ≡ None
 unfolding bad_of
 words-good events stepped text h other =
-    unless-blank (is_blank text) (words_bad events stepped (length text + 1) (words_of text)) other (if-none (nat_lt 262144 (length text)) (bad_at 1 kind.Long) _ h)
+    unless-blank (is_blank text) (words_bad events stepped (length text + 1) (words_of text)) other (if-none (nat_lt LINE_BYTES (length text)) (bad_at 1 kind.Long) _ h)
 
 event-words : (events : List EventDef) (stepped : Bool) (past : ℕ) (words : List (List ℕ)) → words_bad events stepped past (codes "event" ∷ words) ≡ event_bad events stepped past words
 unfolding words_bad
 event-words events stepped past words = refl
 
 -- What a line says that is a good event.
-pub event-line : (events : List EventDef) (stepped : Bool) (text : List ℕ) (index : ℕ) (def : EventDef) → IsLine events stepped text (line.Event index def) → (stepped ≡ false) × (index ≡ length events + 1) × (index ≤ 1000) × IsTrue (is_valid_event def) × (list_any (λ other. is_same_event other def) events ≡ false)
+pub event-line : (events : List EventDef) (stepped : Bool) (text : List ℕ) (index : ℕ) (def : EventDef) → IsLine events stepped text (line.Event index def) → (stepped ≡ false) × (index ≡ length events + 1) × (index ≤ EVENTS) × IsTrue (is_valid_event def) × (list_any (λ other. is_same_event other def) events ≡ false)
 unfolding Means
 event-line events stepped text index def x =
     let means = x.meaning in

@@ -7,6 +7,7 @@ use Rattle.std.specs.Str.Parse.{digits_value, AllDigits}
 use Rattle.std.specs.Fmt.{digits, digits_onto, digit_glyph, decimal}
 use Rattle.std.proofs.lemmas.Bool.{cases_Bool, cond-true, cond-false, and_from, le-leb, lt-ltb, eq-eqb, ne_eqb, not_from_false}
 use Rattle.std.proofs.lemmas.Fmt.{digits_is_IsNumeral, decimal_is_IsNumeral, length-decimal-le}
+use Rattle.ep_plan.specs.declared.limits.TheConstants.{DECIMAL_DIGITS, HEX_DIGITS}
 use Rattle.ep_plan.specs.Words.{at_most, numeral_in, number_in, hex_in, number_text, hex_text}
 use Rattle.ep_plan.proofs.Lacks.{lacks}
 use Rattle.ep_plan.proofs.Numerals.{numeral_in-true, at_most-below}
@@ -31,7 +32,7 @@ length-digits_onto (suc k) (suc m) n acc small =
     ]
 
 -- A number of 64 bits has at most 16 hexadecimal digits.
-length-hex_text : (n : ℕ) → n < 2 ^ 64 → length (hex_text n) ≤ 16
+length-hex_text : (n : ℕ) → n < 2 ^ 64 → length (hex_text n) ≤ HEX_DIGITS
 unfolding hex_text digits
 length-hex_text n small =
     let short = length-digits_onto 64 15 n [] in
@@ -58,8 +59,8 @@ pub number_in-number_text : (most number : ℕ) → number ≤ most → number <
 unfolding number_in number_text
 number_in-number_text most number below small =
     let text = decimal_is_IsNumeral number small in
-    let short = length-decimal-le 20 number (omega arith) (omega arith) small in
-    let read = numeral_in-digits 10 20 (decimal number) text.0.0 short text.0.1 in
+    let short = length-decimal-le DECIMAL_DIGITS number (omega arith) (omega arith) small in
+    let read = numeral_in-digits 10 DECIMAL_DIGITS (decimal number) text.0.0 short text.0.1 in
     ap (at_most most) (read ∙ ap Some text.1) ∙ at_most-below most number below
 
 -- So are hexadecimal digits.
@@ -67,7 +68,7 @@ pub hex_in-hex_text : (number : ℕ) → number < 2 ^ 64 → hex_in (hex_text nu
 unfolding hex_in hex_text
 hex_in-hex_text number small =
     let text = digits_is_IsNumeral 16 false (omega arith) (omega arith) number (omega arith) in
-    numeral_in-digits 16 16 (digits 16 false number) text.0.0 (length-hex_text number small) text.0.1 ∙ ap Some text.1
+    numeral_in-digits 16 HEX_DIGITS (digits 16 false number) text.0.0 (length-hex_text number small) text.0.1 ∙ ap Some text.1
 
 -- ---- bytes that no number has
 

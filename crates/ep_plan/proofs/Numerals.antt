@@ -11,6 +11,7 @@ use Rattle.std.specs.Bool.{then_some}
 use Rattle.std.proofs.lemmas.List.Folds.{list_all_at}
 use Rattle.std.proofs.lemmas.Int.Digits.{digits_value_more, digits_value-lt}
 use Rattle.std.proofs.lemmas.Str.Parse.{digits_value-take-le}
+use Rattle.ep_plan.specs.declared.limits.TheConstants.{DECIMAL_DIGITS, HEX_DIGITS}
 use Rattle.ep_plan.specs.Words.{option_filter, at_most, numeral_in, number_in, hex_in}
 
 -- What the word's length and digits must be.
@@ -89,21 +90,21 @@ at_most-numeral_in-some most base places word some few are_digits small =
     ap (at_most most) numeral ∙ at_most-below most (digits_value base word) small
 
 -- 16 hexadecimal digits spell a number of 64 bits.
-pub at_most-hex : (word : List ℕ) → at_most (2 ^ 64 - 1) (numeral_in 16 16 word) ≡ hex_in word
+pub at_most-hex : (word : List ℕ) → at_most (2 ^ 64 - 1) (numeral_in 16 HEX_DIGITS word) ≡ hex_in word
 unfolding hex_in
 at_most-hex word =
-    elim (cases_Bool (is_numeral 16 16 word)) [
+    elim (cases_Bool (is_numeral 16 HEX_DIGITS word)) [
       | inl good ↦
-          let digits : list_all (λ digit. is_digit digit 16) word ≡ true = (and_parts (is_in_range 1 16 (length word)) (list_all (λ digit. is_digit digit 16) word) good).1 in
-          let lengths : is_in_range 1 16 (length word) ≡ true = (and_parts (is_in_range 1 16 (length word)) (list_all (λ digit. is_digit digit 16) word) good).0 in
-          let few : length word ≤ 16 = leb-true (length word) 16 (and_parts (nat_le 1 (length word)) (nat_le (length word) 16) lengths).1 in
+          let digits : list_all (λ digit. is_digit digit 16) word ≡ true = (and_parts (is_in_range 1 HEX_DIGITS (length word)) (list_all (λ digit. is_digit digit 16) word) good).1 in
+          let lengths : is_in_range 1 HEX_DIGITS (length word) ≡ true = (and_parts (is_in_range 1 HEX_DIGITS (length word)) (list_all (λ digit. is_digit digit 16) word) good).0 in
+          let few : length word ≤ HEX_DIGITS = leb-true (length word) HEX_DIGITS (and_parts (nat_le 1 (length word)) (nat_le (length word) HEX_DIGITS) lengths).1 in
           let below = digits_value-lt 16 word (digits-from_test 16 word digits) in
-          let power : 16 ^ length word ≤ 16 ^ 16 = pow-le-pow_right (omega arith) few in
+          let power : 16 ^ length word ≤ 16 ^ HEX_DIGITS = pow-le-pow_right (omega arith) few in
           let small : digits_value 16 word ≤ 2 ^ 64 - 1 = omega (arith, below, power) in
-          let read = numeral_in-true 16 16 word good in
+          let read = numeral_in-true 16 HEX_DIGITS word good in
           ap (at_most (2 ^ 64 - 1)) read ∙ at_most-below (2 ^ 64 - 1) (digits_value 16 word) small ∙ sym read
       | inr bad ↦
-          let none = numeral_in-false 16 16 word bad in
+          let none = numeral_in-false 16 HEX_DIGITS word bad in
           ap (at_most (2 ^ 64 - 1)) none ∙ sym none
     ]
 
@@ -131,4 +132,4 @@ option_filter-some passes (Some y) x h =
 -- A number that was read is no greater than what was asked for.
 pub number_in-le : (most : ℕ) (word : List ℕ) (x : ℕ) → number_in most word ≡ Some x → x ≤ most
 unfolding number_in
-number_in-le most word x h = leb-true x most (option_filter-some (λ n. nat_le n most) (numeral_in 10 20 word) x h).1
+number_in-le most word x h = leb-true x most (option_filter-some (λ n. nat_le n most) (numeral_in 10 DECIMAL_DIGITS word) x h).1

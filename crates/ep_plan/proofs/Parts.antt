@@ -44,15 +44,6 @@ pub parts-further : (separator : ℕ) (text first : List ℕ) (behind : Option (
     → behind ≡ Some rest → parts_at separator text ≡ first ∷ parts_at separator rest.now
 parts-further separator text first behind rest parts some = parts ∙ ap (λ (b : Option (Bor (List ℕ))). first ∷ parts_behind separator (option_copied b)) some
 
--- Without a separator the part is the last one.
-pub parts-last : (separator : ℕ) (text first : List ℕ) (behind : Option (Bor (List ℕ))) → parts_at separator text ≡ first ∷ parts_behind separator (option_copied behind)
-    → behind ≡ None → parts_at separator text ≡ first ∷ []
-parts-last separator text first behind parts none = parts ∙ ap (λ (b : Option (Bor (List ℕ))). first ∷ parts_behind separator (option_copied b)) none
-
-pub is_some-false : {A : Type 0} (o : Option A) → false ≡ is_some o → o ≡ None
-is_some-false None h = refl
-is_some-false (Some x) h = cc h
-
 onto_first-cons : (x : ℕ) (parts : List (List ℕ)) → (p : List ℕ) × (ps : List (List ℕ)) × (onto_first x parts ≡ p ∷ ps)
 onto_first-cons x [] = (x ∷ [], [], refl)
 onto_first-cons x (part ∷ parts) = (x ∷ part, parts, refl)
@@ -68,7 +59,3 @@ parts-cons separator (x ∷ text) =
           let first = onto_first-cons x (slice_split test text) in
           (first.0, first.1, slice_split-cons_no test x text bad ∙ first.2)
     ]
-
-pub behind-cons : (separator : ℕ) (behind : Option (Bor (List ℕ))) → true ≡ is_some behind → (p : List ℕ) × (ps : List (List ℕ)) × (parts_behind separator (option_copied behind) ≡ p ∷ ps)
-behind-cons separator None h = cc h
-behind-cons separator (Some rest) h = parts-cons separator rest.now

@@ -4,7 +4,7 @@ use Rattle.std.specs.List.{join_with_byte, AllByRecursion}
 use Rattle.std.proofs.lemmas.List.{append-nil, take_more, take_all, map-append}
 use Rattle.ep_defs.specs.declared.session.Config.{Config}
 use Rattle.ep_defs.specs.declared.session.Rule.{Rule}
-use Rattle.ep_plan.specs.Words.{number_text, rule_text}
+use Rattle.ep_plan.specs.Words.{space, number_text, rule_text}
 use Rattle.ep_model.specs.declared.step.Step.TheVariants as step
 use Rattle.ep_plan.specs.Printing.{spaced, number_words, step_words, RuleFits}
 use Rattle.ep_plan.proofs.Texts.{join-push}
@@ -13,59 +13,59 @@ use Rattle.ep_plan.proofs.Texts.{join-push}
 
 pub spaced-append : (xs ys : List (List ℕ)) → spaced (xs ++ ys) ≡ spaced xs ++ spaced ys
 spaced-append [] ys = refl
-spaced-append (x ∷ xs) ys = ap (λ rest. (32 ∷ x) ++ rest) (spaced-append xs ys) ∙ sym (append_assoc (32 ∷ x) (spaced xs) (spaced ys))
+spaced-append (x ∷ xs) ys = ap (λ rest. (space ∷ x) ++ rest) (spaced-append xs ys) ∙ sym (append_assoc (space ∷ x) (spaced xs) (spaced ys))
 
 -- One word more was written.
-pub word-more : (start line next : List ℕ) (words : List (List ℕ)) (word : List ℕ) → line ≡ start ++ spaced words → next ≡ line ++ 32 ∷ word → next ≡ start ++ spaced (words ++ word ∷ [])
+pub word-more : (start line next : List ℕ) (words : List (List ℕ)) (word : List ℕ) → line ≡ start ++ spaced words → next ≡ line ++ space ∷ word → next ≡ start ++ spaced (words ++ word ∷ [])
 word-more start line next words word h more =
-    let one : spaced (words ++ word ∷ []) ≡ spaced words ++ 32 ∷ word = spaced-append words (word ∷ []) ∙ ap (λ w. spaced words ++ 32 ∷ w) (append-nil word) in
-    let behind : List ℕ → List ℕ = λ text. text ++ 32 ∷ word in
+    let one : spaced (words ++ word ∷ []) ≡ spaced words ++ space ∷ word = spaced-append words (word ∷ []) ∙ ap (λ w. spaced words ++ space ∷ w) (append-nil word) in
+    let behind : List ℕ → List ℕ = λ text. text ++ space ∷ word in
     let whole : List ℕ → List ℕ = λ text. start ++ text in
-    more ∙ ap behind h ∙ append_assoc start (spaced words) (32 ∷ word) ∙ ap whole (sym one)
+    more ∙ ap behind h ∙ append_assoc start (spaced words) (space ∷ word) ∙ ap whole (sym one)
 
 pub no-words : (start : List ℕ) → start ≡ start ++ spaced []
 no-words start = sym (append-nil start)
 
 -- The words of a line are the first one and those behind it.
-join-spaced : (first : List ℕ) (words : List (List ℕ)) → join_with_byte 32 (first ∷ words) ≡ first ++ spaced words
+join-spaced : (first : List ℕ) (words : List (List ℕ)) → join_with_byte space (first ∷ words) ≡ first ++ spaced words
 join-spaced first [] = sym (append-nil first)
-join-spaced first (word ∷ words) = ap (λ rest. first ++ 32 ∷ rest) (join-spaced word words)
+join-spaced first (word ∷ words) = ap (λ rest. first ++ space ∷ rest) (join-spaced word words)
 
-pub join-more : (first : List ℕ) (xs ys : List (List ℕ)) → join_with_byte 32 (first ∷ (xs ++ ys)) ≡ join_with_byte 32 (first ∷ xs) ++ spaced ys
+pub join-more : (first : List ℕ) (xs ys : List (List ℕ)) → join_with_byte space (first ∷ (xs ++ ys)) ≡ join_with_byte space (first ∷ xs) ++ spaced ys
 join-more first xs ys =
     let behind : List ℕ → List ℕ = λ text. text ++ spaced ys in
     join-spaced first (xs ++ ys) ∙ ap (λ rest. first ++ rest) (spaced-append xs ys) ∙ sym (append_assoc first (spaced xs) (spaced ys)) ∙ ap behind (sym (join-spaced first xs))
 
 -- Words were written behind a line.
-pub line-more : (start line next first : List ℕ) (xs ys : List (List ℕ)) → line ≡ start ++ join_with_byte 32 (first ∷ xs) → next ≡ line ++ spaced ys → next ≡ start ++ join_with_byte 32 (first ∷ (xs ++ ys))
+pub line-more : (start line next first : List ℕ) (xs ys : List (List ℕ)) → line ≡ start ++ join_with_byte space (first ∷ xs) → next ≡ line ++ spaced ys → next ≡ start ++ join_with_byte space (first ∷ (xs ++ ys))
 line-more start line next first xs ys h more =
     let behind : List ℕ → List ℕ = λ text. text ++ spaced ys in
     let whole : List ℕ → List ℕ = λ text. start ++ text in
-    more ∙ ap behind h ∙ append_assoc start (join_with_byte 32 (first ∷ xs)) (spaced ys) ∙ ap whole (sym (join-more first xs ys))
+    more ∙ ap behind h ∙ append_assoc start (join_with_byte space (first ∷ xs)) (spaced ys) ∙ ap whole (sym (join-more first xs ys))
 
 -- ---- numbers
 
-number-push : (name : List ℕ) (numbers : List ℕ) (count : ℕ) → count < length numbers → join_with_byte 32 (number_words name (take (count + 1) numbers)) ≡ join_with_byte 32 (number_words name (take count numbers)) ++ 32 ∷ number_text (get_or numbers count 0)
+number-push : (name : List ℕ) (numbers : List ℕ) (count : ℕ) → count < length numbers → join_with_byte space (number_words name (take (count + 1) numbers)) ≡ join_with_byte space (number_words name (take count numbers)) ++ space ∷ number_text (get_or numbers count 0)
 number-push name numbers count within =
     let more : map number_text (take (count + 1) numbers) ≡ map number_text (take count numbers) ++ number_text (get_or numbers count 0) ∷ [] =
     ap (map number_text) (take_more numbers count 0 within) ∙ map-append number_text (take count numbers) (get_or numbers count 0 ∷ []) in
-    ap (λ words. join_with_byte 32 (name ∷ words)) more ∙ join-push 32 name (map number_text (take count numbers)) (number_text (get_or numbers count 0))
+    ap (λ words. join_with_byte space (name ∷ words)) more ∙ join-push space name (map number_text (take count numbers)) (number_text (get_or numbers count 0))
 
-pub number-more : (start line spaced next name : List ℕ) (numbers : List ℕ) (count : ℕ) → count < length numbers → line ≡ start ++ join_with_byte 32 (number_words name (take count numbers)) → spaced ≡ line ++ 32 ∷ [] → next ≡ spaced ++ number_text (get_or numbers count 0) → next ≡ start ++ join_with_byte 32 (number_words name (take (count + 1) numbers))
-number-more start line spaced next name numbers count within h space more =
+pub number-more : (start line spaced next name : List ℕ) (numbers : List ℕ) (count : ℕ) → count < length numbers → line ≡ start ++ join_with_byte space (number_words name (take count numbers)) → spaced ≡ line ++ space ∷ [] → next ≡ spaced ++ number_text (get_or numbers count 0) → next ≡ start ++ join_with_byte space (number_words name (take (count + 1) numbers))
+number-more start line spaced next name numbers count within h gap more =
     let text = number_text (get_or numbers count 0) in
-    let words = join_with_byte 32 (number_words name (take count numbers)) in
+    let words = join_with_byte space (number_words name (take count numbers)) in
     let behind : List ℕ → List ℕ = λ before. before ++ text in
-    let between : List ℕ → List ℕ = λ before. before ++ 32 ∷ [] in
+    let between : List ℕ → List ℕ = λ before. before ++ space ∷ [] in
     let whole : List ℕ → List ℕ = λ after. start ++ after in
-    more ∙ ap behind (space ∙ ap between h) ∙ append_assoc (start ++ words) (32 ∷ []) text ∙ append_assoc start words (32 ∷ text) ∙ ap whole (sym (number-push name numbers count within))
+    more ∙ ap behind (gap ∙ ap between h) ∙ append_assoc (start ++ words) (space ∷ []) text ∙ append_assoc start words (space ∷ text) ∙ ap whole (sym (number-push name numbers count within))
 
-pub number-all : (start line name : List ℕ) (numbers : List ℕ) (count : ℕ) → length numbers ≤ count → line ≡ start ++ join_with_byte 32 (number_words name (take count numbers)) → line ≡ start ++ join_with_byte 32 (number_words name numbers)
-number-all start line name numbers count all h = h ∙ ap (λ ns. start ++ join_with_byte 32 (number_words name ns)) (take_all count numbers all)
+pub number-all : (start line name : List ℕ) (numbers : List ℕ) (count : ℕ) → length numbers ≤ count → line ≡ start ++ join_with_byte space (number_words name (take count numbers)) → line ≡ start ++ join_with_byte space (number_words name numbers)
+number-all start line name numbers count all h = h ∙ ap (λ ns. start ++ join_with_byte space (number_words name ns)) (take_all count numbers all)
 
 -- ---- rules
 
-pub rule-more : (start line next : List ℕ) (rules : List Rule) (rule : Rule) (count : ℕ) → count < length rules → rule ≡ get_or rules count rule → line ≡ start ++ spaced (map rule_text (take count rules)) → next ≡ line ++ 32 ∷ rule_text rule → next ≡ start ++ spaced (map rule_text (take (count + 1) rules))
+pub rule-more : (start line next : List ℕ) (rules : List Rule) (rule : Rule) (count : ℕ) → count < length rules → rule ≡ get_or rules count rule → line ≡ start ++ spaced (map rule_text (take count rules)) → next ≡ line ++ space ∷ rule_text rule → next ≡ start ++ spaced (map rule_text (take (count + 1) rules))
 rule-more start line next rules rule count within is h more =
     let item : map rule_text (take (count + 1) rules) ≡ map rule_text (take count rules) ++ rule_text rule ∷ [] =
     ap (map rule_text) (take_more rules count rule within ∙ ap (λ r. take count rules ++ r ∷ []) (sym is)) ∙ map-append rule_text (take count rules) (rule ∷ []) in
@@ -90,7 +90,7 @@ pub word-all : (start line : List ℕ) (rules : List Rule) (count : ℕ) → len
 word-all start line rules count all h = h ∙ ap (λ rs. start ++ spaced (map rule_text rs)) (take_all count rules all)
 
 -- Words were written behind a line, where there was memory.
-pub ok-line : {T E : Type 0} (r : Result T E) (start line next first : List ℕ) (xs ys : List (List ℕ)) → line ≡ start ++ join_with_byte 32 (first ∷ xs) → OnOk r (next ≡ line ++ spaced ys) → OnOk r (next ≡ start ++ join_with_byte 32 (first ∷ (xs ++ ys)))
+pub ok-line : {T E : Type 0} (r : Result T E) (start line next first : List ℕ) (xs ys : List (List ℕ)) → line ≡ start ++ join_with_byte space (first ∷ xs) → OnOk r (next ≡ line ++ spaced ys) → OnOk r (next ≡ start ++ join_with_byte space (first ∷ (xs ++ ys)))
 ok-line (Ok x) start line next first xs ys h more = line-more start line next first xs ys h more
 ok-line (Err e) start line next first xs ys h more = tt
 

@@ -11,16 +11,20 @@ use Rattle.ep_defs.specs.declared.session.Write.{Write}
 use Rattle.ep_defs.specs.Event.{is_same_text}
 use Rattle.ep_model.specs.declared.step.Step.{Step}
 use Rattle.ep_model.specs.declared.step.Step.TheVariants as step
+use Rattle.ep_defs.specs.declared.limits.TheConstants.{RULES}
+use Rattle.ep_plan.specs.declared.limits.TheConstants.{LINE_BYTES}
 use Rattle.ep_plan.specs.declared.line.Line.TheVariants as line
+use Rattle.ep_plan.specs.declared.verb.Verb.{Verb}
+use Rattle.ep_plan.specs.declared.verb.Verb.TheVariants as verb
 use Rattle.ep_plan.specs.declared.line.LineKind.TheVariants as kind
-use Rattle.ep_plan.specs.Words.{words_of, is_name, rule_in, all_in, with_first, number_text, id_text, frames_text, payload_text, rule_text}
-use Rattle.ep_plan.specs.Lines.{Part, Number, Flag, Stamp, Id, Frames, Payload, Rule, Form, form, accept_form, accept3_form, begin_parts, unless, number_of, flag_of, stamp_of, write_of, first_bad, fault_of, spelling_fault, form_bad, step_bad, is_blank, Spells, Means, IsLine}
+use Rattle.ep_plan.specs.Words.{space, words_of, is_name, rule_in, all_in, with_first, number_text, id_text, frames_text, payload_text, rule_text}
+use Rattle.ep_plan.specs.Lines.{more_than_one, Part, Number, Flag, Stamp, Id, Frames, Payload, Rule, form_of, verb_in, unless, number_of, flag_of, stamp_of, write_of, first_bad, fault_of, spelling_fault, form_bad, step_bad, is_blank, Spells, Means, IsLine}
 use Rattle.ep_plan.specs.Printing.{step_words, step_text, can_print, has_rules, has_parts, RuleFits, WriteFits, StepFits}
 use Rattle.ep_plan.proofs.Lacks.{lacks, all_lack}
 use Rattle.ep_plan.proofs.NumberTexts.{number_in-number_text}
 use Rattle.ep_plan.proofs.ReadBack.{id_in-id_text, payload_in-payload_text, frames_in-frames_text, rule_in-rule_text}
 use Rattle.ep_plan.proofs.WordTexts.{IsWord, IsWord-number_text, IsWord-id_text, IsWord-payload_text, IsWord-frames_text, IsWord-rule_text, words_of-join}
-use Rattle.ep_plan.proofs.Forms.{form_named, write-is}
+use Rattle.ep_plan.proofs.Forms.{write-is}
 use Rattle.ep_plan.proofs.WholeLines.{worded, step-first}
 
 -- ---- words that are good
@@ -49,19 +53,19 @@ good-as part (byte ∷ word) is h = h
 
 -- ---- a line of words
 
-line-of : (events : List EventDef) (stepped : Bool) (made : Step) (first : List ℕ) (words : List (List ℕ)) (its : Form) → IsTrue (can_print made) → step_words made ≡ first ∷ words → all_lack 32 (first ∷ words) ≡ true → is_blank (step_text made) ≡ false → is_same_text first (codes "event") ≡ false → form_named first ≡ Some its → AreGood its.parts its.more_rules words → Spells (first ∷ words) made → IsLine events stepped (step_text made) (line.Step made)
+line-of : (events : List EventDef) (stepped : Bool) (made : Step) (first : List ℕ) (words : List (List ℕ)) (verb : Verb) → IsTrue (can_print made) → step_words made ≡ first ∷ words → all_lack space (first ∷ words) ≡ true → is_blank (step_text made) ≡ false → is_same_text first (codes "event") ≡ false → verb_in first ≡ Some verb → AreGood (form_of verb).parts (form_of verb).more_rules words → Spells (first ∷ words) made → IsLine events stepped (step_text made) (line.Step made)
 unfolding can_print Means step_bad
-line-of events stepped made first words its can is lack other name named good spells =
+line-of events stepped made first words verb can is lack other name named good spells =
     let text = step_text made in
-    let short = (and_parts (has_parts made) (nat_le (length text) 262144) can).1 in
-    let few : length text ≤ 262144 = grind (arith, nat_tests) in
-    let cut : words_of text ≡ first ∷ words = ap (λ ws. words_of (join_with_byte 32 ws)) is ∙ words_of-join first words lack in
+    let short = (and_parts (has_parts made) (nat_le (length text) LINE_BYTES) can).1 in
+    let few : length text ≤ LINE_BYTES = grind (arith, nat_tests) in
+    let cut : words_of text ≡ first ∷ words = ap (λ ws. words_of (join_with_byte space ws)) is ∙ words_of-join first words lack in
     let spell : List (List ℕ) → Type 0 = λ ws. Spells ws made in
     record {
       good = worded events stepped text (first ∷ words) few other cut
           ∙ step-first events stepped (length text + 1) first words name
-          ∙ ap (form_bad (length text + 1) (length first + 2) words) named
-          ∙ none-bad (length text + 1) (length first + 2) its.parts its.more_rules words good;
+          ∙ ap (λ v. form_bad (length text + 1) (length first + 2) words (option_map form_of v)) named
+          ∙ none-bad (length text + 1) (length first + 2) (form_of verb).parts (form_of verb).more_rules words good;
       meaning = (other, subst spell (sym cut) spells);
     }
 
@@ -82,14 +86,14 @@ reads-stamp stamp small = number_in-number_text (2 ^ 64 - 1) stamp (omega arith)
 good-stamp : (stamp : ℕ) → stamp < 2 ^ 64 → fault_of Stamp (number_text stamp) ≡ None
 good-stamp stamp small = good-as Stamp (number_text stamp) (IsWord-number_text stamp small) (ap (λ o. unless o kind.Number) (reads-stamp stamp small))
 
-lack-one : (a : List ℕ) → IsWord a → all_lack 32 (a ∷ []) ≡ true
-lack-one a is = and_from (lacks 32 a) true is.no_space refl
+lack-one : (a : List ℕ) → IsWord a → all_lack space (a ∷ []) ≡ true
+lack-one a is = and_from (lacks space a) true is.no_space refl
 
-lack-more : (a : List ℕ) (words : List (List ℕ)) → IsWord a → all_lack 32 words ≡ true → all_lack 32 (a ∷ words) ≡ true
-lack-more a words is rest = and_from (lacks 32 a) (all_lack 32 words) is.no_space rest
+lack-more : (a : List ℕ) (words : List (List ℕ)) → IsWord a → all_lack space words ≡ true → all_lack space (a ∷ words) ≡ true
+lack-more a words is rest = and_from (lacks space a) (all_lack space words) is.no_space rest
 
 -- A line of two numbers.
-lack-two : (a b : List ℕ) → IsWord a → IsWord b → all_lack 32 (a ∷ b ∷ []) ≡ true
+lack-two : (a b : List ℕ) → IsWord a → IsWord b → all_lack space (a ∷ b ∷ []) ≡ true
 lack-two a b is also = lack-more a (b ∷ []) is (lack-one b also)
 
 -- ---- rules
@@ -104,7 +108,7 @@ rules-good (rule ∷ rules) (suc more) few names fits =
     let parts = and_parts (is_name rule.name) (list_all (λ rule. is_name rule.name) rules) names in
     (rule-good rule parts.0 fits.0, rules-good rules more (omega arith) parts.1 fits.1)
 
-rules-lack : (rules : List RuleValue) → list_all (λ rule. is_name rule.name) rules ≡ true → AllByRecursion RuleFits rules → all_lack 32 (map rule_text rules) ≡ true
+rules-lack : (rules : List RuleValue) → list_all (λ rule. is_name rule.name) rules ≡ true → AllByRecursion RuleFits rules → all_lack space (map rule_text rules) ≡ true
 rules-lack [] names fits = refl
 rules-lack (rule ∷ rules) names fits =
     let parts = and_parts (is_name rule.name) (list_all (λ rule. is_name rule.name) rules) names in
@@ -118,16 +122,16 @@ rules-read (rule ∷ rules) names fits =
     ap (λ first. with_first first (all_in rule_in (map rule_text rules))) (rule_in-rule_text rule parts.0 fits.0.0 fits.0.1) ∙ ap (with_first (Some rule)) rest
 
 -- 1 to 1,000 rules.
-accept-good : (rules : List RuleValue) → is_in_range 1 1000 (length rules) ≡ true → list_all (λ rule. is_name rule.name) rules ≡ true → AllByRecursion RuleFits rules → AreGood (Rule ∷ []) 999 (map rule_text rules)
+accept-good : (rules : List RuleValue) → is_in_range 1 RULES (length rules) ≡ true → list_all (λ rule. is_name rule.name) rules ≡ true → AllByRecursion RuleFits rules → AreGood (Rule ∷ []) more_than_one (map rule_text rules)
 accept-good [] count names fits = cc
 accept-good (rule ∷ rules) count names fits =
     let parts = and_parts (is_name rule.name) (list_all (λ rule. is_name rule.name) rules) names in
-    let few : length (rule ∷ rules) ≤ 1000 = grind (arith, nat_tests) in
-    (rule-good rule parts.0 fits.0, rules-good rules 999 (omega arith) parts.1 fits.1)
+    let few : length (rule ∷ rules) ≤ RULES = grind (arith, nat_tests) in
+    (rule-good rule parts.0 fits.0, rules-good rules more_than_one (omega arith) parts.1 fits.1)
 
 -- ---- writes
 
-write-lack : (write : Write) → WriteFits write → all_lack 32 (number_text write.event ∷ id_text write.activity ∷ id_text write.related ∷ frames_text write.frames ∷ payload_text write.payload ∷ []) ≡ true
+write-lack : (write : Write) → WriteFits write → all_lack space (number_text write.event ∷ id_text write.activity ∷ id_text write.related ∷ frames_text write.frames ∷ payload_text write.payload ∷ []) ≡ true
 write-lack write fits =
     lack-more (number_text write.event) (id_text write.activity ∷ id_text write.related ∷ frames_text write.frames ∷ payload_text write.payload ∷ []) (is-word write.event fits.event)
     (lack-more (id_text write.activity) (id_text write.related ∷ frames_text write.frames ∷ payload_text write.payload ∷ []) (IsWord-id_text write.activity fits.activity_length fits.activity)
@@ -162,20 +166,20 @@ words_of_three session config = number_text session ∷ number_text config.chunk
 accept-again : (events : List EventDef) (stepped : Bool) (session : ℕ) (config : Config) → StepFits (step.Accept session config) → IsTrue (can_print (step.Accept session config)) → has_rules config.rules ≡ true → config.rundown ≡ false → (stackwalk : Bool) → config.stackwalk ≡ stackwalk → IsLine events stepped (step_text (step.Accept session config)) (line.Step (step.Accept session config))
 unfolding Spells
 accept-again events stepped session config fits can has none true walks =
-    let rules = and_parts (is_in_range 1 1000 (length config.rules)) (list_all (λ rule. is_name rule.name) config.rules) has in
+    let rules = and_parts (is_in_range 1 RULES (length config.rules)) (list_all (λ rule. is_name rule.name) config.rules) has in
     let words = number_text session ∷ number_text config.chunks ∷ map rule_text config.rules in
-    let text = ap (λ b. join_with_byte 32 (cond b (codes "accept" ∷ words) (codes "accept3" ∷ words_of_three session config))) walks in
-    line-of events stepped (step.Accept session config) (codes "accept") words accept_form can (rw walks refl)
+    let text = ap (λ b. join_with_byte space (cond b (codes "accept" ∷ words) (codes "accept3" ∷ words_of_three session config))) walks in
+    line-of events stepped (step.Accept session config) (codes "accept") words verb.Accept can (rw walks refl)
     (lack-more (number_text session) (number_text config.chunks ∷ map rule_text config.rules) (is-word session fits.0) (lack-more (number_text config.chunks) (map rule_text config.rules) (is-word config.chunks fits.1) (rules-lack config.rules rules.1 fits.2)))
     (ap is_blank text) refl refl
     (good-number session fits.0, (good-number config.chunks fits.1, accept-good config.rules rules.0 rules.1 fits.2))
     (number_text session, number_text config.chunks, map rule_text config.rules, inl (refl, walks), reads session fits.0, reads config.chunks fits.1, rules-read config.rules rules.1 fits.2, none)
 accept-again events stepped session config fits can has none false walks =
-    let rules = and_parts (is_in_range 1 1000 (length config.rules)) (list_all (λ rule. is_name rule.name) config.rules) has in
+    let rules = and_parts (is_in_range 1 RULES (length config.rules)) (list_all (λ rule. is_name rule.name) config.rules) has in
     let words = number_text session ∷ number_text config.chunks ∷ map rule_text config.rules in
-    let text = ap (λ b. join_with_byte 32 (cond b (codes "accept" ∷ words) (codes "accept3" ∷ words_of_three session config))) walks in
+    let text = ap (λ b. join_with_byte space (cond b (codes "accept" ∷ words) (codes "accept3" ∷ words_of_three session config))) walks in
     let flag : flag_of (number_text 0) ≡ Some false = ap (option_map (λ n. n == 1)) (number_in-number_text 1 0 (omega arith) (omega arith)) in
-    line-of events stepped (step.Accept session config) (codes "accept3") (words_of_three session config) accept3_form can (rw walks refl)
+    line-of events stepped (step.Accept session config) (codes "accept3") (words_of_three session config) verb.Accept3 can (rw walks refl)
     (lack-more (number_text session) (number_text config.chunks ∷ number_text 0 ∷ map rule_text config.rules) (is-word session fits.0) (lack-more (number_text config.chunks) (number_text 0 ∷ map rule_text config.rules) (is-word config.chunks fits.1) (lack-more (number_text 0) (map rule_text config.rules) (is-word 0 (omega arith)) (rules-lack config.rules rules.1 fits.2))))
     (ap is_blank text) refl refl
     (good-number session fits.0, (good-number config.chunks fits.1, (good-as Flag (number_text 0) (is-word 0 (omega arith)) (ap (λ o. unless o kind.Number) flag), accept-good config.rules rules.0 rules.1 fits.2)))
@@ -184,67 +188,67 @@ accept-again events stepped session config fits can has none false walks =
 pub read-again : (events : List EventDef) (stepped : Bool) (made : Step) → StepFits made → IsTrue (can_print made) → IsLine events stepped (step_text made) (line.Step made)
 unfolding Spells can_print
 read-again events stepped (step.Accept session config) fits can =
-    let parts = and_parts (has_parts (step.Accept session config)) (nat_le (length (step_text (step.Accept session config))) 262144) can in
+    let parts = and_parts (has_parts (step.Accept session config)) (nat_le (length (step_text (step.Accept session config))) LINE_BYTES) can in
     let whole = and_parts (has_rules config.rules) (not config.rundown) parts.0 in
     accept-again events stepped session config fits can whole.0 (not-true config.rundown whole.1) config.stackwalk refl
 read-again events stepped (step.Enter thread) fits can =
-    line-of events stepped (step.Enter thread) (codes "enter") (number_text thread ∷ []) (form (codes "enter") (Number ∷ [])) can refl
+    line-of events stepped (step.Enter thread) (codes "enter") (number_text thread ∷ []) verb.Enter can refl
     (lack-one _ (is-word thread fits)) refl refl refl
     (good-number thread fits, tt)
     (number_text thread, refl, reads thread fits)
 read-again events stepped (step.Leave thread) fits can =
-    line-of events stepped (step.Leave thread) (codes "leave") (number_text thread ∷ []) (form (codes "leave") (Number ∷ [])) can refl
+    line-of events stepped (step.Leave thread) (codes "leave") (number_text thread ∷ []) verb.Leave can refl
     (lack-one _ (is-word thread fits)) refl refl refl
     (good-number thread fits, tt)
     (number_text thread, refl, reads thread fits)
 read-again events stepped (step.Open session thread) fits can =
-    line-of events stepped (step.Open session thread) (codes "open") (number_text session ∷ number_text thread ∷ []) (form (codes "open") (Number ∷ Number ∷ [])) can refl
+    line-of events stepped (step.Open session thread) (codes "open") (number_text session ∷ number_text thread ∷ []) verb.Open can refl
     (lack-two _ _ (is-word session fits.0) (is-word thread fits.1)) refl refl refl
     (good-number session fits.0, (good-number thread fits.1, tt))
     (number_text session, number_text thread, refl, reads session fits.0, reads thread fits.1)
 read-again events stepped (step.Begin thread stamp write) fits can =
     let rest = number_text write.event ∷ id_text write.activity ∷ id_text write.related ∷ frames_text write.frames ∷ payload_text write.payload ∷ [] in
-    line-of events stepped (step.Begin thread stamp write) (codes "begin") (number_text thread ∷ number_text stamp ∷ rest) (form (codes "begin") begin_parts) can refl
+    line-of events stepped (step.Begin thread stamp write) (codes "begin") (number_text thread ∷ number_text stamp ∷ rest) verb.Begin can refl
     (lack-more (number_text thread) (number_text stamp ∷ rest) (is-word thread fits.0) (lack-more (number_text stamp) rest (IsWord-number_text stamp fits.1) (write-lack write fits.2)))
     refl refl refl
     (good-number thread fits.0, (good-stamp stamp fits.1, write-good write fits.2))
     (number_text thread, number_text stamp, rest, refl, reads thread fits.0, reads-stamp stamp fits.1, write-read write fits.2)
 read-again events stepped (step.Show thread session) fits can =
-    line-of events stepped (step.Show thread session) (codes "show") (number_text thread ∷ number_text session ∷ []) (form (codes "show") (Number ∷ Number ∷ [])) can refl
+    line-of events stepped (step.Show thread session) (codes "show") (number_text thread ∷ number_text session ∷ []) verb.Show can refl
     (lack-two _ _ (is-word thread fits.0) (is-word session fits.1)) refl refl refl
     (good-number thread fits.0, (good-number session fits.1, tt))
     (number_text thread, number_text session, refl, reads thread fits.0, reads session fits.1)
 read-again events stepped (step.End thread) fits can =
-    line-of events stepped (step.End thread) (codes "end") (number_text thread ∷ []) (form (codes "end") (Number ∷ [])) can refl
+    line-of events stepped (step.End thread) (codes "end") (number_text thread ∷ []) verb.End can refl
     (lack-one _ (is-word thread fits)) refl refl refl
     (good-number thread fits, tt)
     (number_text thread, refl, reads thread fits)
 read-again events stepped (step.Steal session thread) fits can =
-    line-of events stepped (step.Steal session thread) (codes "steal") (number_text session ∷ number_text thread ∷ []) (form (codes "steal") (Number ∷ Number ∷ [])) can refl
+    line-of events stepped (step.Steal session thread) (codes "steal") (number_text session ∷ number_text thread ∷ []) verb.Steal can refl
     (lack-two _ _ (is-word session fits.0) (is-word thread fits.1)) refl refl refl
     (good-number session fits.0, (good-number thread fits.1, tt))
     (number_text session, number_text thread, refl, reads session fits.0, reads thread fits.1)
 read-again events stepped (step.Give session) fits can =
-    line-of events stepped (step.Give session) (codes "give") (number_text session ∷ []) (form (codes "give") (Number ∷ [])) can refl
+    line-of events stepped (step.Give session) (codes "give") (number_text session ∷ []) verb.Give can refl
     (lack-one _ (is-word session fits)) refl refl refl
     (good-number session fits, tt)
     (number_text session, refl, reads session fits)
 read-again events stepped (step.Point session stamp) fits can =
-    line-of events stepped (step.Point session stamp) (codes "point") (number_text session ∷ number_text stamp ∷ []) (form (codes "point") (Number ∷ Stamp ∷ [])) can refl
+    line-of events stepped (step.Point session stamp) (codes "point") (number_text session ∷ number_text stamp ∷ []) verb.Point can refl
     (lack-two _ _ (is-word session fits.0) (IsWord-number_text stamp fits.1)) refl refl refl
     (good-number session fits.0, (good-stamp stamp fits.1, tt))
     (number_text session, number_text stamp, refl, reads session fits.0, reads-stamp stamp fits.1)
 read-again events stepped (step.Close session thread) fits can =
-    line-of events stepped (step.Close session thread) (codes "close") (number_text session ∷ number_text thread ∷ []) (form (codes "close") (Number ∷ Number ∷ [])) can refl
+    line-of events stepped (step.Close session thread) (codes "close") (number_text session ∷ number_text thread ∷ []) verb.Close can refl
     (lack-two _ _ (is-word session fits.0) (is-word thread fits.1)) refl refl refl
     (good-number session fits.0, (good-number thread fits.1, tt))
     (number_text session, number_text thread, refl, reads session fits.0, reads thread fits.1)
 read-again events stepped (step.Finish session stamp) fits can =
-    line-of events stepped (step.Finish session stamp) (codes "finish") (number_text session ∷ number_text stamp ∷ []) (form (codes "finish") (Number ∷ Stamp ∷ [])) can refl
+    line-of events stepped (step.Finish session stamp) (codes "finish") (number_text session ∷ number_text stamp ∷ []) verb.Finish can refl
     (lack-two _ _ (is-word session fits.0) (IsWord-number_text stamp fits.1)) refl refl refl
     (good-number session fits.0, (good-stamp stamp fits.1, tt))
     (number_text session, number_text stamp, refl, reads session fits.0, reads-stamp stamp fits.1)
 
 pub can-parts : (made : Step) → IsTrue (can_print made) → IsTrue (has_parts made)
 unfolding can_print
-can-parts made can = (and_parts (has_parts made) (nat_le (length (step_text made)) 262144) can).0
+can-parts made can = (and_parts (has_parts made) (nat_le (length (step_text made)) LINE_BYTES) can).0

@@ -9,7 +9,7 @@ use Rattle.std.proofs.lemmas.List.Sums.{list_all-from_AllPass}
 use Rattle.hex.specs.Hex.{IsBytes, decode_of, decode_sized, encode_lower, encode_with, is_hex_digit}
 use Rattle.hex.proofs.HexLemmas.{decode_of-encode_lower, decode_of-ok, decode_sized-encode_lower}
 use Rattle.ep_defs.specs.declared.session.Rule.{Rule}
-use Rattle.ep_plan.specs.Words.{dash_or, is_name, is_name_byte, all_in, with_first, provider_in, hex_in, number_in, id_in, payload_in, frames_in, rule_in, rule_of, rule_of_parts, id_text, payload_text, frames_text, rule_text, hex_text, number_text, parts_at}
+use Rattle.ep_plan.specs.Words.{colon, comma, dash_or, is_name, is_name_byte, all_in, with_first, provider_in, hex_in, number_in, id_in, payload_in, frames_in, rule_in, rule_of, rule_of_parts, id_text, payload_text, frames_text, rule_text, hex_text, number_text, parts_at}
 use Rattle.ep_plan.proofs.Lacks.{lacks, all_lack, list_all-weaker, lacks-join, parts_at-join, not-dash}
 use Rattle.ep_plan.proofs.NumberTexts.{number_in-number_text, hex_in-hex_text, hex_text-lacks, number_text-lacks}
 
@@ -106,10 +106,10 @@ pub frames_in-frames_text : (frames : List ℕ) → AreBelow (2 ^ 64) frames →
 unfolding frames_in frames_text
 frames_in-frames_text [] small = refl
 frames_in-frames_text (frame ∷ frames) small =
-    let text : List ℕ = join_with_byte 44 (map hex_text (frame ∷ frames)) in
-    let no_dash = lacks-join 45 44 (map hex_text (frame ∷ frames)) refl (hex_texts-lack 45 (frame ∷ frames) (omega arith) small) in
-    cond-false (pointwise nat_eq text (45 ∷ [])) (Some []) (all_in hex_in (parts_at 44 text)) (not-dash text no_dash)
-    ∙ ap (all_in hex_in) (parts_at-join 44 (hex_text frame) (map hex_text frames) (hex_texts-lack 44 (frame ∷ frames) (omega arith) small))
+    let text : List ℕ = join_with_byte comma (map hex_text (frame ∷ frames)) in
+    let no_dash = lacks-join 45 comma (map hex_text (frame ∷ frames)) refl (hex_texts-lack 45 (frame ∷ frames) (omega arith) small) in
+    cond-false (pointwise nat_eq text (45 ∷ [])) (Some []) (all_in hex_in (parts_at comma text)) (not-dash text no_dash)
+    ∙ ap (all_in hex_in) (parts_at-join comma (hex_text frame) (map hex_text frames) (hex_texts-lack comma (frame ∷ frames) (omega arith) small))
     ∙ hex_texts-read (frame ∷ frames) small
 
 -- ---- rules
@@ -119,11 +119,11 @@ unfolding rule_in rule_text
 rule_in-rule_text rule good keywords_fit level_fits =
     let keywords : List ℕ = hex_text rule.keywords in
     let level : List ℕ = number_text rule.level in
-    let lack : all_lack 58 (rule.name ∷ keywords ∷ level ∷ []) ≡ true =
-    and_from (lacks 58 rule.name) (all_lack 58 (keywords ∷ level ∷ [])) (name-lacks 58 rule.name refl good)
-    (and_from (lacks 58 keywords) (all_lack 58 (level ∷ [])) (hex_text-lacks 58 rule.keywords (omega arith) keywords_fit)
-    (and_from (lacks 58 level) true (number_text-lacks 58 rule.level (omega arith) (omega arith)) refl)) in
-    ap rule_of_parts (parts_at-join 58 rule.name (keywords ∷ level ∷ []) lack)
+    let lack : all_lack colon (rule.name ∷ keywords ∷ level ∷ []) ≡ true =
+    and_from (lacks colon rule.name) (all_lack colon (keywords ∷ level ∷ [])) (name-lacks colon rule.name refl good)
+    (and_from (lacks colon keywords) (all_lack colon (level ∷ [])) (hex_text-lacks colon rule.keywords (omega arith) keywords_fit)
+    (and_from (lacks colon level) true (number_text-lacks colon rule.level (omega arith) (omega arith)) refl)) in
+    ap rule_of_parts (parts_at-join colon rule.name (keywords ∷ level ∷ []) lack)
     ∙ ap (λ (n : Option (List ℕ)). rule_of n (hex_in keywords) (number_in (2 ^ 32 - 1) level)) (provider_in-name rule.name good)
     ∙ ap (λ (k : Option ℕ). rule_of (Some rule.name) k (number_in (2 ^ 32 - 1) level)) (hex_in-hex_text rule.keywords keywords_fit)
     ∙ ap (rule_of (Some rule.name) (Some rule.keywords)) (number_in-number_text (2 ^ 32 - 1) rule.level (omega arith) (omega arith))

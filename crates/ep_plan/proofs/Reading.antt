@@ -3,7 +3,8 @@ use Rattle.std.proofs.Common.{◌≡◌, ◌≢◌, ◌==◌, ℕ, ◌+◌, ◌-
 use Rattle.std.proofs.lemmas.Bool.{eqb-true}
 use Rattle.std.proofs.lemmas.Bool.Decides.{nat_tests}
 use Rattle.std.proofs.lemmas.List.Splits.{length-slice_split}
-use Rattle.ep_plan.specs.Words.{parts_at, parts_behind, number_in, numeral_in, at_most}
+use Rattle.ep_defs.specs.declared.limits.TheConstants.{EVENTS}
+use Rattle.ep_plan.specs.Words.{space, parts_at, parts_behind}
 use Rattle.ep_plan.specs.declared.line.LineFault.{LineFault}
 use Rattle.ep_plan.specs.declared.line.LineFault.TheVariants.{Bad as Refused, OutOfMemory}
 use Rattle.std.specs.Bool.{OnTrue, OnFalse}
@@ -58,7 +59,7 @@ is-bad part old new word fault first found took h told begins at column why e =
 -- Nothing is left of a line.
 over : (cursor : Cursor) → cursor.rest ≡ None → left cursor ≡ []
 unfolding left
-over cursor h = ap (λ rest. parts_behind 32 (option_copied rest)) h
+over cursor h = ap (λ rest. parts_behind space (option_copied rest)) h
 
 column-over : (cursor : Cursor) → cursor.rest ≡ None → column_of cursor ≡ cursor.past
 column-over cursor h = ap (λ rest. cursor.past - length (unwrap_or (option_copied rest) [])) h ∙ omega arith
@@ -78,9 +79,9 @@ is-missing part old fault first none told begins at column why e =
     record { line_is = line; bad = λ parts more. ap (first_bad old.past (column_of old) (part ∷ parts) more) (over old none) ∙ missing old.past (column_of old) part parts more ∙ ap Some answer }
 
 -- The words left begin with an empty one.
-begins-with : (cursor : Cursor) (text : Bor (List ℕ)) (word : List ℕ) (words : List (List ℕ)) → cursor.rest ≡ Some text → parts_at 32 text.now ≡ word ∷ words → left cursor ≡ word ∷ words
+begins-with : (cursor : Cursor) (text : Bor (List ℕ)) (word : List ℕ) (words : List (List ℕ)) → cursor.rest ≡ Some text → parts_at space text.now ≡ word ∷ words → left cursor ≡ word ∷ words
 unfolding left
-begins-with cursor text word words h parts = ap (λ rest. parts_behind 32 (option_copied rest)) h ∙ parts
+begins-with cursor text word words h parts = ap (λ rest. parts_behind space (option_copied rest)) h ∙ parts
 
 no-length : (word : List ℕ) → (length word == 0) ≡ true → word ≡ []
 no-length [] h = refl
@@ -90,7 +91,7 @@ empty-word : (part : Part) → fault_of part [] ≡ Some kind.Word
 unfolding fault_of
 empty-word part = refl
 
-pub is-empty : {T : Type 0} (part : Part) (old : Cursor) (text : Bor (List ℕ)) (word : List ℕ) (words : List (List ℕ)) (fault : LineFault) (first : ℕ) → old.rest ≡ Some text → parts_at 32 text.now ≡ word ∷ words → (length word == 0) ≡ true → fault ≡ Refused old.line first kind.Word → first ≡ column_of old → (at column : ℕ) (why : LineKind) → ◌≡◌ {A = Result T LineFault} (Err fault) (Err (Refused at column why)) → IsBad part old at column why
+pub is-empty : {T : Type 0} (part : Part) (old : Cursor) (text : Bor (List ℕ)) (word : List ℕ) (words : List (List ℕ)) (fault : LineFault) (first : ℕ) → old.rest ≡ Some text → parts_at space text.now ≡ word ∷ words → (length word == 0) ≡ true → fault ≡ Refused old.line first kind.Word → first ≡ column_of old → (at column : ℕ) (why : LineKind) → ◌≡◌ {A = Result T LineFault} (Err fault) (Err (Refused at column why)) → IsBad part old at column why
 unfolding bad_left
 is-empty part old text word words fault first h cut none told begins at column why e =
     let same : ◌≡◌ {A = LineFault} (Refused old.line first kind.Word) (Refused at column why) = cc in
@@ -110,7 +111,7 @@ tells-word old fault first told begins at column why e =
 pub no-word_over : (old : Cursor) → old.rest ≡ None → has_word (left old) ≡ false
 no-word_over old none = ap has_word (over old none)
 
-pub no-word_empty : (old : Cursor) (text : Bor (List ℕ)) (word : List ℕ) (words : List (List ℕ)) → old.rest ≡ Some text → parts_at 32 text.now ≡ word ∷ words → (length word == 0) ≡ true → has_word (left old) ≡ false
+pub no-word_empty : (old : Cursor) (text : Bor (List ℕ)) (word : List ℕ) (words : List (List ℕ)) → old.rest ≡ Some text → parts_at space text.now ≡ word ∷ words → (length word == 0) ≡ true → has_word (left old) ≡ false
 no-word_empty old text word words h cut none =
     let first : List ℕ → Bool = λ w. has_word (w ∷ words) in
     ap has_word (begins-with old text word words h cut) ∙ ap first (no-length word none)
@@ -124,17 +125,17 @@ no-column past a b [] more = refl
 no-column past a b (part ∷ parts) more = refl
 
 -- The next word begins one byte after the last one.
-next-column : (past : ℕ) (text word : List ℕ) (rest : Option (Bor (List ℕ))) (parts : List Part) (more : ℕ) → IfSome rest (λ r. length word + 1 + length r.now ≡ length text) → length text < past → first_bad past (past - length text + length word + 1) parts more (parts_behind 32 (option_copied rest)) ≡ first_bad past (past - length (unwrap_or (option_copied rest) [])) parts more (parts_behind 32 (option_copied rest))
+next-column : (past : ℕ) (text word : List ℕ) (rest : Option (Bor (List ℕ))) (parts : List Part) (more : ℕ) → IfSome rest (λ r. length word + 1 + length r.now ≡ length text) → length text < past → first_bad past (past - length text + length word + 1) parts more (parts_behind space (option_copied rest)) ≡ first_bad past (past - length (unwrap_or (option_copied rest) [])) parts more (parts_behind space (option_copied rest))
 next-column past text word None parts more h within = no-column past _ _ parts more
 next-column past text word (Some r) parts more h within =
     let column : past - length text + length word + 1 ≡ past - length r.now = omega arith in
-    ap (λ c. first_bad past c parts more (parts_at 32 r.now)) column
+    ap (λ c. first_bad past c parts more (parts_at space r.now)) column
 
 some-length : (word : List ℕ) → (length word == 0) ≡ false → word ≢ []
 some-length [] h = cc
 some-length (byte ∷ word) h = λ e. cc
 
-pub took-word : (old new : Cursor) (text : Bor (List ℕ)) (word : List ℕ) → new.line ≡ old.line → new.past ≡ old.past → old.rest ≡ Some text → parts_at 32 text.now ≡ word ∷ parts_behind 32 (option_copied new.rest) → IfSome new.rest (λ rest. length word + 1 + length rest.now ≡ length text.now) → (length word == 0) ≡ false → TookWord old new word
+pub took-word : (old new : Cursor) (text : Bor (List ℕ)) (word : List ℕ) → new.line ≡ old.line → new.past ≡ old.past → old.rest ≡ Some text → parts_at space text.now ≡ word ∷ parts_behind space (option_copied new.rest) → IfSome new.rest (λ rest. length word + 1 + length rest.now ≡ length text.now) → (length word == 0) ≡ false → TookWord old new word
 unfolding left bad_left
 took-word old new text word line past h cut lengths some =
     let within : length text.now < old.past = old.in_range text h in
@@ -143,10 +144,10 @@ took-word old new text word line past h cut lengths some =
       line = line;
       past = past;
       some = some-length word some;
-      words = begins-with old text word (parts_behind 32 (option_copied new.rest)) h cut;
+      words = begins-with old text word (parts_behind space (option_copied new.rest)) h cut;
       begins = λ parts more.
-          let after : ℕ → Option _ = λ c. first_bad new.past (c + length word + 1) parts more (parts_behind 32 (option_copied new.rest)) in
-          let same : ℕ → Option _ = λ p. first_bad new.past (p - length text.now + length word + 1) parts more (parts_behind 32 (option_copied new.rest)) in
+          let after : ℕ → Option _ = λ c. first_bad new.past (c + length word + 1) parts more (parts_behind space (option_copied new.rest)) in
+          let same : ℕ → Option _ = λ p. first_bad new.past (p - length text.now + length word + 1) parts more (parts_behind space (option_copied new.rest)) in
           let within_new : length text.now < new.past = omega arith in
           ap after begins ∙ ap same (sym past) ∙ next-column new.past text.now word new.rest parts more lengths within_new;
     }
@@ -179,7 +180,7 @@ is-left_over cursor fault first some told begins at column why e =
 pub parts-some : (separator : ℕ) (text : List ℕ) → parts_at separator text ≢ []
 parts-some separator text e = absurd (omega (arith, length-slice_split (λ byte. byte == separator) text, ap length e))
 
-over-by_test : (rest : Option (Bor (List ℕ))) (b : Bool) → is_some rest ≡ not b → OnTrue b (parts_behind 32 (option_copied rest) ≡ [])
+over-by_test : (rest : Option (Bor (List ℕ))) (b : Bool) → is_some rest ≡ not b → OnTrue b (parts_behind space (option_copied rest) ≡ [])
 over-by_test None true h = refl
 over-by_test None false h = tt
 over-by_test (Some text) true h = cc
@@ -189,11 +190,11 @@ pub is-over : (cursor : Cursor) (b : Bool) → is_some cursor.rest ≡ not b →
 unfolding left
 is-over cursor b h = over-by_test cursor.rest b h
 
-more-by_test : (rest : Option (Bor (List ℕ))) (b : Bool) → is_some rest ≡ not b → OnFalse b (parts_behind 32 (option_copied rest) ≢ [])
+more-by_test : (rest : Option (Bor (List ℕ))) (b : Bool) → is_some rest ≡ not b → OnFalse b (parts_behind space (option_copied rest) ≢ [])
 more-by_test None true h = tt
 more-by_test None false h = cc
 more-by_test (Some text) true h = tt
-more-by_test (Some text) false h = parts-some 32 text.now
+more-by_test (Some text) false h = parts-some space text.now
 
 pub is-not-over : (cursor : Cursor) (b : Bool) → is_some cursor.rest ≡ not b → OnFalse b (left cursor ≢ [])
 unfolding left
@@ -205,43 +206,19 @@ is-not-over cursor b h = more-by_test cursor.rest b h
 pub through : {T U : Type 0} (r : Result T LineFault) (fault : LineFault) → (x : LineFault) × (r ≡ Err x) × (x ≡ fault) → (at column : ℕ) (why : LineKind) → r ≡ Err (Refused at column why) → ◌≡◌ {A = Result U LineFault} (Err fault) (Err (Refused at column why))
 through r fault p at column why e = cc
 
--- A fault of memory is no bad line.
-pub no-memory : {T : Type 0} (r : Result T LineFault) → (x : LineFault) × (r ≡ Err x) × (x ≡ OutOfMemory) → (at column : ℕ) (why : LineKind) → r ≡ Err (Refused at column why) → ⊥
-no-memory r p at column why e = cc
-
--- ---- numbers
-
-at_most-most : (most value : ℕ) (number : Option ℕ) → at_most most number ≡ Some value → value ≤ most
-at_most-most most value None e = cc
-at_most-most most value (Some number) e = by_test (nat_le number most) refl e
-  where
-    by_test : (b : Bool) → nat_le number most ≡ b → (if b then Some number else None) ≡ Some value → value ≤ most
-    by_test true h e =
-        let same : number ≡ value = cc in
-        let small : number ≤ most = grind (arith, nat_tests) in
-        omega arith
-    by_test false h e = cc
-
-pub number-most : (most value : ℕ) (word : List ℕ) → number_in most word ≡ Some value → value ≤ most
-unfolding number_in
-number-most most value word e = at_most-most most value (numeral_in 10 20 word) e
-
 -- ---- the numbers of events
 
-and_true : (a b : Bool) → a ≡ true → b ≡ true → (a && b) ≡ true
-and_true a b h k = rw h k
-
--- The next number is good up to 1,000.
-pub order-good : (next index : ℕ) → index ≡ next → index ≤ 1000 → order_fault next (Some index) ≡ None
+-- The next number is good up to the most.
+pub order-good : (next index : ℕ) → index ≡ next → index ≤ EVENTS → order_fault next (Some index) ≡ None
 order-good next index same few =
-    let h : ((index == next) && nat_le index 1000) ≡ true = grind (arith, nat_tests) in
+    let h : ((index == next) && nat_le index EVENTS) ≡ true = grind (arith, nat_tests) in
     rw h refl
 
 -- Every other number is out of order.
-pub order-bad : (next index : ℕ) → (index ≢ next) ⊎ (1000 < index) → order_fault next (Some index) ≡ Some kind.EventOrder
+pub order-bad : (next index : ℕ) → (index ≢ next) ⊎ (EVENTS < index) → order_fault next (Some index) ≡ Some kind.EventOrder
 order-bad next index (inl other) =
-    let h : ((index == next) && nat_le index 1000) ≡ false = grind (arith, nat_tests) in
+    let h : ((index == next) && nat_le index EVENTS) ≡ false = grind (arith, nat_tests) in
     rw h refl
 order-bad next index (inr many) =
-    let h : ((index == next) && nat_le index 1000) ≡ false = grind (arith, nat_tests) in
+    let h : ((index == next) && nat_le index EVENTS) ≡ false = grind (arith, nat_tests) in
     rw h refl

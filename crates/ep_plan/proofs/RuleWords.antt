@@ -2,8 +2,9 @@
 use Rattle.std.proofs.Common.{◌≡◌, ◌≢◌, ◌⊎◌, inl, inr, ℕ, suc, ◌+◌, ◌-◌, ◌<◌, ◌≤◌, List, [], ◌∷◌, ◌++◌, length, Option, Some, None, option_map, refl, sym, ap, ◌∙◌, arith, length-append, append_assoc}
 use Rattle.std.proofs.lemmas.List.{append-nil}
 use Rattle.ep_defs.specs.declared.session.Rule.{Rule as RuleValue}
+use Rattle.ep_defs.specs.declared.limits.TheConstants.{RULES}
 use Rattle.ep_plan.specs.declared.cursor.Cursor.{Cursor}
-use Rattle.ep_plan.specs.Lines.{Rule, Bad, first_bad}
+use Rattle.ep_plan.specs.Lines.{more_than_one, Rule, Bad, first_bad}
 use Rattle.ep_plan.specs.Words.{rule_in, all_in, with_first}
 use Rattle.ep_plan.specs.Cursor.{left, column_of, bad_left, Took}
 use Rattle.ep_plan.proofs.Reading.{is-end}
@@ -51,24 +52,24 @@ unfolding bad_left
 further-rule cursor more some = further cursor.past (column_of cursor) more (left cursor) some
 
 -- As many more may follow as 1,000 leaves room for.
-pub room-next : (start : Option Bad) (words next : Cursor) (before after : List RuleValue) (word : List ℕ) (rule : RuleValue) → Took Rule words next word → after ≡ before ++ rule ∷ [] → length before < 1000 → start ≡ bad_left words [] (1000 - length before) → start ≡ bad_left next [] (1000 - length after)
+pub room-next : (start : Option Bad) (words next : Cursor) (before after : List RuleValue) (word : List ℕ) (rule : RuleValue) → Took Rule words next word → after ≡ before ++ rule ∷ [] → length before < RULES → start ≡ bad_left words [] (RULES - length before) → start ≡ bad_left next [] (RULES - length after)
 room-next start words next before after word rule took more few h =
     let some : left words ≢ [] = λ none. cc in
-    let room : 1000 - length before ≡ suc (999 - length before) = omega arith in
+    let room : RULES - length before ≡ suc (more_than_one - length before) = omega arith in
     let longer : length after ≡ length before + 1 = ap length more ∙ length-append before (rule ∷ []) in
-    let less : 999 - length before ≡ 1000 - length after = omega arith in
-    h ∙ ap (bad_left words []) room ∙ further-rule words (999 - length before) some ∙ took.bad [] (999 - length before) ∙ ap (bad_left next []) less
+    let less : more_than_one - length before ≡ RULES - length after = omega arith in
+    h ∙ ap (bad_left words []) room ∙ further-rule words (more_than_one - length before) some ∙ took.bad [] (more_than_one - length before) ∙ ap (bad_left next []) less
 
-pub room-first : (start : Option Bad) (next : Cursor) (after : List RuleValue) (rule : RuleValue) → after ≡ [] ++ rule ∷ [] → start ≡ bad_left next [] 999 → start ≡ bad_left next [] (1000 - length after)
+pub room-first : (start : Option Bad) (next : Cursor) (after : List RuleValue) (rule : RuleValue) → after ≡ [] ++ rule ∷ [] → start ≡ bad_left next [] more_than_one → start ≡ bad_left next [] (RULES - length after)
 room-first start next after rule more h =
     let one : length after ≡ 1 = ap length more in
-    let room : 999 ≡ 1000 - length after = omega arith in
+    let room : more_than_one ≡ RULES - length after = omega arith in
     h ∙ ap (bad_left next []) room
 
 -- A word left over stands behind 1,000 rules.
-pub room-none : (start : Option Bad) (words : Cursor) (rules : List RuleValue) (bad : Bad) → (1000 ≤ length rules) ⊎ (left words ≡ []) → start ≡ bad_left words [] (1000 - length rules) → bad_left words [] 0 ≡ Some bad → start ≡ Some bad
+pub room-none : (start : Option Bad) (words : Cursor) (rules : List RuleValue) (bad : Bad) → (RULES ≤ length rules) ⊎ (left words ≡ []) → start ≡ bad_left words [] (RULES - length rules) → bad_left words [] 0 ≡ Some bad → start ≡ Some bad
 room-none start words rules bad (inl full) h found =
-    let room : 1000 - length rules ≡ 0 = omega arith in
+    let room : RULES - length rules ≡ 0 = omega arith in
     h ∙ ap (bad_left words []) room ∙ found
 room-none start words rules bad (inr none) h found =
     let good = is-end words none 0 in

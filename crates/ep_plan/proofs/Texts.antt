@@ -3,7 +3,7 @@ use Rattle.std.proofs.Common.{◌≡◌, ℕ, ◌+◌, ◌<◌, ◌≤◌, List,
 use Rattle.std.specs.List.{join_with_byte}
 use Rattle.hex.specs.Hex.{encode_lower}
 use Rattle.std.proofs.lemmas.List.{append_assoc, take_more, take_all, map-append}
-use Rattle.ep_plan.specs.Words.{hex_text, frames_text, payload_text}
+use Rattle.ep_plan.specs.Words.{comma, hex_text, frames_text, payload_text}
 
 -- A part more stands behind a separator.
 pub join-push : (c : ℕ) (x : List ℕ) (xs : List (List ℕ)) (y : List ℕ) → join_with_byte c (x ∷ (xs ++ y ∷ [])) ≡ join_with_byte c (x ∷ xs) ++ c ∷ y
@@ -13,23 +13,23 @@ join-push c x (z ∷ zs) y =
 
 -- The frames that were written, of which the first stands apart.
 abbrev pub frames_so_far : List ℕ → List ℕ → ℕ → List ℕ
-frames_so_far frames others count = join_with_byte 44 (map hex_text (get_or frames 0 0 ∷ take count others))
+frames_so_far frames others count = join_with_byte comma (map hex_text (get_or frames 0 0 ∷ take count others))
 
 pub frames_so_far-none : (frames others : List ℕ) (first : ℕ) → frames ≡ first ∷ others → frames_so_far frames others 0 ≡ hex_text first
 frames_so_far-none frames others first split = ap (λ (xs : List ℕ). hex_text (get_or xs 0 0)) split
 
-pub frames_so_far-more : (frames others : List ℕ) (count : ℕ) → count < length others → frames_so_far frames others (count + 1) ≡ frames_so_far frames others count ++ 44 ∷ hex_text (get_or others count 0)
+pub frames_so_far-more : (frames others : List ℕ) (count : ℕ) → count < length others → frames_so_far frames others (count + 1) ≡ frames_so_far frames others count ++ comma ∷ hex_text (get_or others count 0)
 frames_so_far-more frames others count within =
     let first : List ℕ = hex_text (get_or frames 0 0) in
-    ap (λ (xs : List ℕ). join_with_byte 44 (first ∷ map hex_text xs)) (take_more others count 0 within)
-    ∙ ap (λ (xs : List (List ℕ)). join_with_byte 44 (first ∷ xs)) (map-append hex_text (take count others) (get_or others count 0 ∷ []))
-    ∙ join-push 44 first (map hex_text (take count others)) (hex_text (get_or others count 0))
+    ap (λ (xs : List ℕ). join_with_byte comma (first ∷ map hex_text xs)) (take_more others count 0 within)
+    ∙ ap (λ (xs : List (List ℕ)). join_with_byte comma (first ∷ xs)) (map-append hex_text (take count others) (get_or others count 0 ∷ []))
+    ∙ join-push comma first (map hex_text (take count others)) (hex_text (get_or others count 0))
 
 pub frames_so_far-all : (frames others : List ℕ) (first count : ℕ) → frames ≡ first ∷ others → length others ≤ count → frames_so_far frames others count ≡ frames_text frames
 unfolding frames_text
 frames_so_far-all frames others first count split all =
-    ap (λ (xs : List ℕ). join_with_byte 44 (map hex_text (get_or frames 0 0 ∷ xs))) (take_all count others all)
-    ∙ ap (λ (xs : List ℕ). join_with_byte 44 (map hex_text (get_or xs 0 0 ∷ others))) split
+    ap (λ (xs : List ℕ). join_with_byte comma (map hex_text (get_or frames 0 0 ∷ xs))) (take_all count others all)
+    ∙ ap (λ (xs : List ℕ). join_with_byte comma (map hex_text (get_or xs 0 0 ∷ others))) split
     ∙ ap frames_text (sym split)
 
 pub frames_text-none : (frames : List ℕ) → length frames ≡ 0 → frames_text frames ≡ 45 ∷ []

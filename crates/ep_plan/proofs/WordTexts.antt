@@ -6,7 +6,7 @@ use Rattle.std.proofs.lemmas.List.{length-append}
 use Rattle.hex.specs.Hex.{IsBytes, encode_lower, lower_digits}
 use Rattle.hex.proofs.HexLemmas.{length-encode_with}
 use Rattle.ep_defs.specs.declared.session.Rule.{Rule}
-use Rattle.ep_plan.specs.Words.{is_name, is_name_byte, words_of, id_text, payload_text, frames_text, rule_text, hex_text, number_text}
+use Rattle.ep_plan.specs.Words.{colon, comma, space, is_name, is_name_byte, words_of, id_text, payload_text, frames_text, rule_text, hex_text, number_text}
 use Rattle.ep_plan.proofs.Lacks.{lacks, all_lack, lacks-join, parts_at-join}
 use Rattle.ep_plan.proofs.NumberTexts.{hex_text-lacks, number_text-lacks, hex_text-some, number_text-some}
 use Rattle.ep_plan.proofs.ReadBack.{AreBelow, name-lacks, encoded-lacks, hex_texts-lack}
@@ -14,15 +14,15 @@ use Rattle.ep_plan.proofs.ReadBack.{AreBelow, name-lacks, encoded-lacks, hex_tex
 -- One word of a line.
 pub record IsWord (text : List ℕ) : Type 0 where
   pub some : 0 < length text
-  pub no_space : lacks 32 text ≡ true
+  pub no_space : lacks space text ≡ true
 
 pub IsWord-number_text : (number : ℕ) → number < 2 ^ 64 → IsWord (number_text number)
-IsWord-number_text number small = record { some = number_text-some number small; no_space = number_text-lacks 32 number (omega arith) small }
+IsWord-number_text number small = record { some = number_text-some number small; no_space = number_text-lacks space number (omega arith) small }
 
 pub IsWord-name : (name : List ℕ) → is_name name ≡ true → IsWord name
 IsWord-name name good = record {
   some = ltb-true 0 (length name) (and_parts (nat_lt 0 (length name)) (list_all is_name_byte name) good).0;
-  no_space = name-lacks 32 name refl good;
+  no_space = name-lacks space name refl good;
 }
 
 dash-is-word : IsWord (45 ∷ [])
@@ -31,7 +31,7 @@ dash-is-word = record { some = omega arith; no_space = refl }
 encoded-is-word : (bytes : List ℕ) → 0 < length bytes → IsBytes bytes → IsWord (encode_lower bytes)
 encoded-is-word bytes some small =
     let long = length-encode_with lower_digits bytes in
-    record { some = omega (arith, long); no_space = encoded-lacks 32 bytes refl small }
+    record { some = omega (arith, long); no_space = encoded-lacks space bytes refl small }
 
 pub IsWord-id_text : (id : List ℕ) → length id ≡ 16 → IsBytes id → IsWord (id_text id)
 unfolding id_text
@@ -57,8 +57,8 @@ pub IsWord-frames_text : (frames : List ℕ) → AreBelow (2 ^ 64) frames → Is
 unfolding frames_text
 IsWord-frames_text [] small = dash-is-word
 IsWord-frames_text (frame ∷ frames) small = record {
-  some = some-join 44 (hex_text frame) (map hex_text frames) (hex_text-some frame (small 0));
-  no_space = lacks-join 32 44 (map hex_text (frame ∷ frames)) refl (hex_texts-lack 32 (frame ∷ frames) (omega arith) small);
+  some = some-join comma (hex_text frame) (map hex_text frames) (hex_text-some frame (small 0));
+  no_space = lacks-join space comma (map hex_text (frame ∷ frames)) refl (hex_texts-lack space (frame ∷ frames) (omega arith) small);
 }
 
 pub IsWord-rule_text : (rule : Rule) → is_name rule.name ≡ true → rule.keywords < 2 ^ 64 → rule.level < 2 ^ 32 → IsWord (rule_text rule)
@@ -66,15 +66,15 @@ unfolding rule_text
 IsWord-rule_text rule good keywords_fit level_fits =
     let keywords : List ℕ = hex_text rule.keywords in
     let level : List ℕ = number_text rule.level in
-    let lack : all_lack 32 (rule.name ∷ keywords ∷ level ∷ []) ≡ true =
-    and_from (lacks 32 rule.name) (all_lack 32 (keywords ∷ level ∷ [])) (name-lacks 32 rule.name refl good)
-    (and_from (lacks 32 keywords) (all_lack 32 (level ∷ [])) (hex_text-lacks 32 rule.keywords (omega arith) keywords_fit)
-    (and_from (lacks 32 level) true (number_text-lacks 32 rule.level (omega arith) (omega arith)) refl)) in
+    let lack : all_lack space (rule.name ∷ keywords ∷ level ∷ []) ≡ true =
+    and_from (lacks space rule.name) (all_lack space (keywords ∷ level ∷ [])) (name-lacks space rule.name refl good)
+    (and_from (lacks space keywords) (all_lack space (level ∷ [])) (hex_text-lacks space rule.keywords (omega arith) keywords_fit)
+    (and_from (lacks space level) true (number_text-lacks space rule.level (omega arith) (omega arith)) refl)) in
     record {
-      some = some-join 58 rule.name (keywords ∷ level ∷ []) (IsWord-name rule.name good).some;
-      no_space = lacks-join 32 58 (rule.name ∷ keywords ∷ level ∷ []) refl lack;
+      some = some-join colon rule.name (keywords ∷ level ∷ []) (IsWord-name rule.name good).some;
+      no_space = lacks-join space colon (rule.name ∷ keywords ∷ level ∷ []) refl lack;
     }
 
 -- Words that are joined by spaces are the words of that line.
-pub words_of-join : (first : List ℕ) (others : List (List ℕ)) → all_lack 32 (first ∷ others) ≡ true → words_of (join_with_byte 32 (first ∷ others)) ≡ first ∷ others
-words_of-join first others all = parts_at-join 32 first others all
+pub words_of-join : (first : List ℕ) (others : List (List ℕ)) → all_lack space (first ∷ others) ≡ true → words_of (join_with_byte space (first ∷ others)) ≡ first ∷ others
+words_of-join first others all = parts_at-join space first others all

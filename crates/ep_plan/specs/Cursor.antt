@@ -1,13 +1,17 @@
 -- What a cursor has still to read of a line.
-use Rattle.std.specs.Prelude.{◌≡◌, ◌≢◌, ℕ, ◌+◌, ◌-◌, Bool, true, false, List, [], ◌∷◌, length, Option, Some, option_copied, unwrap_or}
+use Rattle.std.specs.Prelude.{◌≡◌, ◌≢◌, ℕ, ◌+◌, ◌-◌, Bool, true, false, List, [], ◌∷◌, length, Option, Some, Result, Err, IfOk, option_copied, unwrap_or}
+use Rattle.std.specs.Borrow.{Bor}
+use Rattle.std.specs.declared.alloc.AllocError.{AllocError}
 use Rattle.ep_plan.specs.declared.cursor.Cursor.{Cursor}
+use Rattle.ep_plan.specs.declared.line.LineFault.{LineFault}
+use Rattle.ep_plan.specs.declared.line.LineFault.TheVariants.{Bad as Refused}
 use Rattle.ep_plan.specs.declared.line.LineKind.{LineKind}
-use Rattle.ep_plan.specs.Lines.{Part, Bad, bad_at, first_bad}
-use Rattle.ep_plan.specs.Words.{parts_behind}
+use Rattle.ep_plan.specs.Lines.{Part, Form, Bad, bad_at, first_bad, spelling_fault, unless}
+use Rattle.ep_plan.specs.Words.{space, parts_behind}
 
 -- The words that are left.
 unfoldable pub left : Cursor → List (List ℕ)
-left cursor = parts_behind 32 (option_copied cursor.rest)
+left cursor = parts_behind space (option_copied cursor.rest)
 
 -- The column of the next word, or one past the line's end.
 abbrev pub column_of : Cursor → ℕ
@@ -16,6 +20,10 @@ column_of cursor = cursor.past - length (unwrap_or (option_copied cursor.rest) [
 -- The first word that is bad among those left, which have to be these parts and at most so many rules.
 unfoldable pub bad_left : Cursor → List Part → ℕ → Option Bad
 bad_left cursor parts more_rules = first_bad cursor.past (column_of cursor) parts more_rules (left cursor)
+
+-- The same where they have to be of this form.
+abbrev pub bad_form : Cursor → Form → Option Bad
+bad_form cursor form = bad_left cursor form.parts form.more_rules
 
 -- The words that are left begin at this column, if there are any.
 abbrev pub BeginsAt : ℕ → Cursor → Type 0
@@ -47,3 +55,20 @@ pub record Took (part : Part) (old new : Cursor) (word : List ℕ) : Type 0 wher
 pub record IsBad (part : Part) (cursor : Cursor) (line column : ℕ) (kind : LineKind) : Type 0 where
   pub line_is : line ≡ cursor.line
   pub bad : (parts : List Part) (more_rules : ℕ) → bad_left cursor (part ∷ parts) more_rules ≡ Some (bad_at column kind)
+
+-- Where a line is refused, this holds of the line's number, the column and the kind.
+abbrev pub IfBad : {T : Type 0} → Result T LineFault → (ℕ → ℕ → LineKind → Type 0) → Type 0
+IfBad result Holds = (line column : ℕ) (kind : LineKind) → result ≡ Err (Refused line column kind) → Holds line column kind
+
+-- The line of these words is bad there.
+abbrev pub IsBadAt : Cursor → Option Bad → ℕ → ℕ → LineKind → Type 0
+IsBadAt words bad line column kind = (line ≡ words.line) × (bad ≡ Some (bad_at column kind))
+
+-- The next word was taken as this part, and spells this value.
+abbrev pub TakesPart : {T : Type 0} → Part → (List ℕ → Option T) → Cursor → Cursor → T → Type 0
+TakesPart part spell old new value = (word : List ℕ) × Took part old new word × (spell word ≡ Some value)
+
+-- What is read from a word is what it spells as this part, and a word that spells nothing is a fault of this kind.
+pub record Reads {T : Type 0} (part : Part) (spell : List ℕ → Option T) (kind : LineKind) (Gives : Bor (List ℕ) → Result (Option T) AllocError → Type 0) : Type 0 where
+  pub fault : (word : List ℕ) → spelling_fault part word ≡ unless (spell word) kind
+  pub value : (word : Bor (List ℕ)) (result : Result (Option T) AllocError) → Gives word result → IfOk result (λ read. read ≡ spell word.now)

@@ -3,15 +3,19 @@ use Rattle.std.specs.Prelude.{◌≡◌, ℕ, zero, suc, ◌+◌, ◌-◌, ◌^�
 use Rattle.std.specs.List.{list_any}
 use Rattle.std.specs.Option.{option_or}
 use Rattle.ep_defs.specs.declared.event.EventDef.{EventDef}
+use Rattle.ep_defs.specs.declared.limits.TheConstants.{EVENTS, RULES}
 use Rattle.ep_defs.specs.Event.{is_valid_event, is_same_event, is_same_text}
 use Rattle.ep_defs.specs.declared.session.Write.{Write}
 use Rattle.ep_model.specs.declared.step.Step.{Step}
 use Rattle.ep_model.specs.declared.step.Step.TheVariants as step
 use Rattle.ep_plan.specs.declared.line.Line.{Line}
 use Rattle.ep_plan.specs.declared.line.Line.TheVariants as line
+use Rattle.ep_plan.specs.declared.limits.TheConstants.{LINE_BYTES}
 use Rattle.ep_plan.specs.declared.line.LineKind.{LineKind}
 use Rattle.ep_plan.specs.declared.line.LineKind.TheVariants as kind
-use Rattle.ep_plan.specs.Words.{words_of, number_in, hex_in, id_in, frames_in, payload_in, provider_in, event_name_in, rule_in, fields_in, all_in}
+use Rattle.ep_plan.specs.declared.verb.Verb.{Verb}
+use Rattle.ep_plan.specs.declared.verb.Verb.TheVariants as verb
+use Rattle.ep_plan.specs.Words.{hash, words_of, number_in, hex_in, id_in, frames_in, payload_in, provider_in, event_name_in, rule_in, fields_in, all_in}
 
 -- ---- the table of lines
 
@@ -43,13 +47,17 @@ pub record Form : Type 0 where
 abbrev pub form : List ℕ → List Part → Form
 form name parts = record { name = name; parts = parts; more_rules = 0 }
 
--- A session's number, its chunks, and 1 to 1,000 rules.
+-- The rules that may follow the first one.
+abbrev pub more_than_one : ℕ
+more_than_one = RULES - 1
+
+-- A session's number, its chunks, and its rules.
 abbrev pub accept_form : Form
-accept_form = record { name = codes "accept"; parts = Number ∷ Number ∷ Rule ∷ []; more_rules = 999 }
+accept_form = record { name = codes "accept"; parts = Number ∷ Number ∷ Rule ∷ []; more_rules = more_than_one }
 
 -- The same with a flag before the rules: whether the session has stacks.
 abbrev pub accept3_form : Form
-accept3_form = record { name = codes "accept3"; parts = Number ∷ Number ∷ Flag ∷ Rule ∷ []; more_rules = 999 }
+accept3_form = record { name = codes "accept3"; parts = Number ∷ Number ∷ Flag ∷ Rule ∷ []; more_rules = more_than_one }
 
 -- The definition of an event: PROVIDER ID VERSION LEVEL KEYWORDS NAME FIELDS.
 abbrev pub definition_parts : List Part
@@ -66,25 +74,43 @@ write_parts = Number ∷ Id ∷ Id ∷ Frames ∷ Payload ∷ []
 abbrev pub begin_parts : List Part
 begin_parts = Number ∷ Stamp ∷ write_parts
 
--- The lines of steps.
-abbrev pub step_forms : List Form
-step_forms =
-    accept_form
-    ∷ accept3_form
-    ∷ form (codes "enter") (Number ∷ [])
-    ∷ form (codes "leave") (Number ∷ [])
-    ∷ form (codes "open") (Number ∷ Number ∷ [])
-    ∷ form (codes "begin") begin_parts
-    ∷ form (codes "show") (Number ∷ Number ∷ [])
-    ∷ form (codes "end") (Number ∷ [])
-    ∷ form (codes "steal") (Number ∷ Number ∷ [])
-    ∷ form (codes "give") (Number ∷ [])
-    ∷ form (codes "point") (Number ∷ Stamp ∷ [])
-    ∷ form (codes "close") (Number ∷ Number ∷ [])
-    ∷ form (codes "finish") (Number ∷ Stamp ∷ [])
-    ∷ []
+-- The lines of steps, each by its verb.
+abbrev pub form_of : Verb → Form
+form_of verb.Accept = accept_form
+form_of verb.Accept3 = accept3_form
+form_of verb.Enter = form (codes "enter") (Number ∷ [])
+form_of verb.Leave = form (codes "leave") (Number ∷ [])
+form_of verb.Open = form (codes "open") (Number ∷ Number ∷ [])
+form_of verb.Begin = form (codes "begin") begin_parts
+form_of verb.Show = form (codes "show") (Number ∷ Number ∷ [])
+form_of verb.End = form (codes "end") (Number ∷ [])
+form_of verb.Steal = form (codes "steal") (Number ∷ Number ∷ [])
+form_of verb.Give = form (codes "give") (Number ∷ [])
+form_of verb.Point = form (codes "point") (Number ∷ Stamp ∷ [])
+form_of verb.Close = form (codes "close") (Number ∷ Number ∷ [])
+form_of verb.Finish = form (codes "finish") (Number ∷ Stamp ∷ [])
+
+abbrev pub verbs : List Verb
+verbs =
+    verb.Accept ∷ verb.Accept3 ∷ verb.Enter ∷ verb.Leave ∷ verb.Open ∷ verb.Begin ∷ verb.Show ∷ verb.End ∷ verb.Steal
+    ∷ verb.Give ∷ verb.Point ∷ verb.Close ∷ verb.Finish ∷ []
+
+-- The verb that has this name.
+abbrev pub verb_in : List ℕ → Option Verb
+verb_in word = find (λ verb. is_same_text word (form_of verb).name) verbs
 
 -- ---- what is wrong with a word
+
+-- How an error line says why.
+abbrev pub kind_name : LineKind → List ℕ
+kind_name kind.Word = codes "Word"
+kind_name kind.Number = codes "Number"
+kind_name kind.Hex = codes "Hex"
+kind_name kind.Fields = codes "Fields"
+kind_name kind.Long = codes "Long"
+kind_name kind.LateEvent = codes "LateEvent"
+kind_name kind.EventOrder = codes "EventOrder"
+kind_name kind.Same = codes "Same"
 
 -- Numbers are below 2 ^ 32, stamps below 2 ^ 64.
 abbrev pub number_of : List ℕ → Option ℕ
@@ -102,10 +128,10 @@ abbrev pub unless : {A : Type 0} → Option A → LineKind → Option LineKind
 unless None kind = Some kind
 unless (Some value) kind = None
 
--- Events are numbered in turn, from 1 to 1,000.
+-- Events are numbered in turn, from 1 on.
 abbrev pub order_fault : ℕ → Option ℕ → Option LineKind
 order_fault next None = Some kind.Number
-order_fault next (Some index) = if (index == next) && nat_le index 1000 then None else Some kind.EventOrder
+order_fault next (Some index) = if (index == next) && nat_le index EVENTS then None else Some kind.EventOrder
 
 -- What is wrong with a word that is not empty.
 abbrev pub spelling_fault : Part → List ℕ → Option LineKind
@@ -156,7 +182,7 @@ form_bad past column words (Some form) = first_bad past column form.parts form.m
 -- A line that begins with this word has one of the forms.
 unfoldable pub step_bad : ℕ → List ℕ → List (List ℕ) → Option Bad
 step_bad past first words =
-    form_bad past (length first + 2) words (find (λ form. is_same_text first form.name) step_forms)
+    form_bad past (length first + 2) words (option_map form_of (verb_in first))
 
 -- ---- what words spell together
 
@@ -212,18 +238,17 @@ event_bad events stepped past words =
 -- A line that has something in it is no comment, and has words.
 abbrev pub is_blank : List ℕ → Bool
 is_blank [] = true
-is_blank (byte ∷ text) = byte == 35
+is_blank (byte ∷ text) = byte == hash
 
 unfoldable pub words_bad : List EventDef → Bool → ℕ → List (List ℕ) → Option Bad
 words_bad events stepped past [] = None
 words_bad events stepped past (first ∷ words) =
     if is_same_text first (codes "event") then event_bad events stepped past words else step_bad past first words
 
--- What is wrong with a line after these definitions, where a step line has come before or not. A line has at most
--- 262,144 bytes.
+-- What is wrong with a line after these definitions, where a step line has come before or not.
 unfoldable pub bad_of : List EventDef → Bool → List ℕ → Option Bad
 bad_of events stepped text =
-    if nat_lt 262144 (length text) then Some (bad_at 1 kind.Long)
+    if nat_lt LINE_BYTES (length text) then Some (bad_at 1 kind.Long)
     else (if is_blank text then None else words_bad events stepped (length text + 1) (words_of text))
 
 -- The words are this one and one that spells a number.

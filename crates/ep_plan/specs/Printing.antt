@@ -3,15 +3,17 @@ use Rattle.std.specs.Prelude.{◌≡◌, ℕ, ◌^◌, ◌<◌, Bool, true, not,
 use Rattle.std.specs.List.{list_all, join_with_byte, flat_map, AllByRecursion}
 use Rattle.std.specs.Int.{is_in_range}
 use Rattle.hex.specs.Hex.{IsBytes}
+use Rattle.ep_defs.specs.declared.limits.TheConstants.{RULES}
 use Rattle.ep_defs.specs.declared.session.Rule.{Rule}
 use Rattle.ep_defs.specs.declared.session.Write.{Write}
 use Rattle.ep_model.specs.declared.step.Step.{Step}
 use Rattle.ep_model.specs.declared.step.Step.TheVariants as step
-use Rattle.ep_plan.specs.Words.{is_name, number_text, id_text, frames_text, payload_text, rule_text}
+use Rattle.ep_plan.specs.declared.limits.TheConstants.{LINE_BYTES}
+use Rattle.ep_plan.specs.Words.{space, is_name, number_text, id_text, frames_text, payload_text, rule_text}
 
 -- Words behind others, each after a space.
 abbrev pub spaced : List (List ℕ) → List ℕ
-spaced words = flat_map (λ word. 32 ∷ word) words
+spaced words = flat_map (λ word. space ∷ word) words
 
 -- The words of a line with these numbers.
 abbrev pub number_words : List ℕ → List ℕ → List (List ℕ)
@@ -39,11 +41,11 @@ step_words (step.Finish session stamp) = number_words (codes "finish") (session 
 
 -- A step's line, without its line feed.
 abbrev pub step_text : Step → List ℕ
-step_text made = join_with_byte 32 (step_words made)
+step_text made = join_with_byte space (step_words made)
 
--- A line has 1 to 1,000 rules, and can hold their names.
+-- A line has as many rules as a session may have, one at least, and can hold their names.
 abbrev pub has_rules : List Rule → Bool
-has_rules rules = is_in_range 1 1000 (length rules) && list_all (λ rule. is_name rule.name) rules
+has_rules rules = is_in_range 1 RULES (length rules) && list_all (λ rule. is_name rule.name) rules
 
 abbrev pub has_parts : Step → Bool
 has_parts (step.Accept session config) = has_rules config.rules && not config.rundown
@@ -51,7 +53,7 @@ has_parts _ = true
 
 -- A line can hold the step.
 unfoldable pub can_print : Step → Bool
-can_print made = has_parts made && nat_le (length (step_text made)) 262144
+can_print made = has_parts made && nat_le (length (step_text made)) LINE_BYTES
 
 -- ---- numbers that fit their types, as those of each value do
 

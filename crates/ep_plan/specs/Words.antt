@@ -4,18 +4,23 @@
 use Rattle.std.specs.Prelude.{ℕ, ◌-◌, ◌^◌, Bool, false, ◌&&◌, not, ◌==◌, nat_lt, nat_le, if◌then◌else◌, List, [], ◌∷◌, length, map, replicate, codes, Option, Some, None}
 use Rattle.std.specs.List.{list_all, slice_split, join_with_byte}
 use Rattle.std.specs.Int.{is_in_range}
-use Rattle.std.specs.Char.{is_digit}
+use Rattle.std.specs.Char.{is_ascii_graphic, is_digit}
 use Rattle.std.specs.Str.Parse.{digits_value}
 use Rattle.std.specs.Fmt.{decimal, digits}
 use Rattle.std.specs.Result.{result_ok}
 use Rattle.hex.specs.Hex.{decode_of, decode_sized, encode_lower}
+use Rattle.ep_defs.specs.declared.event.TheConstants.{FIRST_CODE, LAST_CODE}
 use Rattle.ep_defs.specs.declared.event.FieldDef.{FieldDef}
 use Rattle.ep_defs.specs.declared.session.Rule.{Rule}
 use Rattle.ep_defs.specs.Event.{is_same_text}
+use Rattle.ep_plan.specs.declared.limits.TheConstants.{DECIMAL_DIGITS, HEX_DIGITS}
 
 -- ASCII.
 abbrev pub space : ℕ
 space = 32
+
+abbrev pub hash : ℕ
+hash = 35
 
 abbrev pub comma : ℕ
 comma = 44
@@ -57,19 +62,19 @@ at_most most number = option_filter (λ n. nat_le n most) number
 abbrev pub at_least : ℕ → Option ℕ → Option ℕ
 at_least least number = option_filter (λ n. nat_le least n) number
 
--- 1 to 20 decimal digits. Leading zeros are allowed, a sign is not.
+-- One decimal digit or more. Leading zeros are allowed, a sign is not.
 unfoldable pub number_in : ℕ → List ℕ → Option ℕ
-number_in most word = at_most most (numeral_in 10 20 word)
+number_in most word = at_most most (numeral_in 10 DECIMAL_DIGITS word)
 
--- 1 to 16 hexadecimal digits.
+-- One hexadecimal digit or more.
 unfoldable pub hex_in : List ℕ → Option ℕ
-hex_in word = numeral_in 16 16 word
+hex_in word = numeral_in 16 HEX_DIGITS word
 
 -- ---- names
 
 -- A name has ASCII characters without blanks and colons.
 abbrev pub is_name_byte : ℕ → Bool
-is_name_byte byte = is_in_range 33 126 byte && not (byte == colon)
+is_name_byte byte = is_ascii_graphic byte && not (byte == colon)
 
 -- One such character or more.
 abbrev pub is_name : List ℕ → Bool
@@ -130,7 +135,7 @@ rule_in word = rule_of_parts (parts_at colon word)
 
 -- A type code of the NetTrace format, in decimal digits. A field of a schedule's text is no object.
 unfoldable pub code_in : List ℕ → Option ℕ
-code_in digits = at_least 3 (number_in 18 digits)
+code_in digits = at_least FIRST_CODE (number_in LAST_CODE digits)
 
 -- An outermost field of its two parts, where both are there.
 abbrev pub field_of : Option (List ℕ) → Option ℕ → Option FieldDef

@@ -1,9 +1,8 @@
-//! The words of a line, one after another.
+//! What is left of a line.
 ghost use Rattle.std.specs.Prelude.{◌<◌, length};
 ghost use Rattle.std.specs.Option.{ForSome};
 
-mod part;
-mod word;
+mod take;
 
 /// What is left of a line.
 #[derive(Drop)]
@@ -11,7 +10,7 @@ pub(crate) struct Cursor<'a> {
     line: u64,
     // One past the line's end, as a column.
     past: usize,
-    // `None` behind the last word.
+    // `None` after the last word.
     rest: Option<&'a [u8]>,
     ghost in_range: { ForSome rest (λ text. length text.now < past) },
 }

@@ -1,11 +1,9 @@
 //! Reading the words of an `event` line.
-ghost use Rattle.std.specs.Prelude.{◌≡◌, ℕ, List, ◌∷◌, Some, None, Err, IfOk, OnOk};
+ghost use Rattle.std.specs.Prelude.{◌≡◌, ℕ, List, ◌∷◌, Some, None, IfOk, OnOk};
 ghost use Rattle.std.specs.List.{list_any};
 ghost use Rattle.ep_defs.specs.Event.{is_same_event};
-ghost use Rattle.ep_plan.specs.declared.line.LineKind.{LineKind};
-ghost use Rattle.ep_plan.specs.declared.line.LineFault.TheVariants.{Bad as Refused};
-ghost use Rattle.ep_plan.specs.Lines.{definition_parts, number_of, bad_at, definition_of, event_bad};
-ghost use Rattle.ep_plan.specs.Cursor.{left, bad_left, BeginsAt};
+ghost use Rattle.ep_plan.specs.Lines.{definition_parts, number_of, definition_of, event_bad};
+ghost use Rattle.ep_plan.specs.Cursor.{left, bad_left, BeginsAt, IfBad, IsBadAt};
 
 use crate::cursor::Cursor;
 use crate::line::{LineFault, LineKind};
@@ -22,7 +20,7 @@ pub(crate) fn read_event(
     requires behind_event { BeginsAt 7 words.old }
     ensures read { IfOk result (λ read. (number : List ℕ) × (rest : List (List ℕ)) × (left words.old ≡ number ∷ rest) × (number_of number ≡ Some read.0) × (definition_of rest ≡ Some read.1)) }
     ensures good { OnOk result (event_bad events.now stepped words.old.past (left words.old) ≡ None) }
-    ensures bad { (at column : ℕ) (kind : LineKind) → result ≡ Err (Refused at column kind) → (at ≡ words.old.line) × (event_bad events.now stepped words.old.past (left words.old) ≡ Some (bad_at column kind)) }
+    ensures bad { IfBad result (IsBadAt words.old (event_bad events.now stepped words.old.past (left words.old))) }
 {
     if stepped {
         return Err(words.bad(1, LineKind::LateEvent));
@@ -43,7 +41,7 @@ fn read_definition(alloc: Global, words: &mut Cursor) -> Result<EventDef, LineFa
     ensures line { OnOk result (words.new.line ≡ words.old.line) }
     ensures read { IfOk result (λ def. definition_of (left words.old) ≡ Some def) }
     ensures good { OnOk result (bad_left words.old definition_parts 0 ≡ None) }
-    ensures bad { (at column : ℕ) (kind : LineKind) → result ≡ Err (Refused at column kind) → (at ≡ words.old.line) × (bad_left words.old definition_parts 0 ≡ Some (bad_at column kind)) }
+    ensures bad { IfBad result (IsBadAt words.old (bad_left words.old definition_parts 0)) }
 {
     let provider = words.provider(alloc)?;
     let id = words.number()?;

@@ -2,15 +2,17 @@
 ghost use Rattle.std.specs.Prelude.{◌≡◌, ◌≤◌, ◌+◌, ℕ, false, List, length, Some, None, Err, IsTrue, IfOk, IfErr};
 ghost use Rattle.std.specs.List.{list_any};
 ghost use Rattle.ep_defs.specs.declared.event.EventDef.{EventDef};
+ghost use Rattle.ep_defs.specs.declared.limits.TheConstants.{EVENTS};
 ghost use Rattle.ep_defs.specs.Event.{is_valid_event, is_same_event};
 ghost use Rattle.ep_plan.specs.declared.line.Line.{Line};
 ghost use Rattle.ep_plan.specs.declared.line.Line.TheVariants.{Event};
 ghost use Rattle.ep_plan.specs.declared.line.LineKind.{LineKind};
 ghost use Rattle.ep_plan.specs.declared.line.LineFault.TheVariants.{Bad as Refused, OutOfMemory};
-ghost use Rattle.ep_plan.specs.Lines.{bad_of, is_blank, IsLine};
+ghost use Rattle.ep_plan.specs.Lines.{kind_name, bad_of, is_blank, IsLine};
 
 use crate::cursor::Cursor;
 use crate::event::read_event;
+use crate::limits::LINE_BYTES;
 use crate::step::read_step;
 use ep_defs::EventDef;
 use ep_model::Step;
@@ -27,6 +29,24 @@ pub enum LineKind {
     LateEvent,
     EventOrder,
     Same,
+}
+
+impl LineKind {
+    /// How an error line says it.
+    pub fn name(self) -> &'static str
+        ensures { result.now ≡ kind_name self }
+    {
+        match self {
+            LineKind::Word => "Word",
+            LineKind::Number => "Number",
+            LineKind::Hex => "Hex",
+            LineKind::Fields => "Fields",
+            LineKind::Long => "Long",
+            LineKind::LateEvent => "LateEvent",
+            LineKind::EventOrder => "EventOrder",
+            LineKind::Same => "Same",
+        }
+    }
 }
 
 /// What a line means.
@@ -72,7 +92,7 @@ pub fn read_line(
     ensures bad { (at column : ℕ) (kind : LineKind) → result ≡ Err (Refused at column kind)
         → (at ≡ line) × (bad_of events.now stepped text.now ≡ Some (record { column = column; kind = kind })) }
 {
-    if text.len() > 262_144 {
+    if text.len() > LINE_BYTES {
         return Err(LineFault::Bad {
             line,
             column: 1,
@@ -105,5 +125,5 @@ fn is_blank(text: &[u8]) -> bool
 pub fn a_line_means_one_thing()
     ensures one { (events : List EventDef) (stepped : _) (text : List ℕ) (a b : Line) → IsLine events stepped text a → IsLine events stepped text b → a ≡ b }
     ensures event { (events : List EventDef) (stepped : _) (text : List ℕ) (index : ℕ) (def : EventDef) → IsLine events stepped text (Event index def)
-        → (stepped ≡ false) × (index ≡ length events + 1) × (index ≤ 1000) × IsTrue (is_valid_event def) × (list_any (λ other. is_same_event other def) events ≡ false) }
+        → (stepped ≡ false) × (index ≡ length events + 1) × (index ≤ EVENTS) × IsTrue (is_valid_event def) × (list_any (λ other. is_same_event other def) events ≡ false) }
 {}

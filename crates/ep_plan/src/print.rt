@@ -5,17 +5,18 @@ ghost use Rattle.hex.specs.Hex.{IsBytes};
 ghost use Rattle.ep_defs.specs.declared.event.EventDef.{EventDef};
 ghost use Rattle.ep_model.specs.declared.step.Step.TheVariants.{Accept};
 ghost use Rattle.ep_plan.specs.declared.line.Line.TheVariants.{Step as StepLine};
-ghost use Rattle.ep_plan.specs.Lines.{IsLine};
-ghost use Rattle.ep_plan.specs.Words.{is_name, id_text, frames_text, payload_text, rule_text};
+ghost use Rattle.ep_plan.specs.Lines.{form_of, IsLine};
+ghost use Rattle.ep_plan.specs.Words.{space, is_name, id_text, frames_text, payload_text, rule_text};
 ghost use Rattle.ep_plan.specs.Printing.{spaced, number_words, step_text, has_parts, can_print, RuleFits, WriteFits, StepFits};
 
+use crate::verb::Verb;
 use crate::words::{put_frames, put_id, put_number, put_payload, put_rule};
 use ep_defs::{Config, Rule, Write};
 use ep_model::Step;
 use std::alloc::{AllocError, Global};
 
 /// The line of a step, without its line feed. It takes a step that a line can hold: names that the text can hold, in
-/// an Accept 1 to 1,000 rules, and at most 262,144 bytes.
+/// an Accept 1 to `RULES` rules, and at most `LINE_BYTES` bytes.
 pub fn print_step(alloc: Global, step: &Step) -> Result<Vec<u8>, AllocError>
     requires { IsTrue (can_print step.now) }
     ensures text { IfOk result (λ text. text.items ≡ step_text step.now) }
@@ -35,28 +36,28 @@ fn put_step(line: &mut Vec<u8>, step: &Step) -> Result<(), AllocError>
 {
     match step {
         Step::Accept { session, config } => put_accept(line, *session, config),
-        Step::Enter { thread } => put_numbers(line, b"enter", &[u64::from(*thread)]),
-        Step::Leave { thread } => put_numbers(line, b"leave", &[u64::from(*thread)]),
-        Step::Open { session, thread } => put_pair(line, b"open", *session, *thread),
+        Step::Enter { thread } => put_numbers(line, Verb::Enter, &[u64::from(*thread)]),
+        Step::Leave { thread } => put_numbers(line, Verb::Leave, &[u64::from(*thread)]),
+        Step::Open { session, thread } => put_pair(line, Verb::Open, *session, *thread),
         Step::Begin {
             thread,
             stamp,
             write,
         } => {
             let event = u64::from(write.event);
-            put_numbers(line, b"begin", &[u64::from(*thread), *stamp, event])?;
+            put_numbers(line, Verb::Begin, &[u64::from(*thread), *stamp, event])?;
             put_write(line, write)
         }
-        Step::Show { thread, session } => put_pair(line, b"show", *thread, *session),
-        Step::End { thread } => put_numbers(line, b"end", &[u64::from(*thread)]),
-        Step::Steal { session, thread } => put_pair(line, b"steal", *session, *thread),
-        Step::Give { session } => put_numbers(line, b"give", &[u64::from(*session)]),
+        Step::Show { thread, session } => put_pair(line, Verb::Show, *thread, *session),
+        Step::End { thread } => put_numbers(line, Verb::End, &[u64::from(*thread)]),
+        Step::Steal { session, thread } => put_pair(line, Verb::Steal, *session, *thread),
+        Step::Give { session } => put_numbers(line, Verb::Give, &[u64::from(*session)]),
         Step::Point { session, stamp } => {
-            put_numbers(line, b"point", &[u64::from(*session), *stamp])
+            put_numbers(line, Verb::Point, &[u64::from(*session), *stamp])
         }
-        Step::Close { session, thread } => put_pair(line, b"close", *session, *thread),
+        Step::Close { session, thread } => put_pair(line, Verb::Close, *session, *thread),
         Step::Finish { session, stamp } => {
-            put_numbers(line, b"finish", &[u64::from(*session), *stamp])
+            put_numbers(line, Verb::Finish, &[u64::from(*session), *stamp])
         }
     }
 }
@@ -71,26 +72,26 @@ fn put_accept(line: &mut Vec<u8>, session: u32, config: &Config) -> Result<(), A
     let chunks = u64::from(config.chunks);
     let rules = config.rules.as_slice();
     if config.stackwalk {
-        put_numbers(line, b"accept", &[session, chunks])?;
+        put_numbers(line, Verb::Accept, &[session, chunks])?;
         put_rules(line, rules)
     } else {
-        put_numbers(line, b"accept3", &[session, chunks, 0])?;
+        put_numbers(line, Verb::Accept3, &[session, chunks, 0])?;
         put_rules(line, rules)
     }
 }
 
-// Appends a word and two numbers below 2 ^ 32.
-fn put_pair(line: &mut Vec<u8>, name: &[u8], first: u32, second: u32) -> Result<(), AllocError>
-    ensures { OnOk result (line.new.items ≡ line.old.items ++ join_with_byte 32 (number_words name.now (first ∷ second ∷ []))) }
+// Appends a verb and two numbers below 2 ^ 32.
+fn put_pair(line: &mut Vec<u8>, verb: Verb, first: u32, second: u32) -> Result<(), AllocError>
+    ensures { OnOk result (line.new.items ≡ line.old.items ++ join_with_byte space (number_words (form_of verb).name (first ∷ second ∷ []))) }
 {
-    put_numbers(line, name, &[u64::from(first), u64::from(second)])
+    put_numbers(line, verb, &[u64::from(first), u64::from(second)])
 }
 
-// Appends a word and numbers.
-fn put_numbers(line: &mut Vec<u8>, name: &[u8], numbers: &[u64]) -> Result<(), AllocError>
-    ensures { OnOk result (line.new.items ≡ line.old.items ++ join_with_byte 32 (number_words name.now numbers.now)) }
+// Appends a verb and numbers.
+fn put_numbers(line: &mut Vec<u8>, verb: Verb, numbers: &[u64]) -> Result<(), AllocError>
+    ensures { OnOk result (line.new.items ≡ line.old.items ++ join_with_byte space (number_words (form_of verb).name numbers.now)) }
 {
-    line.extend_from_slice(name)?;
+    line.extend_from_slice(verb.name())?;
     for number in numbers {
         line.extend_from_slice(b" ")?;
         put_number(line, *number)?;
@@ -113,7 +114,7 @@ fn put_rules(line: &mut Vec<u8>, rules: &[Rule]) -> Result<(), AllocError>
 // Appends a rule as a word more.
 fn put_rule_word(line: &mut Vec<u8>, rule: &Rule) -> Result<(), AllocError>
     requires { IsTrue (is_name rule.now.name) }
-    ensures text { OnOk result (line.new.items ≡ line.old.items ++ 32 ∷ rule_text rule.now) }
+    ensures text { OnOk result (line.new.items ≡ line.old.items ++ space ∷ rule_text rule.now) }
     ensures fits { RuleFits rule.now }
 {
     let _keywords = rule.keywords;
@@ -137,7 +138,7 @@ fn put_write(line: &mut Vec<u8>, write: &Write) -> Result<(), AllocError>
 
 // Appends an id as a word more.
 fn put_id_word(line: &mut Vec<u8>, id: &[u8; 16]) -> Result<(), AllocError>
-    ensures text { OnOk result (line.new.items ≡ line.old.items ++ 32 ∷ id_text id.now) }
+    ensures text { OnOk result (line.new.items ≡ line.old.items ++ space ∷ id_text id.now) }
     ensures length { length id.now ≡ 16 }
     ensures bytes { IsBytes id.now }
 {
@@ -147,7 +148,7 @@ fn put_id_word(line: &mut Vec<u8>, id: &[u8; 16]) -> Result<(), AllocError>
 
 // Appends return addresses as a word more.
 fn put_frames_word(line: &mut Vec<u8>, frames: &[u64]) -> Result<(), AllocError>
-    ensures text { OnOk result (line.new.items ≡ line.old.items ++ 32 ∷ frames_text frames.now) }
+    ensures text { OnOk result (line.new.items ≡ line.old.items ++ space ∷ frames_text frames.now) }
     ensures fits { (i : ℕ) → slice_index frames.now i < 2 ^ 64 }
 {
     line.extend_from_slice(b" ")?;
@@ -156,7 +157,7 @@ fn put_frames_word(line: &mut Vec<u8>, frames: &[u64]) -> Result<(), AllocError>
 
 // Appends a payload as a word more.
 fn put_payload_word(line: &mut Vec<u8>, payload: &[u8]) -> Result<(), AllocError>
-    ensures text { OnOk result (line.new.items ≡ line.old.items ++ 32 ∷ payload_text payload.now) }
+    ensures text { OnOk result (line.new.items ≡ line.old.items ++ space ∷ payload_text payload.now) }
     ensures bytes { IsBytes payload.now }
 {
     line.extend_from_slice(b" ")?;

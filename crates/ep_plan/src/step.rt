@@ -1,13 +1,13 @@
 //! Reading the words of a step's line.
-ghost use Rattle.std.specs.Prelude.{◌≡◌, ◌+◌, ℕ, List, [], ◌∷◌, ◌++◌, length, codes, Some, None, Err, IfOk, OnOk};
-ghost use Rattle.ep_plan.specs.declared.line.LineKind.{LineKind};
-ghost use Rattle.ep_plan.specs.declared.line.LineFault.TheVariants.{Bad as Refused};
-ghost use Rattle.ep_plan.specs.Lines.{Number, Flag, Stamp, Rule as RulePart, begin_parts, write_parts, number_of, stamp_of, write_of, bad_at, step_bad, Spells};
+ghost use Rattle.std.specs.Prelude.{◌≡◌, ◌+◌, ℕ, List, [], ◌∷◌, ◌++◌, length, codes, None, Some, IfOk, OnOk};
+ghost use Rattle.ep_plan.specs.Lines.{Number, Stamp, Rule as RulePart, accept_form, accept3_form, begin_parts, write_parts, more_than_one, form_of, write_of, step_bad, SpellNumber, SpellNumbers, SpellStamp, Spells};
 ghost use Rattle.ep_plan.specs.Words.{rule_in, all_in};
-ghost use Rattle.ep_plan.specs.Cursor.{left, bad_left, BeginsAt};
+ghost use Rattle.ep_plan.specs.Cursor.{left, bad_left, bad_form, BeginsAt, IfBad, IsBadAt};
 
 use crate::cursor::Cursor;
 use crate::line::{LineFault, LineKind};
+use crate::verb::Verb;
+use ep_defs::limits::RULES;
 use ep_defs::{Config, Items, Rule, RuleList, Write};
 use ep_model::Step;
 use std::alloc::{AllocError, Global};
@@ -17,65 +17,47 @@ pub(crate) fn read_step(alloc: Global, first: &[u8], words: &mut Cursor) -> Resu
     requires { BeginsAt (length first.now + 2) words.old }
     ensures read { IfOk result (λ step. Spells (first.now ∷ left words.old) step) }
     ensures good { OnOk result (step_bad words.old.past first.now (left words.old) ≡ None) }
-    ensures bad { (at column : ℕ) (kind : LineKind) → result ≡ Err (Refused at column kind) → (at ≡ words.old.line) × (step_bad words.old.past first.now (left words.old) ≡ Some (bad_at column kind)) }
+    ensures bad { IfBad result (IsBadAt words.old (step_bad words.old.past first.now (left words.old))) }
 {
-    if first == b"accept".as_slice() {
-        return read_accept(alloc, words);
+    match Verb::named(first) {
+        Some(verb) => read_words(alloc, verb, words),
+        None => Err(words.bad(1, LineKind::Word)),
     }
-    if first == b"begin".as_slice() {
-        return read_begin(alloc, words);
+}
+
+// The words after a verb.
+fn read_words(alloc: Global, verb: Verb, words: &mut Cursor) -> Result<Step, LineFault>
+    ensures read { IfOk result (λ step. Spells ((form_of verb).name ∷ left words.old) step) }
+    ensures good { OnOk result (bad_form words.old (form_of verb) ≡ None) }
+    ensures bad { IfBad result (IsBadAt words.old (bad_form words.old (form_of verb))) }
+{
+    match verb {
+        Verb::Accept => read_accept(alloc, words),
+        Verb::Accept3 => read_accept3(alloc, words),
+        Verb::Enter => one_number(words).map(|thread| Step::Enter { thread }),
+        Verb::Leave => one_number(words).map(|thread| Step::Leave { thread }),
+        Verb::Open => two_numbers(words).map(|(session, thread)| Step::Open { session, thread }),
+        Verb::Begin => read_begin(alloc, words),
+        Verb::Show => two_numbers(words).map(|(thread, session)| Step::Show { thread, session }),
+        Verb::End => one_number(words).map(|thread| Step::End { thread }),
+        Verb::Steal => two_numbers(words).map(|(session, thread)| Step::Steal { session, thread }),
+        Verb::Give => one_number(words).map(|session| Step::Give { session }),
+        Verb::Point => number_and_stamp(words).map(|(session, stamp)| Step::Point {
+            session,
+            stamp,
+        }),
+        Verb::Close => two_numbers(words).map(|(session, thread)| Step::Close { session, thread }),
+        Verb::Finish => {
+            number_and_stamp(words).map(|(session, stamp)| Step::Finish { session, stamp })
+        }
     }
-    if first == b"open".as_slice() {
-        let (session, thread) = two_numbers(words)?;
-        return Ok(Step::Open { session, thread });
-    }
-    if first == b"show".as_slice() {
-        let (thread, session) = two_numbers(words)?;
-        return Ok(Step::Show { thread, session });
-    }
-    if first == b"steal".as_slice() {
-        let (session, thread) = two_numbers(words)?;
-        return Ok(Step::Steal { session, thread });
-    }
-    if first == b"close".as_slice() {
-        let (session, thread) = two_numbers(words)?;
-        return Ok(Step::Close { session, thread });
-    }
-    if first == b"end".as_slice() {
-        let thread = one_number(words)?;
-        return Ok(Step::End { thread });
-    }
-    if first == b"give".as_slice() {
-        let session = one_number(words)?;
-        return Ok(Step::Give { session });
-    }
-    if first == b"point".as_slice() {
-        let (session, stamp) = number_and_stamp(words)?;
-        return Ok(Step::Point { session, stamp });
-    }
-    if first == b"finish".as_slice() {
-        let (session, stamp) = number_and_stamp(words)?;
-        return Ok(Step::Finish { session, stamp });
-    }
-    if first == b"enter".as_slice() {
-        let thread = one_number(words)?;
-        return Ok(Step::Enter { thread });
-    }
-    if first == b"leave".as_slice() {
-        let thread = one_number(words)?;
-        return Ok(Step::Leave { thread });
-    }
-    if first == b"accept3".as_slice() {
-        return read_accept3(alloc, words);
-    }
-    Err(words.bad(1, LineKind::Word))
 }
 
 // One number, and nothing more.
 fn one_number(words: &mut Cursor) -> Result<u32, LineFault>
-    ensures read { IfOk result (λ number. (a : List ℕ) × (left words.old ≡ a ∷ []) × (number_of a ≡ Some number)) }
+    ensures read { IfOk result (λ number. (name : List ℕ) → SpellNumber name (name ∷ left words.old) number) }
     ensures good { OnOk result (bad_left words.old (Number ∷ []) 0 ≡ None) }
-    ensures bad { (at column : ℕ) (kind : LineKind) → result ≡ Err (Refused at column kind) → (at ≡ words.old.line) × (bad_left words.old (Number ∷ []) 0 ≡ Some (bad_at column kind)) }
+    ensures bad { IfBad result (IsBadAt words.old (bad_left words.old (Number ∷ []) 0)) }
 {
     let number = words.number()?;
     words.end()?;
@@ -84,9 +66,9 @@ fn one_number(words: &mut Cursor) -> Result<u32, LineFault>
 
 // Two numbers, and nothing more.
 fn two_numbers(words: &mut Cursor) -> Result<(u32, u32), LineFault>
-    ensures read { IfOk result (λ pair. (a : List ℕ) × (b : List ℕ) × (left words.old ≡ a ∷ b ∷ []) × (number_of a ≡ Some pair.0) × (number_of b ≡ Some pair.1)) }
+    ensures read { IfOk result (λ pair. (name : List ℕ) → SpellNumbers name (name ∷ left words.old) pair.0 pair.1) }
     ensures good { OnOk result (bad_left words.old (Number ∷ Number ∷ []) 0 ≡ None) }
-    ensures bad { (at column : ℕ) (kind : LineKind) → result ≡ Err (Refused at column kind) → (at ≡ words.old.line) × (bad_left words.old (Number ∷ Number ∷ []) 0 ≡ Some (bad_at column kind)) }
+    ensures bad { IfBad result (IsBadAt words.old (bad_left words.old (Number ∷ Number ∷ []) 0)) }
 {
     let first = words.number()?;
     let second = words.number()?;
@@ -96,9 +78,9 @@ fn two_numbers(words: &mut Cursor) -> Result<(u32, u32), LineFault>
 
 // A number and a stamp, and nothing more.
 fn number_and_stamp(words: &mut Cursor) -> Result<(u32, u64), LineFault>
-    ensures read { IfOk result (λ pair. (a : List ℕ) × (b : List ℕ) × (left words.old ≡ a ∷ b ∷ []) × (number_of a ≡ Some pair.0) × (stamp_of b ≡ Some pair.1)) }
+    ensures read { IfOk result (λ pair. (name : List ℕ) → SpellStamp name (name ∷ left words.old) pair.0 pair.1) }
     ensures good { OnOk result (bad_left words.old (Number ∷ Stamp ∷ []) 0 ≡ None) }
-    ensures bad { (at column : ℕ) (kind : LineKind) → result ≡ Err (Refused at column kind) → (at ≡ words.old.line) × (bad_left words.old (Number ∷ Stamp ∷ []) 0 ≡ Some (bad_at column kind)) }
+    ensures bad { IfBad result (IsBadAt words.old (bad_left words.old (Number ∷ Stamp ∷ []) 0)) }
 {
     let number = words.number()?;
     let stamp = words.stamp()?;
@@ -110,7 +92,7 @@ fn number_and_stamp(words: &mut Cursor) -> Result<(u32, u64), LineFault>
 fn read_begin(alloc: Global, words: &mut Cursor) -> Result<Step, LineFault>
     ensures read { IfOk result (λ step. Spells (codes "begin" ∷ left words.old) step) }
     ensures good { OnOk result (bad_left words.old begin_parts 0 ≡ None) }
-    ensures bad { (at column : ℕ) (kind : LineKind) → result ≡ Err (Refused at column kind) → (at ≡ words.old.line) × (bad_left words.old begin_parts 0 ≡ Some (bad_at column kind)) }
+    ensures bad { IfBad result (IsBadAt words.old (bad_left words.old begin_parts 0)) }
 {
     let thread = words.number()?;
     let stamp = words.stamp()?;
@@ -126,7 +108,7 @@ fn read_begin(alloc: Global, words: &mut Cursor) -> Result<Step, LineFault>
 fn read_write(alloc: Global, words: &mut Cursor) -> Result<Write, LineFault>
     ensures read { IfOk result (λ write. write_of (left words.old) ≡ Some write) }
     ensures good { OnOk result (bad_left words.old write_parts 0 ≡ None) }
-    ensures bad { (at column : ℕ) (kind : LineKind) → result ≡ Err (Refused at column kind) → (at ≡ words.old.line) × (bad_left words.old write_parts 0 ≡ Some (bad_at column kind)) }
+    ensures bad { IfBad result (IsBadAt words.old (bad_left words.old write_parts 0)) }
 {
     let event = words.number()?;
     let activity = words.id()?;
@@ -146,8 +128,8 @@ fn read_write(alloc: Global, words: &mut Cursor) -> Result<Write, LineFault>
 // The words after `accept`: a session with stacks.
 fn read_accept(alloc: Global, words: &mut Cursor) -> Result<Step, LineFault>
     ensures read { IfOk result (λ step. Spells (codes "accept" ∷ left words.old) step) }
-    ensures good { OnOk result (bad_left words.old (Number ∷ Number ∷ RulePart ∷ []) 999 ≡ None) }
-    ensures bad { (at column : ℕ) (kind : LineKind) → result ≡ Err (Refused at column kind) → (at ≡ words.old.line) × (bad_left words.old (Number ∷ Number ∷ RulePart ∷ []) 999 ≡ Some (bad_at column kind)) }
+    ensures good { OnOk result (bad_form words.old accept_form ≡ None) }
+    ensures bad { IfBad result (IsBadAt words.old (bad_form words.old accept_form)) }
 {
     let session = words.number()?;
     let chunks = words.number()?;
@@ -166,8 +148,8 @@ fn read_accept(alloc: Global, words: &mut Cursor) -> Result<Step, LineFault>
 // The words after `accept3`, which say whether the session has stacks.
 fn read_accept3(alloc: Global, words: &mut Cursor) -> Result<Step, LineFault>
     ensures read { IfOk result (λ step. Spells (codes "accept3" ∷ left words.old) step) }
-    ensures good { OnOk result (bad_left words.old (Number ∷ Number ∷ Flag ∷ RulePart ∷ []) 999 ≡ None) }
-    ensures bad { (at column : ℕ) (kind : LineKind) → result ≡ Err (Refused at column kind) → (at ≡ words.old.line) × (bad_left words.old (Number ∷ Number ∷ Flag ∷ RulePart ∷ []) 999 ≡ Some (bad_at column kind)) }
+    ensures good { OnOk result (bad_form words.old accept3_form ≡ None) }
+    ensures bad { IfBad result (IsBadAt words.old (bad_form words.old accept3_form)) }
 {
     let session = words.number()?;
     let chunks = words.number()?;
@@ -184,15 +166,15 @@ fn read_accept3(alloc: Global, words: &mut Cursor) -> Result<Step, LineFault>
     })
 }
 
-// 1 to 1,000 rules, and nothing more.
+// One rule or more, and nothing else.
 fn read_rules(alloc: Global, words: &mut Cursor) -> Result<RuleList, LineFault>
     ensures read { IfOk result (λ rules. all_in rule_in (left words.old) ≡ Some rules) }
-    ensures good { OnOk result (bad_left words.old (RulePart ∷ []) 999 ≡ None) }
-    ensures bad { (at column : ℕ) (kind : LineKind) → result ≡ Err (Refused at column kind) → (at ≡ words.old.line) × (bad_left words.old (RulePart ∷ []) 999 ≡ Some (bad_at column kind)) }
+    ensures good { OnOk result (bad_left words.old (RulePart ∷ []) more_than_one ≡ None) }
+    ensures bad { IfBad result (IsBadAt words.old (bad_left words.old (RulePart ∷ []) more_than_one)) }
 {
     let mut rules = Vec::new(alloc);
     add(&mut rules, words.rule(alloc)?)?;
-    while !words.is_over() && rules.len() < 1000 {
+    while !words.is_over() && rules.len() < RULES {
         add(&mut rules, words.rule(alloc)?)?;
     }
     words.end()?;

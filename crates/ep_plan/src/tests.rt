@@ -20,12 +20,37 @@ fn told(
     }
 }
 
-// The definition that a line spells, after no other.
-fn defined(alloc: Global, text: &[u8]) -> Result<Option<EventDef>, AllocError> {
-    match read_line(alloc, text, 1, &[], false) {
-        Ok(Line::Event { def, .. }) => Ok(Some(def)),
-        Ok(_) => Ok(None),
-        Err(_) => Ok(None),
+// The definitions that the lines of a text spell.
+fn definitions(alloc: Global, text: &str) -> Result<Vec<EventDef>, AllocError> {
+    let mut events = Vec::new(alloc);
+    for line in text.split('\n') {
+        if let Ok(Line::Event { def, .. }) = read_line(alloc, line.as_bytes(), 1, &events, false) {
+            events.push(def)?;
+        }
+    }
+    Ok(events)
+}
+
+// How many fields, rules or bytes of a payload were read in a line, or its column and kind.
+fn size_told(alloc: Global, text: &[u8], stepped: bool) -> Result<String, AllocError> {
+    match read_line(alloc, text, 7, &[], stepped) {
+        Ok(Line::Event { def, .. }) => {
+            let fields = def.fields.as_slice().len();
+            format!(in alloc; "{fields} fields")
+        }
+        Ok(Line::Step(Step::Accept { config, .. })) => {
+            let rules = config.rules.as_slice().len();
+            format!(in alloc; "{rules} rules")
+        }
+        Ok(Line::Step(Step::Begin { write, .. })) => {
+            let bytes = write.payload.as_slice().len();
+            format!(in alloc; "{bytes} bytes")
+        }
+        Ok(_) => format!(in alloc; "no more"),
+        Err(LineFault::Bad { line, column, kind }) => {
+            format!(in alloc; "{line} {column} {kind:?}")
+        }
+        Err(LineFault::OutOfMemory) => Err(AllocError),
     }
 }
 
@@ -194,23 +219,17 @@ fn a_bad_line_is_refused_at_its_first_bad_word(rt: HostRuntime) -> Result<(), Fa
 
 #[test]
 fn a_definition_is_judged_after_its_words(rt: HostRuntime) -> Result<(), Fail> {
-    let Some(first) = defined(rt.alloc(), b"event 1 P 1 0 4 1 E a:3")? else {
-        return Err("no definition")?;
-    };
-    let events = [first];
+    let events = definitions(rt.alloc(), "event 1 P 1 0 4 1 E a:3")?;
     let table = "7 1 Same|event 2 P 1 0 4 1 E a:3\n\
         7 1 Same|event 02 P 01 00 04 0001 E a:3\n\
         7 25 Word|event 2 P 1 0 4 1 E a:3 -\n\
-        7 7 EventOrder|event 1 P 1 0 4 1 E a:3";
+        7 7 EventOrder|event 1 P 1 0 4 1 E a:3\n\
+        Event { index: 2, def: EventDef { provider: Items { items: [80] }, id: 1, version: 0, level: 4, keywords: 1, name: Items { items: [69] }, fields: Items { items: [FieldDef { depth: 0, code: 4, name: Items { items: [97] } }] } } }|event 2 P 1 0 4 1 E a:4";
     assert_eq!(rt; difference(rt.alloc(), table, &events, false)?.as_str(), "");
-    let other = read_line(rt.alloc(), b"event 2 P 1 0 4 1 E a:4", 1, &events, false);
-    let Ok(Line::Event { index: 2, .. }) = other else {
-        return Err("no second event")?;
-    };
     Ok(())
 }
 
-// The text with so many times this piece behind it.
+// A text with a piece after it this many times.
 fn repeated(alloc: Global, text: &[u8], piece: &[u8], count: usize) -> Result<Vec<u8>, AllocError> {
     let mut all = Vec::new(alloc);
     all.extend_from_slice(text)?;
@@ -221,94 +240,38 @@ fn repeated(alloc: Global, text: &[u8], piece: &[u8], count: usize) -> Result<Ve
 }
 
 #[test]
-fn a_definition_has_at_most_100_fields(rt: HostRuntime) -> Result<(), Fail> {
-    let line = repeated(rt.alloc(), b"event 1 P 1 0 4 1 E f:3", b",f:3", 99)?;
-    let Some(def) = defined(rt.alloc(), &line)? else {
-        return Err("100 fields are refused")?;
-    };
-    assert_eq!(rt; def.fields.as_slice().len(), 100);
-    let line = repeated(rt.alloc(), b"event 1 P 1 0 4 1 E f:3", b",f:3", 100)?;
-    assert_eq!(rt; told(rt.alloc(), &line, &[], false)?.as_str(), "7 1 Fields");
-    Ok(())
-}
-
-#[test]
-fn an_accept_has_at_most_1000_rules(rt: HostRuntime) -> Result<(), Fail> {
-    let line = repeated(rt.alloc(), b"accept 1 16 P:1:4", b" P:1:4", 999)?;
-    let Ok(Line::Step(Step::Accept { session, config })) = read_line(
-        rt.alloc(),
-        &line,
-        1,
-        &[],
-        false,
-    ) else {
-        return Err("1,000 rules are refused")?;
-    };
-    assert_eq!(rt; (session, config.chunks), (1, 16));
-    assert_eq!(rt; config.rules.as_slice().len(), 1000);
-    for rule in config.rules.as_slice() {
-        assert_eq!(rt; (rule.keywords, rule.level), (1, 4));
+fn a_line_is_read_up_to_its_limits(rt: HostRuntime) -> Result<(), Fail> {
+    let rows = [
+        ("event 1 P 1 0 4 1 E f:3", ",f:3", 99, false, "100 fields"),
+        ("event 1 P 1 0 4 1 E f:3", ",f:3", 100, false, "7 1 Fields"),
+        ("accept 1 16 P:1:4", " P:1:4", 999, false, "1000 rules"),
+        ("accept 1 16 P:1:4", " P:1:4", 1000, false, "7 6013 Word"),
+        ("#", "x", 262_143, true, "no more"),
+        ("#", "x", 262_144, true, "7 1 Long"),
+        ("begin 01 5 1 - - - ", "00", 131_062, true, "131062 bytes"),
+        ("begin 001 5 1 - - - ", "00", 131_062, true, "131062 bytes"),
+        ("begin 0001 5 1 - - - ", "00", 131_062, true, "7 1 Long"),
+        ("event", " ", 262_140, true, "7 1 Long"),
+    ];
+    for (text, piece, count, stepped, answer) in rows {
+        let line = repeated(rt.alloc(), text.as_bytes(), piece.as_bytes(), count)?;
+        assert_eq!(rt; size_told(rt.alloc(), &line, stepped)?.as_str(), answer);
     }
-    let line = repeated(rt.alloc(), b"accept 1 16 P:1:4", b" P:1:4", 1000)?;
-    assert_eq!(rt;
-        told(rt.alloc(), &line, &[], false)?.as_str(),
-        "7 6013 Word"
-    );
-    Ok(())
-}
-
-#[test]
-fn a_line_has_at_most_262144_bytes(rt: HostRuntime) -> Result<(), Fail> {
-    let comment = repeated(rt.alloc(), b"#", b"x", 262_143)?;
-    assert_eq!(rt; told(rt.alloc(), &comment, &[], true)?.as_str(), "Blank");
-    let comment = repeated(rt.alloc(), b"#", b"x", 262_144)?;
-    assert_eq!(rt; told(rt.alloc(), &comment, &[], true)?.as_str(), "7 1 Long");
-    let payload = repeated(rt.alloc(), b"begin 01 5 1 - - - ", b"00", 131_062)?;
-    assert_eq!(rt; payload.len(), 262_143);
-    let Ok(Line::Step(Step::Begin { write, .. })) = read_line(rt.alloc(), &payload, 1, &[], true)
-    else {
-        return Err("a long payload is refused")?;
-    };
-    assert_eq!(rt; write.payload.as_slice().len(), 131_062);
-    let late = repeated(rt.alloc(), b"event", b" ", 262_140)?;
-    assert_eq!(rt; told(rt.alloc(), &late, &[], true)?.as_str(), "7 1 Long");
     Ok(())
 }
 
 #[test]
 fn an_event_has_at_most_the_number_1000(rt: HostRuntime) -> Result<(), Fail> {
-    let mut events = Vec::new(rt.alloc());
+    let mut text = String::new(rt.alloc());
     for id in 1..=1000 {
-        if events.len() > 1000 {
-            return Err("too many events")?;
-        }
-        let line = format!(in rt.alloc(); "event {id} P {id} 0 4 1 E -")?;
-        let Ok(Line::Event { index, def }) = read_line(
-            rt.alloc(),
-            line.as_bytes(),
-            1,
-            events.as_slice(),
-            false,
-        ) else {
-            return Err("an event is refused")?;
-        };
-        assert_eq!(rt; index, id);
-        events.push(def)?;
+        let line = format!(in rt.alloc(); "event {id} P {id} 0 4 1 E -\n")?;
+        text.push_str(line.as_str())?;
     }
-    let bad = told(
-        rt.alloc(),
-        b"event 1001 P 1001 0 4 1 E -",
-        events.as_slice(),
-        false,
-    )?;
-    assert_eq!(rt; bad.as_str(), "7 7 EventOrder");
-    let bad = told(
-        rt.alloc(),
-        b"event 1000 P 1001 0 4 1 E -",
-        events.as_slice(),
-        false,
-    )?;
-    assert_eq!(rt; bad.as_str(), "7 7 EventOrder");
+    let events = definitions(rt.alloc(), text.as_str())?;
+    assert_eq!(rt; events.len(), 1000);
+    let table = "7 7 EventOrder|event 1001 P 1001 0 4 1 E -\n\
+        7 7 EventOrder|event 1000 P 1001 0 4 1 E -";
+    assert_eq!(rt; difference(rt.alloc(), table, &events, false)?.as_str(), "");
     Ok(())
 }
 

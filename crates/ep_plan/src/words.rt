@@ -1,22 +1,22 @@
 //! The words of a schedule's text: what each spells, and how each value is written.
 
-mod bytes;
-mod digits;
-mod field;
-mod name;
-mod part;
+mod field_list;
+mod frame_list;
+mod hex_bytes;
+mod names;
+mod numbers;
 mod rules;
-mod stack;
+mod split;
 
-pub(crate) use bytes::{id, payload, put_id, put_payload};
-pub use digits::number;
-pub(crate) use digits::{hexadecimal, put_hexadecimal, put_number};
-pub(crate) use field::fields;
-pub(crate) use name::{event_name, provider, put_name};
-pub(crate) use part::first_part;
+pub(crate) use field_list::fields;
+pub(crate) use frame_list::{frames, put_frames};
+pub(crate) use hex_bytes::{id, payload, put_id, put_payload};
+pub(crate) use names::{event_name, provider, put_name};
+pub use numbers::number;
+pub(crate) use numbers::{hexadecimal, put_hexadecimal, put_number};
 pub(crate) use rules::put_rule;
 pub use rules::rule;
-pub(crate) use stack::{frames, put_frames};
+pub(crate) use split::first_part;
 
 #[cfg(test)]
 mod tests;

@@ -10,7 +10,7 @@ use Rattle.ep_plan.specs.declared.line.LineKind.TheVariants.{Long}
 use Rattle.pt_cli.specs.declared.errors.Refusal.{Refusal}
 use Rattle.pt_cli.specs.declared.errors.Reason.TheVariants as reason
 use Rattle.pt_cli.specs.declared.schedule.Schedule.{Schedule}
-use Rattle.pt_cli.specs.declared.limits.TheConstants.{LINE_BYTES}
+use Rattle.ep_plan.specs.declared.limits.TheConstants.{LINE_BYTES}
 use Rattle.pt_cli.specs.Text.{lines_of}
 use Rattle.pt_cli.specs.Schedule.{bad_after, Takes, Refuses, AreGood, HaveRefused, IsSchedule, IsRefused}
 use Rattle.pt_cli.specs.Reading.{Stands, AreGoodSoFar, IsSoFar, IsJudgedAs}

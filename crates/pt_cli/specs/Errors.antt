@@ -4,21 +4,10 @@ use Rattle.std.specs.List.{concat}
 use Rattle.std.specs.Fmt.{decimal}
 use Rattle.ep_model.specs.declared.step.Kind.{Kind}
 use Rattle.ep_model.specs.declared.step.Kind.TheVariants as kind
-use Rattle.ep_plan.specs.declared.line.LineKind.{LineKind}
-use Rattle.ep_plan.specs.declared.line.LineKind.TheVariants as bad
+use Rattle.ep_plan.specs.Lines.{kind_name}
 use Rattle.pt_cli.specs.declared.errors.Reason.{Reason}
 use Rattle.pt_cli.specs.declared.errors.Reason.TheVariants as reason
 use Rattle.pt_cli.specs.declared.errors.Refusal.{Refusal}
-
-abbrev pub line_kind_name : LineKind → List ℕ
-line_kind_name bad.Word = codes "Word"
-line_kind_name bad.Number = codes "Number"
-line_kind_name bad.Hex = codes "Hex"
-line_kind_name bad.Fields = codes "Fields"
-line_kind_name bad.Long = codes "Long"
-line_kind_name bad.LateEvent = codes "LateEvent"
-line_kind_name bad.EventOrder = codes "EventOrder"
-line_kind_name bad.Same = codes "Same"
 
 abbrev pub step_kind_name : Kind → List ℕ
 step_kind_name kind.SessionNumber = codes "SessionNumber"
@@ -41,7 +30,7 @@ step_kind_name kind.HandFull = codes "HandFull"
 step_kind_name kind.StillOpen = codes "StillOpen"
 
 abbrev pub reason_name : Reason → List ℕ
-reason_name (reason.Line kind) = line_kind_name kind
+reason_name (reason.Line kind) = kind_name kind
 reason_name reason.Form = codes "Form"
 reason_name (reason.Step kind) = step_kind_name kind
 

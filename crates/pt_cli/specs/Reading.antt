@@ -7,7 +7,8 @@ use Rattle.ep_model.specs.today.Sizes.{sizes}
 use Rattle.ep_defs.specs.Definitions.{AreDistinct}
 use Rattle.ep_defs.specs.declared.limits.TheConstants.{EVENTS}
 use Rattle.ep_model.specs.History.{event_at}
-use Rattle.pt_cli.specs.declared.limits.TheConstants.{LINE_BYTES, RECORDS_BYTES}
+use Rattle.ep_plan.specs.declared.limits.TheConstants.{LINE_BYTES}
+use Rattle.pt_cli.specs.declared.limits.TheConstants.{RECORDS_BYTES}
 use Rattle.ep_plan.specs.declared.line.Line.{Line}
 use Rattle.pt_cli.specs.declared.errors.Refusal.{Refusal}
 use Rattle.pt_cli.specs.declared.schedule.Schedule.{Schedule}

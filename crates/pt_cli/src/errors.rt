@@ -1,7 +1,7 @@
 //! Why an input is refused, and the lines that say so.
 ghost use Rattle.std.specs.Prelude.{◌≡◌, IfOk};
 ghost use Rattle.std.specs.String.{string_bytes};
-ghost use Rattle.pt_cli.specs.Errors.{line_kind_name, step_kind_name, reason_name, refusal_error, unfinished_error};
+ghost use Rattle.pt_cli.specs.Errors.{step_kind_name, reason_name, refusal_error, unfinished_error};
 
 use ep_model::Kind;
 use ep_plan::LineKind;
@@ -33,25 +33,10 @@ impl Reason {
         ensures { result.now ≡ reason_name self }
     {
         match self {
-            Reason::Line(kind) => line_kind_text(kind),
+            Reason::Line(kind) => kind.name(),
             Reason::Form => "Form",
             Reason::Step(kind) => step_kind_text(kind),
         }
-    }
-}
-
-fn line_kind_text(kind: LineKind) -> &'static str
-    ensures { result.now ≡ line_kind_name kind }
-{
-    match kind {
-        LineKind::Word => "Word",
-        LineKind::Number => "Number",
-        LineKind::Hex => "Hex",
-        LineKind::Fields => "Fields",
-        LineKind::Long => "Long",
-        LineKind::LateEvent => "LateEvent",
-        LineKind::EventOrder => "EventOrder",
-        LineKind::Same => "Same",
     }
 }
 

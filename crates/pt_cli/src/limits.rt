@@ -1,9 +1,6 @@
 //! The bounds of the program. A step beyond those on threads, chunks and records is refused as `Form`: later versions
 //! are to take it.
 
-/// The bytes of a line, without its line feed.
-pub const LINE_BYTES: usize = 262_144;
-
 /// The greatest number of a thread.
 pub const LAST_THREAD: u32 = 15;
 

@@ -2,9 +2,9 @@
 ghost use Rattle.std.specs.Prelude.{◌≡◌, ◌≤◌, ◌<◌, ◌+◌, ◌^◌, ◌++◌, ◌≢◌, ℕ, List, [], ◌∷◌, length, IfSome, IfNone, OnOk};
 
 use crate::errors::{Reason, Refusal};
-use crate::limits::LINE_BYTES;
 use crate::schedule::{Fault, Schedule};
 use ep_plan::LineKind;
+use ep_plan::limits::LINE_BYTES;
 use std::alloc::{AllocError, Global};
 
 /// A schedule that is read piece by piece.

@@ -2,9 +2,9 @@
 ghost use Rattle.std.specs.Prelude.{◌≡◌, ◌++◌, IsTrue, IfOk, OnOk};
 ghost use Rattle.ep_plan.specs.Words.{is_name, rule_in, rule_text};
 
-use super::digits::{hexadecimal, number, put_hexadecimal, put_number};
-use super::name::{provider, put_name};
-use super::part::first_part;
+use super::names::{provider, put_name};
+use super::numbers::{hexadecimal, number, put_hexadecimal, put_number};
+use super::split::three_parts;
 use ep_defs::Rule;
 use std::alloc::{AllocError, Global};
 
@@ -12,22 +12,13 @@ use std::alloc::{AllocError, Global};
 pub fn rule(alloc: Global, word: &[u8]) -> Result<Option<Rule>, AllocError>
     ensures { IfOk result (λ rule. rule ≡ rule_in word.now) }
 {
-    let (name, rest) = first_part(word, b':');
-    let Some(rest) = rest else {
+    let Some((name, keywords, level)) = three_parts(word, b':') else {
         return Ok(None);
     };
-    let (keywords, rest) = first_part(rest, b':');
-    let Some(rest) = rest else {
-        return Ok(None);
-    };
-    let (level, rest) = first_part(rest, b':');
-    if rest.is_some() {
-        return Ok(None);
-    }
     let Some(keywords) = hexadecimal(keywords) else {
         return Ok(None);
     };
-    let Some(level) = number(level, u64::from(u32::MAX)) else {
+    let Some(level) = number(level, u32::MAX as u64) else {
         return Ok(None);
     };
     let Some(name) = provider(alloc, name)? else {

@@ -10,13 +10,13 @@ use Rattle.ep_plan.proofs.WholeLines.{long, blank-line, worded, event-first, ste
 use Rattle.ep_plan.proofs.line.read_line.Goals as goal
 
 pub returns-then-is_blank-clause-read : goal.returns-then-is_blank-clause-read
-returns-then-is_blank-clause-read c = blank-line c.args.events.now c.args.stepped c.args.text.now c.if-text-gt262144.false (sym c.if-is_blank.ensures)
+returns-then-is_blank-clause-read c = blank-line c.args.events.now c.args.stepped c.args.text.now c.if-text-gt-LINE_BYTES.false (sym c.if-is_blank.ensures)
 
-pub returns-then-text-gt262144-clause-bad : goal.returns-then-text-gt262144-clause-bad
-returns-then-text-gt262144-clause-bad c = λ at column why e.
+pub returns-then-text-gt-LINE_BYTES-clause-bad : goal.returns-then-text-gt-LINE_BYTES-clause-bad
+returns-then-text-gt-LINE_BYTES-clause-bad c = λ at column why e.
     let line : at ≡ c.args.line = cc in
     let answer : bad_at 1 kind.Long ≡ bad_at column why = cc in
-    (line, long c.args.events.now c.args.stepped c.args.text.now c.if-text-gt262144.true ∙ ap Some answer)
+    (line, long c.args.events.now c.args.stepped c.args.text.now c.if-text-gt-LINE_BYTES.true ∙ ap Some answer)
 
 pub returns-in_err-first-clause-bad : goal.returns-in_err-first-clause-bad
 returns-in_err-first-clause-bad c = λ at column why e.
@@ -27,7 +27,7 @@ returns-in_err-first-clause-bad c = λ at column why e.
     let word : why ≡ kind.Word = told.1 in
     let answer : bad_at 1 kind.Word ≡ bad_at column why = cc in
     let empty = ap has_word (sym c.new-words.ensures.words) ∙ told.2 in
-    (bad.line_is ∙ c.new-words.ensures.line, empty-first c.args.events.now c.args.stepped c.args.text.now c.if-text-gt262144.false (sym c.if-is_blank.ensures) empty ∙ ap Some answer)
+    (bad.line_is ∙ c.new-words.ensures.line, empty-first c.args.events.now c.args.stepped c.args.text.now c.if-text-gt-LINE_BYTES.false (sym c.if-is_blank.ensures) empty ∙ ap Some answer)
 
 pub returns-in_err-index-clause-bad : goal.returns-in_err-index-clause-bad
 returns-in_err-index-clause-bad c = λ at column why e.
@@ -38,7 +38,7 @@ returns-in_err-index-clause-bad c = λ at column why e.
     let past : length c.args.text.now + 1 ≡ c.word.new.self.past = sym (took.past ∙ c.new-words.ensures.past) in
     let end = ap (λ p. event_bad c.args.events.now c.args.stepped p (left c.word.new.self)) past in (
       bad.0 ∙ took.line ∙ c.new-words.ensures.line,
-      worded c.args.events.now c.args.stepped c.args.text.now (first ∷ left c.word.new.self) c.if-text-gt262144.false (sym c.if-is_blank.ensures) (sym c.new-words.ensures.words ∙ took.words)
+      worded c.args.events.now c.args.stepped c.args.text.now (first ∷ left c.word.new.self) c.if-text-gt-LINE_BYTES.false (sym c.if-is_blank.ensures) (sym c.new-words.ensures.words ∙ took.words)
           ∙ event-first c.args.events.now c.args.stepped (length c.args.text.now + 1) first (left c.word.new.self) name ∙ end ∙ bad.1,
     )
 
@@ -55,7 +55,7 @@ returns-then-eq-clause-read c =
     let cut_rest = read.2 in
     let words : words_of c.args.text.now ≡ codes "event" ∷ read.0 ∷ read.1 = cc in
     record {
-      good = worded c.args.events.now c.args.stepped c.args.text.now (first ∷ left c.word.new.self) c.if-text-gt262144.false (sym c.if-is_blank.ensures) cut
+      good = worded c.args.events.now c.args.stepped c.args.text.now (first ∷ left c.word.new.self) c.if-text-gt-LINE_BYTES.false (sym c.if-is_blank.ensures) cut
           ∙ event-first c.args.events.now c.args.stepped (length c.args.text.now + 1) first (left c.word.new.self) name ∙ end ∙ c.in_ok-index.ensures.good;
       meaning = (read.0, read.1, sym c.if-is_blank.ensures, words, read.3, read.4);
     }
@@ -69,7 +69,7 @@ returns-in_err-read_step-clause-bad c = λ at column why e.
     let past : length c.args.text.now + 1 ≡ c.word.new.self.past = sym (took.past ∙ c.new-words.ensures.past) in
     let end = ap (λ p. step_bad p first (left c.word.new.self)) past in (
       bad.0 ∙ took.line ∙ c.new-words.ensures.line,
-      worded c.args.events.now c.args.stepped c.args.text.now (first ∷ left c.word.new.self) c.if-text-gt262144.false (sym c.if-is_blank.ensures) (sym c.new-words.ensures.words ∙ took.words)
+      worded c.args.events.now c.args.stepped c.args.text.now (first ∷ left c.word.new.self) c.if-text-gt-LINE_BYTES.false (sym c.if-is_blank.ensures) (sym c.new-words.ensures.words ∙ took.words)
           ∙ step-first c.args.events.now c.args.stepped (length c.args.text.now + 1) first (left c.word.new.self) name ∙ end ∙ bad.1,
     )
 
@@ -85,7 +85,7 @@ returns-clause-read c =
     let cut = sym c.new-words.ensures.words ∙ took.words in
     let spells : List (List ℕ) → Type 0 = λ words. Spells words c.in_ok-read_step.field-0 in
     record {
-      good = worded c.args.events.now c.args.stepped c.args.text.now (first ∷ left c.word.new.self) c.if-text-gt262144.false (sym c.if-is_blank.ensures) cut
+      good = worded c.args.events.now c.args.stepped c.args.text.now (first ∷ left c.word.new.self) c.if-text-gt-LINE_BYTES.false (sym c.if-is_blank.ensures) cut
           ∙ step-first c.args.events.now c.args.stepped (length c.args.text.now + 1) first (left c.word.new.self) name ∙ end ∙ read.good;
       meaning = (sym c.if-is_blank.ensures, subst spells (sym cut) read.read);
     }

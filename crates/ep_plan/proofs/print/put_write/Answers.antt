@@ -1,6 +1,6 @@
 use Rattle.std.proofs.Common.{◌<◌, ◌^◌, ℕ, List, [], ◌∷◌, ◌++◌, slice_index, ap, ◌∙◌, subst, arith}
 use Rattle.hex.specs.Hex.{IsBytes}
-use Rattle.ep_plan.specs.Words.{id_text, frames_text, payload_text}
+use Rattle.ep_plan.specs.Words.{space, id_text, frames_text, payload_text}
 use Rattle.ep_plan.proofs.Printed.{no-words, word-more}
 use Rattle.ep_plan.proofs.print.put_write.Goals as goal
 
@@ -13,8 +13,8 @@ returns-clause-text c =
     let f = frames_text write.frames in
     let one = word-more start start c.put_id_word.new.line.items [] a (no-words start) c.in_ok-put_id_word.ensures.text in
     let two = word-more start _ c.put_id_word-2.new.line.items (a ∷ []) r one c.in_ok-put_id_word-2.ensures.text in
-    let three = word-more start _ c.put_frames_word.new.line.items (a ∷ r ∷ []) f two (c.in_ok-put_frames_word.ensures.text ∙ ap (λ xs. c.put_id_word-2.new.line.items ++ 32 ∷ frames_text xs) c.as_slice.ensures) in
-    word-more start _ c.put_payload_word.new.line.items (a ∷ r ∷ f ∷ []) (payload_text write.payload) three (c.in_ok-put_payload_word.ensures.text ∙ ap (λ xs. c.put_frames_word.new.line.items ++ 32 ∷ payload_text xs) c.as_slice-2.ensures)
+    let three = word-more start _ c.put_frames_word.new.line.items (a ∷ r ∷ []) f two (c.in_ok-put_frames_word.ensures.text ∙ ap (λ xs. c.put_id_word-2.new.line.items ++ space ∷ frames_text xs) c.as_slice.ensures) in
+    word-more start _ c.put_payload_word.new.line.items (a ∷ r ∷ f ∷ []) (payload_text write.payload) three (c.in_ok-put_payload_word.ensures.text ∙ ap (λ xs. c.put_frames_word.new.line.items ++ space ∷ payload_text xs) c.as_slice-2.ensures)
 
 pub returns-clause-fits : goal.returns-clause-fits
 returns-clause-fits c =

@@ -1,10 +1,11 @@
 use Rattle.std.proofs.Common.{◌⊎◌, ◌+◌, ◌<◌, ◌≢◌, inl, inr, sym, ap, ◌∙◌, arith}
 use Rattle.std.proofs.lemmas.Result.{err_from_is_err_and}
+use Rattle.ep_defs.specs.declared.limits.TheConstants.{EVENTS}
 use Rattle.ep_plan.specs.declared.line.LineKind.TheVariants as kind
 use Rattle.ep_plan.specs.Lines.{Index, order_fault}
 use Rattle.ep_plan.proofs.Reading.{took-part, is-bad, through, order-good, order-bad}
 use Rattle.ep_plan.proofs.cursor.Cursor.index.Goals as goal
-use Rattle.ep_plan.proofs.cursor.Cursor.index.Goals.{then-index-defined-via-then-index-defined, then-index-defined-via-else-index-defined+then-index-gt1000}
+use Rattle.ep_plan.proofs.cursor.Cursor.index.Goals.{then-index-defined-via-then-index-defined, then-index-defined-via-else-index-defined+then-index}
 
 pub returns-in_err-word-clause-bad : goal.returns-in_err-word-clause-bad
 returns-in_err-word-clause-bad c = λ at column why e.
@@ -17,11 +18,11 @@ pub returns-then-index-defined-clause-bad : goal.returns-then-index-defined-clau
 returns-then-index-defined-clause-bad c =
     let next = c.args.defined + 1 in
     let index = c.in-Some.index in
-    let other : (index ≢ next) ⊎ (1000 < index) = elim c.then-index-defined.branch [ then-index-defined-via-then-index-defined w ↦ inl (λ e. absurd (omega arith)) | then-index-defined-via-else-index-defined+then-index-gt1000 w ↦ inr (omega arith) ] in
+    let other : (index ≢ next) ⊎ (EVENTS < index) = elim c.then-index-defined.branch [ then-index-defined-via-then-index-defined w ↦ inl (λ e. absurd (omega arith)) | then-index-defined-via-else-index-defined+then-index w ↦ inr (omega arith) ] in
     is-bad (Index next) _ _ _ _ _ kind.EventOrder c.in_ok-word.ensures.took (ap (order_fault next) (sym c.number.ensures ∙ c.in-Some.is) ∙ order-bad next index other) c.bad-then-index-defined.ensures c.column-column.ensures
 
 pub returns-clause-took : goal.returns-clause-took
 returns-clause-took c =
     let next = c.args.defined + 1 in
     let index = c.in-Some.index in
-    (c.in_ok-word.word.now, took-part (Index next) _ _ _ c.in_ok-word.ensures.took (ap (order_fault next) (sym c.number.ensures ∙ c.in-Some.is) ∙ order-good next index (omega arith) (omega arith)), sym c.number.ensures ∙ c.in-Some.is, omega arith, omega arith)
+    (c.in_ok-word.word.now, took-part (Index next) _ _ _ c.in_ok-word.ensures.took (ap (order_fault next) (sym c.number.ensures ∙ c.in-Some.is) ∙ order-good next index (omega arith) (omega arith)), sym c.number.ensures ∙ c.in-Some.is)

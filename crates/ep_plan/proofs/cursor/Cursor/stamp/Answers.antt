@@ -1,16 +1,9 @@
-use Rattle.std.proofs.Common.{sym, ap, ◌∙◌}
-use Rattle.std.proofs.lemmas.Result.{err_from_is_err_and}
-use Rattle.ep_plan.specs.declared.line.LineKind.TheVariants as kind
-use Rattle.ep_plan.specs.Lines.{Stamp, unless}
-use Rattle.ep_plan.proofs.Reading.{took-part, is-bad, through}
+use Rattle.std.proofs.Common.{rules, refl}
+use Rattle.ep_plan.specs.Lines.{Stamp, stamp_of}
 use Rattle.ep_plan.proofs.cursor.Cursor.stamp.Goals as goal
 
-pub returns-in_err-word-clause-bad : goal.returns-in_err-word-clause-bad
-returns-in_err-word-clause-bad c = λ at column why e.
-    c.in_err-word.ensures.bad at column why (through c.from_residual.result c.in_err-word.field-0.0 (err_from_is_err_and c.from_residual.result c.from_residual.ensures.1) at column why e) Stamp
+pub returns-clause-took : goal.returns-clause-took
+returns-clause-took c = c.part.ensures.took Stamp stamp_of (record { fault = λ word. refl; value = λ word result gives. search rules })
 
-pub returns-in-Some-clause-took : goal.returns-in-Some-clause-took
-returns-in-Some-clause-took c = (c.in_ok-word.word.now, took-part Stamp _ _ _ c.in_ok-word.ensures.took (ap (λ o. unless o kind.Number) (sym c.number.ensures ∙ c.in-Some.is)), sym c.number.ensures ∙ c.in-Some.is)
-
-pub returns-in-None-clause-bad : goal.returns-in-None-clause-bad
-returns-in-None-clause-bad c = is-bad Stamp _ _ _ _ _ kind.Number c.in_ok-word.ensures.took (ap (λ o. unless o kind.Number) (sym c.number.ensures ∙ c.in-None.is)) c.bad.ensures c.column-column.ensures
+pub returns-clause-bad : goal.returns-clause-bad
+returns-clause-bad c = c.part.ensures.bad Stamp stamp_of (record { fault = λ word. refl; value = λ word result gives. search rules })

@@ -4,7 +4,7 @@ use Rattle.ep_plan.specs.declared.line.LineKind.TheVariants.{Long}
 use Rattle.pt_cli.specs.declared.errors.Reason.TheVariants.{Line}
 use Rattle.pt_cli.specs.Schedule.{IsRefused}
 use Rattle.pt_cli.specs.Reading.{AreGoodSoFar}
-use Rattle.pt_cli.specs.declared.limits.TheConstants.{LINE_BYTES}
+use Rattle.ep_plan.specs.declared.limits.TheConstants.{LINE_BYTES}
 use Rattle.pt_cli.proofs.ReadSoFar.{is_some-false, so_far-good, good-so_far, read-byte, read-long}
 use Rattle.pt_cli.proofs.text.Reader.take_byte.Goals as goal
 
