@@ -1,0 +1,16 @@
+use Rattle.ep_model.specs.declared.step.Step.TheVariants as step
+use Rattle.ep_rows.specs.Rows.{told_of}
+use Rattle.ep_made.specs.Made.{ClosesOn}
+use Rattle.ep_stands.proofs.Sets.{set_off_slot}
+use Rattle.ep_stands.proofs.Sessions.{one_stands}
+use Rattle.ep_stands.proofs.Turns.{closed_now}
+use Rattle.ep_stands.proofs.laws.sessions_stand_after_a_close.Goals as goal
+
+pub returns : goal.returns
+returns c = λ events info past session thread old new h makes.
+    one_stands c.a_session_stands_through_other_steps.ensures events info (step.Close session thread) past old new session (ClosesOn old.events.items makes.row) h makes.one (λ n off. off)
+    (λ slot other. record {
+      slots = set_off_slot makes.row makes.one.was.slot _ (told_of old.rows).slot (told_of new.rows).slot makes.one.changes.told.slots slot other;
+      pool = makes.one.changes.told.pools slot;
+    })
+    (closed_now c.a_slot_follows_other_steps.ensures c.a_pool_follows_other_steps.ensures c.a_slot_has_the_marks_of_its_close.ensures c.a_closed_thread_is_marked.ensures c.entries_are_what_was_told.ensures.closed events info past session thread old new h makes)

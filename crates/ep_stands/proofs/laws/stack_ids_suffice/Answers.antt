@@ -1,0 +1,13 @@
+use Rattle.ep_model.specs.declared.step.Step.TheVariants as step
+use Rattle.ep_stands.proofs.Spent.{takes_enough, points_enough, ends_enough}
+use Rattle.ep_stands.proofs.laws.stack_ids_suffice.Goals as goal
+
+pub returns : goal.returns
+returns c =
+    let limited = c.lawful_lists_are_limited.ensures.begins in
+    record {
+      steal = λ events info past session thread tables h. takes_enough limited events info (step.Steal session thread) past session thread tables h;
+      close = λ events info past session thread tables h. takes_enough limited events info (step.Close session thread) past session thread tables h;
+      point = λ events info past session stamp tables h. points_enough limited events info (step.Point session stamp) past session stamp tables h;
+      end = λ events info past session stamp tables end h. ends_enough limited events info (step.Finish session stamp) past session stamp tables end h;
+    }
