@@ -1,5 +1,5 @@
 -- The writes that threads are in are those that they began last.
-use Rattle.std.proofs.Common.{◌≡◌, ℕ, ◌-◌, true, List, ◌∷◌, length, Option, Some, refl, ap, sym, ◌∙◌, subst, arith, if◌then◌else◌, set}
+use Rattle.std.proofs.Common.{◌≡◌, ℕ, ◌-◌, true, List, [], ◌∷◌, length, Option, Some, refl, ap, sym, ◌∙◌, subst, arith, if◌then◌else◌, set}
 use Rattle.std.specs.Prelude.{slice_get}
 use Rattle.std.proofs.lemmas.Bool.{false≢true}
 use Rattle.ep_defs.specs.declared.event.EventDef.{EventDef}
@@ -21,7 +21,7 @@ use Rattle.ep_judge.specs.declared.tables.Tables.{Tables}
 use Rattle.ep_judge.specs.Tables.{TablesFollow, row_of}
 use Rattle.ep_judge.proofs.Found.{row_found}
 use Rattle.ep_kept.specs.Kept.{IsLast}
-use Rattle.ep_made.specs.Made.{MakesAccept, MakesEnter, MakesLeave, MakesOpen, MakesBegin, MakesShow, MakesEnd, MakesSteal, MakesGive, MakesPoint, MakesClose, MakesFinish}
+use Rattle.ep_made.specs.Made.{MakesAccept, MakesEnter, MakesLeave, MakesOpen, MakesBegin, MakesShow, MakesEnd, MakesSteal, MakesGive, MakesPoint, MakesClose, MakesFinish, IsStart}
 use Rattle.ep_made.proofs.Follow.{each_row, own_row}
 use Rattle.ep_rests.specs.Rests.{AreAtRest, AreBegun}
 use Rattle.ep_rests.proofs.Lists.{get-set_same, get-set_other}
@@ -149,6 +149,12 @@ accept_begun past session config info old new begun m = begun_same past (step.Ac
 
 pub finish_begun : (past : Past) (session stamp : ℕ) (old new : Tables) (begun : List (Option Write)) → MakesFinish session old new → AreBegun past (told_of old.rows) begun → AreBegun (step.Finish session stamp ∷ past) (told_of new.rows) begun
 finish_begun past session stamp old new begun m = begun_same past (step.Finish session stamp) (told_of old.rows) (told_of new.rows) begun (λ t. refl) m.rows.rows
+
+-- ---- the start
+
+pub start_begun : (events : List EventDef) (tables : Tables) (begun : List (Option Write)) → IsStart events tables → AreBegun [] (told_of tables.rows) begun
+start_begun events tables begun start =
+    record { kept = λ r is_row writing. absurd (false≢true (sym (ap (λ (R : RowState). R.in_write) (start.rows.rows r is_row)) ∙ writing)) }
 
 -- ---- what is kept
 

@@ -1,5 +1,5 @@
--- All stay at rest where a write begins, and where threads and sessions come and go.
-use Rattle.std.proofs.Common.{◌≡◌, ℕ, true, false, inl, inr, List, [], ◌∷◌, ◌++◌, Some, refl, ap, sym, ◌∙◌, subst, if◌then◌else◌}
+-- All stay at rest where a write begins, and where threads and sessions come and go; and they are at rest at the start.
+use Rattle.std.proofs.Common.{◌≡◌, ℕ, true, false, inl, inr, List, [], ◌∷◌, ◌++◌, length, Some, None, refl, ap, sym, ◌∙◌, subst, if◌then◌else◌}
 use Rattle.std.specs.Prelude.{is_some, ◌==◌}
 use Rattle.std.specs.List.{list_any, AllByRecursion}
 use Rattle.std.proofs.lemmas.Bool.{eqb-true, eq-eqb, cases_eq, false≢true}
@@ -21,7 +21,7 @@ use Rattle.ep_judge.specs.Tables.{TablesFollow, has_slot, number_of}
 use Rattle.ep_judge.proofs.Found.{list_any-map}
 use Rattle.ep_judge.proofs.Lists.{has, eqb_turn}
 use Rattle.ep_judge.proofs.Slots.{is_false}
-use Rattle.ep_made.specs.Made.{MakesAccept, MakesEnter, MakesBegin, MakesFinish}
+use Rattle.ep_made.specs.Made.{MakesAccept, MakesEnter, MakesBegin, MakesFinish, IsStart}
 use Rattle.ep_made.proofs.Entering.{none_at}
 use Rattle.ep_made.proofs.Follow.{each_row, own_row}
 use Rattle.ep_made.proofs.Slots.{free_slot}
@@ -181,3 +181,19 @@ finish_rests events past session stamp old new m rest =
       kept = subst (AllByRecursion (IsKept rest.configs)) (sym m.sessions) (All-removed (IsKept rest.configs) old.present.items m.place m.was m.stands.there rest.kept);
     })
     (λ r at. rests_as events rest.configs (before.row r) (after.row r) (m.rows.rows r)) (λ r s at slot is. rest.slots r s at slot (sym (m.rows.slots r s) ∙ is))
+
+-- ---- the start
+
+pub start_rests : (events : List EventDef) (tables : Tables) → IsStart events tables → AreAtRest events [] tables
+start_rests events tables start =
+    let any : Config = record { rules = []; chunks = 0; stackwalk = false; rundown = false } in
+    let configs : ℕ → Config = λ slot. any in
+    record {
+      configs = configs;
+      configured = subst (AllByRecursion (IsConfigured configs [])) (sym start.present) tt;
+      kept = subst (AllByRecursion (IsKept configs)) (sym start.present) tt;
+      rows = λ r is_row. start.rows.rest r is_row events configs (ap length (sym start.known) ∙ sym (tables.rows.masks r is_row));
+      slots = λ r s is_row slot is.
+          let none : None ≡ Some slot = sym (start.rows.slots r s) ∙ is in
+          absurd (cc);
+    }

@@ -15,8 +15,18 @@ ghost use Rattle.ep_judge.specs.declared.tables.Tables.{Tables};
 ghost use Rattle.ep_judge.specs.Tables.{TablesFollow, row_of};
 ghost use Rattle.ep_kept.specs.Kept.{IsLast};
 ghost use Rattle.ep_made.specs.Given.{RowsRest};
-ghost use Rattle.ep_made.specs.Made.{MakesAccept, MakesEnter, MakesLeave, MakesOpen, MakesBegin, MakesShow, MakesEnd, MakesSteal, MakesGive, MakesPoint, MakesClose, MakesFinish};
+ghost use Rattle.ep_made.specs.Made.{MakesAccept, MakesEnter, MakesLeave, MakesOpen, MakesBegin, MakesShow, MakesEnd, MakesSteal, MakesGive, MakesPoint, MakesClose, MakesFinish, IsStart};
 ghost use Rattle.ep_rests.specs.Rests.{AreAtRest, AreBegun};
+
+// ---- the start
+
+/// Each row is new, and over no writes it is at rest with any configurations; no thread is in a write.
+pub fn all_rest_at_the_start()
+    ensures rest { (events : List EventDef) (tables : Tables)
+        → IsStart events tables → AreAtRest events [] tables }
+    ensures begun { (events : List EventDef) (tables : Tables) (begun : List (Option Write))
+        → IsStart events tables → AreBegun [] (told_of tables.rows) begun }
+{}
 
 // ---- steps of threads
 

@@ -8,7 +8,7 @@
 //! last, and on ep_model, which says what the steps so far have come to. `specs/Rests` says when all are at rest, and when
 //! the writes that are kept are right.
 //!
-//! Its one contract: the laws of these definitions, in `laws`, for each step. No code runs here.
+//! Its one contract: the laws of these definitions, in `laws`, for the start and for each step. No code runs here.
 #![tactic(auto)]
 
 pub mod laws;

@@ -1,5 +1,6 @@
 //! What the tables have of each session stays what the steps so far say, by the definitions of `specs/`.
-ghost use Rattle.std.specs.Prelude.{◌≡◌, ◌≢◌, ℕ, false, List, [], ◌∷◌};
+ghost use Rattle.std.specs.Prelude.{◌≡◌, ◌≢◌, ℕ, false, List, [], ◌∷◌, Some};
+ghost use Rattle.ep_defs.specs.declared.limits.TheConstants.{THREADS};
 ghost use Rattle.ep_defs.specs.declared.event.EventDef.{EventDef};
 ghost use Rattle.ep_defs.specs.declared.session.Config.{Config};
 ghost use Rattle.ep_defs.specs.declared.session.TraceInfo.{TraceInfo};
@@ -12,6 +13,7 @@ ghost use Rattle.ep_model.specs.Entries.{entries};
 ghost use Rattle.ep_model.specs.History.{Past};
 ghost use Rattle.ep_model.specs.Lawful.{IsLawful};
 ghost use Rattle.ep_model.specs.Marks.{marks_of};
+ghost use Rattle.ep_stream.specs.Rows.{IsRow};
 ghost use Rattle.ep_stream.specs.Steps.{ToldRows};
 ghost use Rattle.ep_stream.specs.Session.{rest_of};
 ghost use Rattle.ep_stream.specs.declared.session.SessionEnd.{SessionEnd};
@@ -19,7 +21,9 @@ ghost use Rattle.ep_stream.specs.declared.session.Fate.TheVariants.{ProgramEnd, 
 ghost use Rattle.ep_rows.specs.Rows.{told_of};
 ghost use Rattle.ep_judge.specs.declared.tables.Present.{Present};
 ghost use Rattle.ep_judge.specs.declared.tables.Tables.{Tables};
-ghost use Rattle.ep_made.specs.Made.{MakesAccept, MakesEnter, MakesLeave, MakesOpen, MakesBegin, MakesShow, MakesEnd, MakesSteal, MakesGive, MakesPoint, MakesClose, MakesFinish, CanTake, RunsOut, PointRunsOut, EndsAs, IsStart};
+ghost use Rattle.ep_judge.specs.Tables.{row_of};
+ghost use Rattle.ep_made.specs.Given.{PendingFollows};
+ghost use Rattle.ep_made.specs.Made.{MakesAccept, MakesEnter, MakesLeave, MakesOpen, MakesBegin, MakesShow, MakesEnd, MakesSteal, MakesGive, MakesPoint, MakesClose, MakesFinish, CanTake, RunsOut, PointRunsOut, EndsAs, IsStart, StandsAt};
 ghost use Rattle.ep_kept.specs.Kept.{IsLast};
 ghost use Rattle.ep_stands.specs.Stands.{SessionStands, SessionsStand, is_for, KeepsSlot, StandBefore};
 
@@ -194,6 +198,14 @@ pub fn a_session_ends_with_its_entries()
     the_last_marks_are_all();
     entries_are_what_was_told();
 }
+
+/// What a session has pending on a thread's row is what its budget counts of the thread.
+pub fn what_is_pending_is_counted()
+    ensures { (events : List EventDef) (info : TraceInfo) (step : Step) (past : Past) (session thread row place : ℕ)
+        (present : Present) (tables : Tables) → StandBefore events info step past tables
+        → IsRow THREADS row → row_of tables thread ≡ Some row → StandsAt session tables place present
+        → PendingFollows past session thread (told_of tables.rows) row present.slot }
+{}
 
 /// A session can take the write that is due to it.
 pub fn a_due_write_can_be_taken()
