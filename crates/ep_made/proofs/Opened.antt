@@ -1,19 +1,16 @@
 -- A session that made a step still has its slot and number, is expected by the rows, and knows each thread on which it was opened.
 use Rattle.std.proofs.Common.{◌≡◌, ℕ, zero, suc, ◌+◌, ◌<◌, Bool, true, false, List, [], ◌∷◌, Option, None, Some, inl, inr, refl, ap, sym, ◌∙◌, subst, arith, cond}
-use Rattle.std.specs.Prelude.{◌==◌, ◌⊎◌, ◌||◌, if◌then◌else◌, is_some, nat_lt, slice_get}
-use Rattle.std.specs.BTreeMap.{BTreeMap, get, is_at, btree_map_len}
+use Rattle.std.specs.Prelude.{◌==◌, ◌||◌, if◌then◌else◌, is_some, nat_lt, slice_get}
+use Rattle.std.specs.BTreeMap.{get, is_at, btree_map_len}
 use Rattle.std.specs.Ordering.{nat_cmp, is_eq}
 use Rattle.std.specs.declared.cmp.Ordering.TheVariants.{Less, Equal, Greater}
 use Rattle.std.proofs.lemmas.Bool.{eq-eqb, eqb-true, ltb-true, ne_eqb}
-use Rattle.ep_defs.specs.declared.session.Config.{Config}
 use Rattle.ep_defs.specs.declared.session.Marks.{Marks}
-use Rattle.pt_io.specs.Memory.{SinkState}
 use Rattle.ep_slot.specs.Hand.{HandState}
 use Rattle.ep_stream.specs.declared.session.Session.{Session}
 use Rattle.ep_stream.specs.declared.session.Seat.{Seat}
 use Rattle.ep_stream.specs.Named.{insert_by, with_marks}
-use Rattle.ep_stream.specs.Rows.{hand_after}
-use Rattle.ep_stream.specs.Session.{Rest, rest_of, hand_on, opened_count, fault_of, WasOpened, AreRowsOf, SetsHand, SameHands}
+use Rattle.ep_stream.specs.Session.{rest_of, hand_on, opened_count, fault_of, WasOpened, AreRowsOf, SetsHand}
 use Rattle.ep_rows.specs.declared.rows.Rows.{Rows}
 use Rattle.ep_rows.specs.Rows.{configured_in, expected_in, out_in}
 use Rattle.ep_judge.specs.declared.tables.Present.{Present}

@@ -1,8 +1,8 @@
 -- Lists of sessions that are present, of which no two have the same slot.
 use Rattle.std.proofs.Common.{◌≡◌, ℕ, zero, suc, Bool, true, false, List, [], ◌∷◌, Some, refl, ap, sym, ◌∙◌, subst}
-use Rattle.std.specs.Prelude.{◌&&◌, ◌||◌, not, slice_get, slice_set, ◌==◌}
+use Rattle.std.specs.Prelude.{◌||◌, slice_get, slice_set, ◌==◌}
 use Rattle.std.specs.List.{remove, AllByRecursion}
-use Rattle.std.proofs.lemmas.Bool.{eqb-true, eq-eqb, ne_eqb}
+use Rattle.std.proofs.lemmas.Bool.{eq-eqb}
 use Rattle.ep_judge.specs.declared.tables.Present.{Present}
 use Rattle.ep_judge.specs.Tables.{has_slot}
 use Rattle.ep_made.specs.Tied.{HaveOwnSlots}

@@ -1,10 +1,9 @@
 -- What a session's call told, and where it ran out of stack ids.
-use Rattle.std.proofs.Common.{◌≡◌, ℕ, true, List, ◌++◌, Result, Ok, Err, refl, ap, subst}
+use Rattle.std.proofs.Common.{◌≡◌, true, List, ◌++◌, Result, Ok, Err, refl, ap, subst}
 use Rattle.std.specs.Prelude.{OnOk}
 use Rattle.std.specs.Result.{IsErrAnd}
 use Rattle.ep_defs.specs.Definitions.{definition_at}
 use Rattle.ep_defs.specs.declared.event.EventDef.{EventDef}
-use Rattle.ep_defs.specs.declared.session.TraceInfo.{TraceInfo}
 use Rattle.ep_defs.specs.Entry.{Entry}
 use Rattle.pt_io.specs.Memory.{SinkState}
 use Rattle.nt_write.specs.declared.fault.Fault.{Fault}

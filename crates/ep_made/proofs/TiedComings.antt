@@ -1,5 +1,5 @@
 -- The first tables are tied, and tables stay so where a session comes or goes.
-use Rattle.std.proofs.Common.{◌≡◌, ℕ, zero, suc, length, Bool, true, false, List, [], ◌∷◌, Option, None, Some, inl, inr, refl, ap, sym, ◌∙◌, subst, suc-le-suc, zero-le, if◌then◌else◌, arith, ◌<◌}
+use Rattle.std.proofs.Common.{◌≡◌, ℕ, zero, suc, length, Bool, true, false, List, ◌∷◌, Option, None, Some, inl, inr, refl, ap, sym, ◌∙◌, subst, suc-le-suc, zero-le, if◌then◌else◌, arith, ◌<◌}
 use Rattle.std.specs.Prelude.{◌==◌, ◌||◌, nat_le, option_map, replicate, slice_get}
 use Rattle.std.specs.List.{remove, AllByRecursion}
 use Rattle.std.specs.BTreeMap.{btree_map_len}
@@ -9,15 +9,14 @@ use Rattle.ep_defs.specs.declared.session.Config.{Config}
 use Rattle.ep_table.specs.Sessions.{Sessions, holds, is_held, held_count, accepted_by, after_accept, after_free}
 use Rattle.ep_table.specs.declared.table.Accepted.TheVariants.{Seat as SeatAt}
 use Rattle.ep_table.specs.declared.table.Seat.{Seat as TableSeat}
-use Rattle.ep_slot.specs.Slot.{SlotState}
-use Rattle.ep_slot.specs.Hand.{HandState, hand_of}
+use Rattle.ep_slot.specs.Hand.{hand_of}
 use Rattle.ep_row.specs.Row.{opening_of, slot_of}
 use Rattle.ep_stream.specs.declared.session.Seat.{Seat}
 use Rattle.ep_stream.specs.Rows.{IsRow, IsSame}
 use Rattle.ep_stream.specs.Session.{Rest, rest_of, new_rest, hand_on, opened_count, fault_of}
 use Rattle.ep_rows.specs.declared.opened.Open.{Open}
 use Rattle.ep_rows.specs.declared.rows.Rows.{Rows}
-use Rattle.ep_rows.specs.Rows.{told_of, definitions_of, expected_in, configured_in, out_in, ClearsSlot}
+use Rattle.ep_rows.specs.Rows.{told_of, definitions_of, expected_in, out_in, ClearsSlot}
 use Rattle.ep_rows.specs.Told.{open_at, slot_in}
 use Rattle.ep_rows.specs.Outside.{none_outside}
 use Rattle.ep_judge.specs.declared.tables.Present.{Present}
@@ -25,7 +24,7 @@ use Rattle.ep_judge.specs.declared.tables.Tables.{Tables}
 use Rattle.ep_judge.specs.Tables.{has_slot}
 use Rattle.ep_made.specs.Tied.{CanBeTold, IsTied, HaveOwnSlots, AreTied}
 use Rattle.ep_made.proofs.Lists.{any-remove, length-remove}
-use Rattle.ep_made.proofs.Slots.{free_slot, accept_held, accept_count, accept_seats, seated, slots_distinct, gone_slot, free_held, free_count}
+use Rattle.ep_made.proofs.Slots.{free_slot, accept_held, accept_count, accept_seats, slots_distinct, gone_slot, free_held, free_count}
 use Rattle.ep_made.proofs.Present.{has_own, all_others, all_removed, own_removed}
 use Rattle.ep_made.proofs.Ties.{KeepsSlot, tied_stays, none_open}
 

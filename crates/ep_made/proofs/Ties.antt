@@ -1,14 +1,13 @@
 -- Sessions and rows that know of each other still do after a step.
 use Rattle.std.proofs.Common.{◌≡◌, ℕ, Bool, true, false, List, [], ◌∷◌, length, Option, None, Some, refl, ap, sym, ◌∙◌, subst}
 use Rattle.std.specs.Prelude.{◌==◌, ◌&&◌, if◌then◌else◌, option_map, slice_get, slice_set}
-use Rattle.std.specs.List.{remove, AllByRecursion}
+use Rattle.std.specs.List.{AllByRecursion}
 use Rattle.std.proofs.Math.ListN.{length-set}
 use Rattle.std.proofs.lemmas.Bool.{eqb-true}
 use Rattle.ep_table.specs.Sessions.{Sessions, is_held, held_count}
 use Rattle.ep_slot.specs.Slot.{SlotState}
 use Rattle.ep_slot.specs.Hand.{HandState, hand_of}
 use Rattle.ep_stream.specs.Rows.{IsSetAt, IsSame, KeepsSlots}
-use Rattle.ep_stream.specs.Session.{rest_of}
 use Rattle.ep_rows.specs.declared.rows.Rows.{Rows}
 use Rattle.ep_rows.specs.Rows.{told_of, definitions_of, configured_in, expected_in, out_in, KeepsOpen}
 use Rattle.ep_rows.specs.Shows.{shown_slot}

@@ -1,4 +1,4 @@
-use Rattle.std.proofs.Common.{List, refl, ap, sym, ◌∙◌}
+use Rattle.std.proofs.Common.{refl, ap}
 use Rattle.ep_stream.specs.Session.{Rest}
 use Rattle.ep_made.specs.Made.{Points}
 use Rattle.ep_made.proofs.Telling.{ok_with, from_ok, tells_in, spent_in}

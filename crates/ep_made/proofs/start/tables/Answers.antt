@@ -1,4 +1,4 @@
-use Rattle.std.proofs.Common.{refl, ap, sym, ◌∙◌, subst, length}
+use Rattle.std.proofs.Common.{ap, sym, ◌∙◌, subst, length}
 use Rattle.std.specs.List.{AllByRecursion}
 use Rattle.ep_table.specs.Sessions.{is_held, held_count}
 use Rattle.ep_judge.specs.Tables.{has_slot}
