@@ -45,7 +45,7 @@ pub fn plain<I: Source, O: Sink>(
     // Words that are neither.
     ensures words { result.status ≡ 2 → (AreReading (map string_bytes words.now) → ⊥)
         × TookAll O.tells_taken O.taken output.old output.new words_error × (input.new ≡ input.old) }
-    ensures words_refused { (AreReading (map string_bytes words.now) → ⊥) → (result.status ≡ 2) ⊎ (result.status ≡ 5) }
+    ensures words_refused { (AreReading (map string_bytes words.now) → ⊥) → (result.status ≡ 2) ⊎ (result.status ≡ 5) ⊎ (result.status ≡ 9) }
 
     // An input that is no schedule, or does not finish the session.
     ensures refused { (session : ℕ) → IsReplay (map string_bytes words.now) session → result.status ≡ 3 → (bytes : List ℕ) × (text : List ℕ)
@@ -91,7 +91,10 @@ pub fn plain<I: Source, O: Sink>(
             at: end.at,
         };
     }
-    let Some(session) = session_of(words) else {
+    let Ok(asked) = session_of(alloc, words) else {
+        return ended_with(9);
+    };
+    let Some(session) = asked else {
         return say(output, b"error: words\n", 2);
     };
     match read_all(alloc, input) {

@@ -1,24 +1,27 @@
 //! The words of the command line.
-ghost use Rattle.std.specs.Prelude.{◌≡◌, ◌↔◌, ℕ, map, IsTrue, IfSome, IfNone};
+ghost use Rattle.std.specs.Prelude.{◌≡◌, ◌↔◌, ℕ, map, IsTrue, IfOk, IfSome, IfNone};
 ghost use Rattle.std.specs.String.{string_bytes};
 ghost use Rattle.pt_cli.specs.Words.{IsReplay, IsReport, IsSession};
 
 use ep_plan::number;
+use pt_words::session_text;
+use std::alloc::{AllocError, Global};
 
 /// The session whose stream the words ask for, where they are `replay` with a session or without one.
-pub(crate) fn session_of(words: &[String]) -> Option<u32>
-    ensures some { IfSome result (IsReplay (map string_bytes words.now)) }
-    ensures none { IfNone result ((session : ℕ) → IsReplay (map string_bytes words.now) session → ⊥) }
+pub(crate) fn session_of(alloc: Global, words: &[String]) -> Result<Option<u32>, AllocError>
+    ensures some { IfOk result (λ answer. IfSome answer (IsReplay (map string_bytes words.now))) }
+    ensures none { IfOk result (λ answer. IfNone answer ((session : ℕ) → IsReplay (map string_bytes words.now) session → ⊥)) }
 {
-    match words {
-        [command] if is_word(command, "replay") => Some(1),
-        [command, option] if is_word(command, "replay") => {
-            session(option.as_bytes().strip_prefix(b"--session=")?)
-        }
-        [command, option, digits] if is_word(command, "replay") && is_word(option, "--session") => {
-            session(digits.as_bytes())
-        }
-        _ => None,
+    let [command, rest @ ..] = words else {
+        return Ok(None);
+    };
+    if !is_word(command, "replay") {
+        return Ok(None);
+    }
+    match session_text(alloc, rest)? {
+        Some(None) => Ok(Some(1)),
+        Some(Some(digits)) => Ok(session(digits.as_bytes())),
+        None => Ok(None),
     }
 }
 

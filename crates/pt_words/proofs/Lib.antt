@@ -1,2 +1,4 @@
 mod Walks
 mod Read
+mod SessionWalk
+mod SessionWords

@@ -19,7 +19,7 @@ use Rattle.pt_words.specs.Matches.{IsRead}
 use Rattle.pt_words.proofs.Walks.{one_rule, two_rule, rest_rule, shape_with, start, after_one, after_two, after_rest, walked-one, walked-two, walked-rest, taken-one, taken-two, taken-rest, over-one, over-two, faults-on, faults-here, no-first, no-later, walked-all, taken-all}
 
 -- The faults of a whole parse, by those of the walk and where it ends.
-abbrev faults : App → Kinds → Walk → Kinds
+abbrev pub faults : App → Kinds → Walk → Kinds
 faults app walking end =
     or_else walking
     (or_else (entered_fault app end.stopped)

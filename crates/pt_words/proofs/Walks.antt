@@ -6,6 +6,7 @@ use Rattle.clap.specs.Walk.{Text, Rule, Walk, idle, positional, walk_from, walke
 use Rattle.clap.specs.Simple.{Shape, new_shape, filled, with_index}
 use Rattle.clap.specs.Faults.{turn_fault, walk_fault}
 use Rattle.clap.specs.Kinds.{or_else}
+use Rattle.clap.specs.declared.error.kind.ErrorKind.{ErrorKind}
 use Rattle.clap.specs.declared.error.kind.ErrorKind.TheVariants as kind
 use Rattle.clap.proofs.OnLiterals.{clap_on_literals}
 use Rattle.pt_words.specs.Words.{is_option, has_option}
@@ -127,10 +128,10 @@ unfolding walk_fault
 faults-on s w after word more taken next = ap₂ (λ kinds v. or_else kinds (walk_fault s [] v more)) taken next
 
 -- A word that is refused ends it.
-pub faults-here : (s : Shape) (w : Walk) (word : Text) (more : List Text) → turn_fault s [] w word ≡ kind.UnknownArgument ∷ []
-    → walk_fault s [] w (word ∷ more) ≡ kind.UnknownArgument ∷ []
+pub faults-here : {k : ErrorKind} (s : Shape) (w : Walk) (word : Text) (more : List Text) → turn_fault s [] w word ≡ k ∷ []
+    → walk_fault s [] w (word ∷ more) ≡ k ∷ []
 unfolding walk_fault
-faults-here s w word more refused = ap (λ kinds. or_else kinds (walk_fault s [] (walked s.rules [] w word) more)) refused
+faults-here {k} s w word more refused = ap (λ kinds. or_else kinds (walk_fault s [] (walked s.rules [] w word) more)) refused
 
 pub no-first : (a b : Bool) → (a || b) ≡ false → a ≡ false
 no-first false b other = refl

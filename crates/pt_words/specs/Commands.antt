@@ -27,3 +27,9 @@ two_app = with_rule one_app (position_rule (codes "two"))
 
 abbrev pub several_app : App
 several_app = with_rule two_app several_rule
+
+abbrev pub session_rule : Rule
+session_rule = record (new_rule (codes "session")) { long = Some (codes "session") }
+
+abbrev pub session_app : App
+session_app = with_rule plain_command session_rule

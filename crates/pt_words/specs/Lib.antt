@@ -1,4 +1,5 @@
 -- What words are as texts, and what `clap` is asked.
 pub mod Words
+pub mod Session
 pub mod Commands
 pub mod Matches

@@ -1,7 +1,7 @@
 //! The commands that `clap` is given. None has help, a version or a name before its words.
 ghost use Rattle.std.specs.Prelude.{◌≡◌, IfOk, false};
 ghost use Rattle.clap.specs.Words.{app_of, rule_of};
-ghost use Rattle.pt_words.specs.Commands.{plain_command, position_rule, several_rule, one_app, two_app, several_app};
+ghost use Rattle.pt_words.specs.Commands.{plain_command, position_rule, several_rule, one_app, two_app, several_app, session_app};
 
 use clap::{Arg, ArgAction, Command};
 use std::alloc::{AllocError, Global};
@@ -25,6 +25,13 @@ pub(crate) fn several_positions<'a>(alloc: Global) -> Result<Command<'a>, AllocE
     ensures { IfOk result (λ command. app_of command ≡ several_app) }
 {
     two_positions(alloc)?.arg(several(alloc))
+}
+
+/// The option `--session`, which has one text.
+pub(crate) fn session_option<'a>(alloc: Global) -> Result<Command<'a>, AllocError>
+    ensures { IfOk result (λ command. app_of command ≡ session_app) }
+{
+    plain_command(alloc).arg(Arg::new(alloc, "session").long("session"))
 }
 
 // No positions.

@@ -2,14 +2,16 @@
 //!
 //! It stands on clap alone. What a text means, a number or a rule, is for those above to say.
 //!
-//! Its one contract: which words have which texts is a function of the words (`specs/Words`), whatever the words are.
+//! Its one contract: which words have which texts is a function of the words (`specs/Words`, `specs/Session`), whatever the words are.
 #![tactic(auto)]
 
 mod commands;
 mod matches;
 mod positions;
+mod session;
 
 pub use positions::{Several, one_text, several_texts, two_texts};
+pub use session::session_text;
 
 #[cfg(test)]
 mod tests;

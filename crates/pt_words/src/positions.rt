@@ -93,7 +93,8 @@ fn has_option(words: &[String]) -> bool
     words.iter().any(|word| is_option(word))
 }
 
-fn is_option(word: &String) -> bool
+/// Whether the word begins with `-`.
+pub(crate) fn is_option(word: &String) -> bool
     ensures { result ≡ is_option (string_bytes word.now) }
 {
     match word.as_bytes() {

@@ -1,6 +1,26 @@
-use crate::{one_text, several_texts, two_texts};
+use crate::{one_text, session_text, several_texts, two_texts};
 use std::alloc::Global;
 use std::test::Fail;
+
+// Words that are not the option once with its text.
+const OTHERS: [&str; 16] = [
+    "7",
+    "",
+    "--session",
+    "--session -7",
+    "--session --",
+    "-- --session=7",
+    "--session --session=7",
+    "--session 7 8",
+    "--session=7 8",
+    "--session=7 --session",
+    "--session=7 --session=7",
+    "--session 7 --session 7",
+    "--session=7 --session 7 --session=7",
+    "--sess 7",
+    "-session=7",
+    "--sessions=7",
+];
 
 fn owned(alloc: Global, words: &str) -> Result<Vec<String>, Fail> {
     let mut owned = Vec::new(alloc);
@@ -38,6 +58,32 @@ fn a_word_that_begins_with_a_hyphen_is_refused(rt: HostRuntime) -> Result<(), Fa
     for word in ["-", "--", "-1", "--help", "-V"] {
         let words = owned(alloc, word)?;
         assert!(rt; one_text(alloc, &words)?.is_none());
+    }
+    Ok(())
+}
+
+#[test]
+fn the_session_is_behind_its_option(rt: HostRuntime) -> Result<(), Fail> {
+    let alloc = rt.alloc();
+    let none = Vec::new(alloc);
+    assert_eq!(rt; session_text(alloc, &none)?, Some(None));
+    for words in ["--session 7", "--session=7"] {
+        let words = owned(alloc, words)?;
+        assert_eq!(rt; session_text(alloc, &words)?, Some(Some("7")));
+    }
+    let bare = owned(alloc, "--session=")?;
+    assert_eq!(rt; session_text(alloc, &bare)?, Some(Some("")));
+    let equals = owned(alloc, "--session==")?;
+    assert_eq!(rt; session_text(alloc, &equals)?, Some(Some("=")));
+    Ok(())
+}
+
+#[test]
+fn other_words_than_the_option_are_refused(rt: HostRuntime) -> Result<(), Fail> {
+    let alloc = rt.alloc();
+    for words in OTHERS {
+        let words = owned(alloc, words)?;
+        assert!(rt; session_text(alloc, &words)?.is_none());
     }
     Ok(())
 }
