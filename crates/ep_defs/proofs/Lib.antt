@@ -1,3 +1,3 @@
 pub mod Sameness
 pub mod Fitting
-mod Units
+pub mod Units

@@ -4,11 +4,11 @@
 //! calls its law here; it reads the numbers and does nothing.
 ghost use Rattle.std.specs.Prelude.{◌^◌, ◌<◌, All, IsTrue};
 ghost use Rattle.ep_defs.specs.Event.{is_valid_event};
-ghost use Rattle.ep_defs.specs.Ranges.{AreBytes, AreUnits, EventFits, WriteFits};
+ghost use Rattle.ep_defs.specs.Ranges.{AreBytes, AreUnits, ConfigFits, EventFits, RuleFits, WriteFits};
 ghost use Rattle.ep_defs.specs.Session.{is_info};
 
 use crate::event::EventDef;
-use crate::session::{TraceInfo, Write};
+use crate::session::{Config, Rule, TraceInfo, Write};
 
 /// Bytes have 8 bits.
 pub fn bytes_fit(bytes: &[u8])
@@ -39,6 +39,25 @@ pub fn event_fits(def: &EventDef)
     let _version = def.version;
     let _level = def.level;
     let _keywords = def.keywords;
+}
+
+/// The numbers of a rule fit their types.
+pub fn rule_fits(rule: &Rule)
+    ensures { RuleFits rule.now }
+{
+    units_fit(rule.name.as_slice());
+    let _keywords = rule.keywords;
+    let _level = rule.level;
+}
+
+/// The numbers of a configuration and of its rules fit their types.
+pub fn config_fits(config: &Config)
+    ensures { ConfigFits config.now }
+{
+    let _chunks = config.chunks;
+    for rule in config.rules.as_slice() {
+        rule_fits(rule);
+    }
 }
 
 /// The numbers of a write fit their types, and its ids have 16 bytes.

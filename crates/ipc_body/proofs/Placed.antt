@@ -3,13 +3,11 @@ use Rattle.std.proofs.Common.{◌≡◌, ℕ, ◌+◌, ◌-◌, ◌*◌, ◌≤�
 use Rattle.std.specs.Int.{Width, w64, byte_len}
 use Rattle.std.specs.List.{slice_range}
 use Rattle.pt_num.specs.Fields.{Field, Short, fixed_at, bytes_at, text_c_at}
-use Rattle.pt_num.specs.Texts as num
-use Rattle.ep_defs.specs.Text as defs
+use Rattle.ep_defs.specs.Text.{units_in}
 use Rattle.ipc_body.specs.declared.reply.Reply.TheVariants as reply
 use Rattle.ipc_body.specs.declared.reply.ReplyFault.{ReplyFault}
 use Rattle.ipc_body.specs.declared.reply.ReplyFault.TheVariants as fault
 use Rattle.ipc_body.specs.Reply.{Replies, placed, text_at, info_at, info_from}
-use Rattle.ipc_body.proofs.Texts.{same_units}
 use Rattle.ipc_body.proofs.Provided.{drop-add}
 
 -- Where a number is read, its bytes are there.
@@ -36,13 +34,13 @@ at-offset {A} read whole rest at r there e = subst (λ (xs : List ℕ). placed w
 
 -- A text at its offset.
 pub text-is : (whole rest text : List ℕ) (at count used : ℕ) → at ≤ length whole → rest ≡ drop at whole → used ≤ length rest → 4 + 2 * count ≤ used →
-    text_c_at rest ≡ Ok (num.units_in (take (2 * count) (drop 4 rest)), drop used rest) →
-    text ≡ defs.units_in (take (at + 4 + 2 * count - (at + 4)) (drop (at + 4) whole)) → text_at whole at ≡ Ok (text, at + used)
+    text_c_at rest ≡ Ok (units_in (take (2 * count) (drop 4 rest)), drop used rest) →
+    text ≡ units_in (take (at + 4 + 2 * count - (at + 4)) (drop (at + 4) whole)) → text_at whole at ≡ Ok (text, at + used)
 text-is whole rest text at count used within there fits least e t =
     let k : at + 4 + 2 * count - (at + 4) ≡ 2 * count = omega arith in
     let d : drop 4 rest ≡ drop (at + 4) whole = ap (λ (xs : List ℕ). drop 4 xs) there ∙ drop-add whole at 4 in
-    let same : text ≡ num.units_in (take (2 * count) (drop 4 rest)) =
-    t ∙ ap (λ (m : ℕ). defs.units_in (take m (drop (at + 4) whole))) k ∙ same_units (take (2 * count) (drop (at + 4) whole)) ∙ ap (λ (xs : List ℕ). num.units_in (take (2 * count) xs)) (sym d) in
+    let same : text ≡ units_in (take (2 * count) (drop 4 rest)) =
+    t ∙ ap (λ (m : ℕ). units_in (take m (drop (at + 4) whole))) k ∙ ap (λ (xs : List ℕ). units_in (take (2 * count) xs)) (sym d) in
     let f : text_c_at rest ≡ Ok (text, drop used rest) = e ∙ ap (λ (u : List ℕ). let r : Field (List ℕ) = Ok (u, drop used rest) in r) (sym same) in
     at-offset text_c_at whole rest at (Ok (text, at + used)) there (placed-is whole rest at used (text_c_at rest) text within there fits f)
 

@@ -5,12 +5,11 @@ use Rattle.std.proofs.lemmas.Grind.{common_steps}
 use Rattle.std.proofs.lemmas.List.{drop_all, take_all, length-take-le}
 use Rattle.pt_num.specs.Fields.{Field, Fault, fixed_at, text_c_at}
 use Rattle.pt_num.specs.Steps.{◌>>=◌}
-use Rattle.pt_num.specs.Texts as num
-use Rattle.ep_defs.specs.Text as defs
+use Rattle.ep_defs.specs.Text.{units_in}
 use Rattle.ep_defs.specs.declared.session.Rule.{Rule}
 use Rattle.ipc_body.specs.declared.request.RequestFault.{RequestFault}
 use Rattle.ipc_body.specs.declared.request.RequestFault.TheVariants as fault
-use Rattle.ipc_body.proofs.Texts.{same_units, some_unit}
+use Rattle.ipc_body.proofs.Texts.{some_unit}
 use Rattle.ipc_body.specs.Request.{name_at, rule_of, provider_at, providers_at, with_provider, whole_providers, is_empty, hold, are_named}
 
 pub drop-add : (xs : List ℕ) (m n : ℕ) → drop n (drop m xs) ≡ drop (m + n) xs
@@ -28,23 +27,23 @@ rest-of n xs = take_all (length xs - n) (drop n xs) (omega (arith, length-drop n
 
 -- A name that was read has a unit.
 pub name-some : (bytes name : List ℕ) (count used : ℕ) → used ≤ length bytes → 4 + 2 * count ≤ used → 0 < count →
-    name ≡ defs.units_in (take (4 + 2 * count - 4) (drop 4 bytes)) → 0 < length name
+    name ≡ units_in (take (4 + 2 * count - 4) (drop 4 bytes)) → 0 < length name
 name-some bytes name count used within least some n =
     let k : 4 + 2 * count - 4 ≡ 2 * count = omega arith in
     let text : List ℕ = take (2 * count) (drop 4 bytes) in
     let long : length text ≡ 2 * count = length-take-le (2 * count) (drop 4 bytes) (omega (arith, length-drop 4 bytes)) in
-    let same : name ≡ num.units_in text = n ∙ ap (λ (m : ℕ). defs.units_in (take m (drop 4 bytes))) k ∙ same_units text in
+    let same : name ≡ units_in text = n ∙ ap (λ (m : ℕ). units_in (take m (drop 4 bytes))) k in
     rw same (some_unit text (omega arith))
 
 -- A text is a name where it has a unit.
 pub name-read : (bytes name : List ℕ) (count used : ℕ) → used ≤ length bytes → 4 + 2 * count ≤ used → 0 < count →
-    text_c_at bytes ≡ Ok (num.units_in (take (2 * count) (drop 4 bytes)), drop used bytes) →
-    name ≡ defs.units_in (take (4 + 2 * count - 4) (drop 4 bytes)) → name_at bytes ≡ Ok (name, drop used bytes)
+    text_c_at bytes ≡ Ok (units_in (take (2 * count) (drop 4 bytes)), drop used bytes) →
+    name ≡ units_in (take (4 + 2 * count - 4) (drop 4 bytes)) → name_at bytes ≡ Ok (name, drop used bytes)
 name-read bytes name count used within least some e n =
     let k : 4 + 2 * count - 4 ≡ 2 * count = omega arith in
     let text : List ℕ = take (2 * count) (drop 4 bytes) in
     let long : length text ≡ 2 * count = length-take-le (2 * count) (drop 4 bytes) (omega (arith, length-drop 4 bytes)) in
-    let same : name ≡ num.units_in text = n ∙ ap (λ (m : ℕ). defs.units_in (take m (drop 4 bytes))) k ∙ same_units text in
+    let same : name ≡ units_in text = n ∙ ap (λ (m : ℕ). units_in (take m (drop 4 bytes))) k in
     let there : 0 < length name = rw same (some_unit text (omega arith)) in
     name-is bytes name (drop used bytes) (e ∙ ap (λ (u : List ℕ). let f : Field (List ℕ) = Ok (u, drop used bytes) in f) (sym same)) there
 

@@ -1,6 +1,5 @@
 pub mod PutBlobs
 pub mod PutForms
-pub mod PutPieces
 pub mod ReadBack
 pub mod ReadForms
 pub mod Seeing

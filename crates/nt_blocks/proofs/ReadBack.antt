@@ -9,9 +9,9 @@ use Rattle.ep_defs.specs.declared.event.EventDef.{EventDef}
 use Rattle.ep_defs.specs.declared.item.Item.{Item}
 use Rattle.ep_defs.specs.declared.item.ItemKind.{ItemKind}
 use Rattle.ep_defs.specs.declared.item.ItemKind.TheVariants as item
-use Rattle.byteorder.specs.Numbers.{length-bytes_low_first}
 use Rattle.pt_num.specs.Numbers.{fixed}
 use Rattle.pt_num.specs.Fields.{bytes_at, fixed_at}
+use Rattle.pt_num.proofs.Lengths.{length-fixed16, length-fixed32, length-fixed64}
 use Rattle.nt_meta.specs.Meta.{IsMeta}
 use Rattle.nt_meta.specs.Reading.{meta_at}
 use Rattle.nt_object.specs.declared.object.BlockKind.{BlockKind}
@@ -48,21 +48,6 @@ pub record MetasBack : Type 0 where
 pub record ReadsAll {S A : Type 0} (read : Result (Many S A) Refusal) (things : List A) : Type 0 where
   pub state : S
   pub reads : read ≡ Ok (record { things = things; state = state; rest = [] })
-
--- Two bytes.
-pub length-fixed16 : (n : ℕ) → length (fixed w16 n) ≡ 2
-unfolding fixed
-length-fixed16 n = length-bytes_low_first 0 2 n
-
--- Four bytes.
-pub length-fixed32 : (n : ℕ) → length (fixed w32 n) ≡ 4
-unfolding fixed
-length-fixed32 n = length-bytes_low_first 0 4 n
-
--- Eight bytes.
-pub length-fixed64 : (n : ℕ) → length (fixed w64 n) ≡ 8
-unfolding fixed
-length-fixed64 n = length-bytes_low_first 0 8 n
 
 -- Two numbers of two bytes.
 pub two-fixed : (a b : ℕ) (rest : List ℕ) → length (fixed w16 a ++ (fixed w16 b ++ rest)) ≡ 4 + length rest

@@ -17,6 +17,9 @@ use Rattle.pt_num.specs.Numbers.{fixed}
 use Rattle.pt_num.specs.Begins.{Begins}
 use Rattle.pt_num.specs.Fields.{Short, bytes_at, fixed_at}
 use Rattle.pt_num.proofs.FixedForms.{fixed_16, fixed_32, fixed_64}
+use Rattle.pt_num.proofs.Lengths.{length-fixed16, length-fixed64, length-fixed32}
+use Rattle.pt_num.proofs.Steps.{bind_inv, ok-same}
+use Rattle.pt_num.proofs.Fronts.{fixed_enough}
 use Rattle.nt_meta.specs.Meta.{IsMeta}
 use Rattle.nt_meta.specs.Reading.{meta_at}
 use Rattle.nt_meta.proofs.Spelled.{AreLow, low-after, low-drop}
@@ -30,11 +33,10 @@ use Rattle.nt_blocks.specs.declared.limits.TheConstants.{HEADER_BYTES, LAST_COUN
 use Rattle.nt_blocks.specs.Bodies.{AreChained, AreItems, Blob, HoldsEvent, HoldsMeta, IsBlobBody, IsPointBody, IsStackBody, blob_bytes, stack_bytes, stack_items, thread_bytes}
 use Rattle.nt_blocks.specs.Each.{One, Many, each_at, with_thing}
 use Rattle.nt_blocks.specs.Refusals.{BadMeta, BlobPlace, StackPlace, at_end, blob_at, blob_body_at, header_at, held_at, may_head, point_body_at, refusal, stack_at, stack_body_at, stacks_at, thread_at, threads_at}
-use Rattle.nt_blocks.proofs.ReadBack.{drop-behind, length-fixed16, length-fixed32, length-fixed64, two-fixed}
-use Rattle.nt_blocks.proofs.Seeing.{bind_inv, ok-same}
+use Rattle.nt_blocks.proofs.ReadBack.{drop-behind, two-fixed}
 use Rattle.nt_blocks.proofs.Shorter.{head-left}
 use Rattle.nt_blocks.proofs.TakeLists.{no_stack, no_thread}
-use Rattle.nt_blocks.proofs.TakeParts.{number_within, number-there}
+use Rattle.nt_blocks.proofs.TakeParts.{number_within}
 use Rattle.nt_blocks.proofs.Turns.{each_at-end, each_at-goes}
 
 -- ---- parts
@@ -65,7 +67,7 @@ with_thing-inv thing (Err fault) many e = absurd (cc)
 fixed-inv : (w : Width) (bytes rest : List ℕ) (n : ℕ) → fixed_at w bytes ≡ Ok (n, rest) → (n ≡ little_number (byte_len w) bytes) × (rest ≡ drop (byte_len w) bytes) × (byte_len w ≤ length bytes)
 fixed-inv w bytes rest n e =
     let within = number_within w bytes rest n e in
-    let found = number-there w bytes within in
+    let found = fixed_enough w bytes within in
     let same = ok-same _ _ (sym e ∙ found) in (ap (λ (p : ℕ × List ℕ). p.0) same, ap (λ (p : ℕ × List ℕ). p.1) same, within)
 
 -- The bytes of a number, and that it fits.
@@ -481,9 +483,9 @@ header-rest size body r4 a b c d la lb lc ld e above below =
 header-stamps : (size flags : ℕ) (body r2 : List ℕ) → AreLow r2 → body ≡ fixed w16 size ++ (fixed w16 flags ++ r2) → 20 ≤ length body → 20 ≤ size → size ≤ length body → size < 2 ^ 16 → flags < 2 ^ 16 → flags % 2 ≡ 1 → HeaderRead size body
 header-stamps size flags body r2 low two long above below size_fits flags_fit odd =
     let count : length body ≡ 4 + length r2 = omega (arith, ap length two, two-fixed size flags r2) in
-    let first = form64 r2 (drop 8 r2) (little_number 8 r2) low (number-there w64 r2 (omega arith)) in
+    let first = form64 r2 (drop 8 r2) (little_number 8 r2) low (fixed_enough w64 r2 (omega arith)) in
     let low3 = low-behind r2 (fixed w64 (little_number 8 r2)) (drop 8 r2) first.spelled low in
-    let second = form64 (drop 8 r2) (drop 8 (drop 8 r2)) (little_number 8 (drop 8 r2)) low3 (number-there w64 (drop 8 r2) (omega (arith, length-drop 8 r2))) in
+    let second = form64 (drop 8 r2) (drop 8 (drop 8 r2)) (little_number 8 (drop 8 r2)) low3 (fixed_enough w64 (drop 8 r2) (omega (arith, length-drop 8 r2))) in
     let four : body ≡ fixed w16 size ++ (fixed w16 flags ++ (fixed w64 (little_number 8 r2) ++ (fixed w64 (little_number 8 (drop 8 r2)) ++ drop 8 (drop 8 r2)))) =
     two
     ∙ ap (λ (r : List ℕ). fixed w16 size ++ (fixed w16 flags ++ r)) (first.spelled ∙ ap (λ (r : List ℕ). fixed w64 (little_number 8 r2) ++ r) second.spelled) in

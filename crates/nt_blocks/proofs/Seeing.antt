@@ -1,23 +1,15 @@
 -- What ordered items say of a thread's numbers is what their entries say.
-use Rattle.std.proofs.Common.{◌≡◌, ℕ, Result, Ok, Err, Option, Some, None, List, [], ◌∷◌, ◌++◌, refl, sym, ap, ◌∙◌, append_assoc}
+use Rattle.std.proofs.Common.{◌≡◌, ℕ, Ok, Option, Some, None, List, [], ◌∷◌, ◌++◌, refl, sym, ap, ◌∙◌, append_assoc}
 use Rattle.std.proofs.lemmas.List.{append-nil}
 use Rattle.std.specs.List.{flat_map}
 use Rattle.ep_defs.specs.declared.item.ItemKind.{ItemKind}
 use Rattle.ep_defs.specs.declared.item.ItemKind.TheVariants as item
 use Rattle.ep_defs.specs.Entry.{Entry}
 use Rattle.ep_defs.specs.Gaps.{Sighting, sightings_in}
-use Rattle.pt_num.specs.Steps.{◌>>=◌, or_fault}
+use Rattle.pt_num.specs.Steps.{or_fault}
+use Rattle.pt_num.proofs.Steps.{bind_inv, ok-same}
 use Rattle.nt_blocks.specs.Ordered.{Disorder, UnknownMetadata, UnknownStack, Names, lookup, stack_of, unless_there, tell, names_after, told_after}
 use Rattle.nt_blocks.specs.Seen.{seen_in}
-
--- Where a step and those after it answer, so does the step.
-pub bind_inv : {E A B : Type 0} (p : Result A E) (f : A → Result B E) (y : B) → (p >>= f) ≡ Ok y → (x : A) × (p ≡ Ok x) × (f x ≡ Ok y)
-bind_inv (Ok x) f y e = (x, refl, e)
-bind_inv (Err fault) f y e = absurd (cc)
-
--- Answers that are the same have the same value.
-pub ok-same : {E A : Type 0} (x y : A) → ◌≡◌ {A = Result A E} (Ok x) (Ok y) → x ≡ y
-ok-same x y e = cc
 
 flat_map-append : (thread : ℕ) (a b : List Entry) → flat_map (sightings_in thread) (a ++ b) ≡ flat_map (sightings_in thread) a ++ flat_map (sightings_in thread) b
 flat_map-append thread [] b = refl

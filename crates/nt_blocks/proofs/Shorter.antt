@@ -6,11 +6,11 @@ use Rattle.std.proofs.lemmas.Bool.{ltb-false}
 use Rattle.byteorder.specs.Endian.{little_number}
 use Rattle.pt_num.specs.Steps.{◌>>=◌}
 use Rattle.pt_num.specs.Fields.{Field, Fault, Short, TooWide, bytes_at, fixed_at, groups_at, var_at, with_group}
+use Rattle.pt_num.proofs.Steps.{bind_inv, ok-same}
 use Rattle.nt_head.specs.declared.head.HeadState.{HeadState}
 use Rattle.nt_head.specs.declared.limits.TheConstants.{ID_BYTES}
 use Rattle.nt_head.specs.Head.{HeadFields}
 use Rattle.nt_head.specs.Reading.{fields_at, has_flag, head_at, if_set, sequence_at}
-use Rattle.nt_blocks.proofs.Seeing.{bind_inv, ok-same}
 
 -- What is left behind a field is no longer than what was there.
 pub record Shortens {A : Type 0} (field : List ℕ → Field A) : Type 0 where

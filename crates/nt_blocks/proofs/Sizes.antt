@@ -5,8 +5,8 @@ use Rattle.std.specs.List.{flat_map}
 use Rattle.std.specs.Int.{w32}
 use Rattle.pt_num.specs.Numbers.{fixed}
 use Rattle.nt_blocks.specs.Bodies.{stack_bytes, stack_body}
-use Rattle.nt_blocks.specs.state.Kept.{Keeps}
-use Rattle.nt_blocks.proofs.PutPieces.{Keeps-trans}
+use Rattle.pt_num.specs.Begins.{Keeps}
+use Rattle.pt_num.proofs.Kept.{Keeps-trans}
 
 -- A stack is no longer than all of them.
 stack-small : (stacks : List (List ℕ)) (place : ℕ) (other : List ℕ) → place < length stacks → length (get_or stacks place other) ≤ length (flat_map stack_bytes stacks)

@@ -6,13 +6,10 @@ use Rattle.std.proofs.lemmas.Bool.{cases_lt, le-ltb, lt-ltb, le-leb, lt-leb, and
 use Rattle.std.proofs.lemmas.List.{drop-drop, length-take-le, take_all}
 use Rattle.byteorder.specs.Endian.{little_number}
 use Rattle.pt_num.specs.Fields.{Short, fixed_at}
+use Rattle.pt_num.proofs.Fronts.{fixed_enough}
 use Rattle.nt_blocks.specs.declared.limits.TheConstants.{HEADER_BYTES, LAST_COUNT}
 use Rattle.nt_blocks.specs.Refusals.{BadBlock, Uncompressed, Refusal, StackPlace, header_at, point_body_at, refusal, stack_at, stack_body_at, thread_at}
 use Rattle.nt_blocks.specs.state.Taken.{CountsStacks, CountsThreads, ReadsStack, ReadsThread}
-
--- A number that is there.
-pub number-there : (w : Width) (bytes : List ℕ) → byte_len w ≤ length bytes → fixed_at w bytes ≡ Ok (little_number (byte_len w) bytes, drop (byte_len w) bytes)
-number-there w bytes within = let long = le-ltb (length bytes) (byte_len w) within in rw long
 
 -- What is read as a number is there.
 pub number_within : (w : Width) (bytes rest : List ℕ) (value : ℕ) → fixed_at w bytes ≡ Ok (value, rest) → byte_len w ≤ length bytes
@@ -45,24 +42,24 @@ header_short at body short = at_first at _ (rw (lt-leb HEADER_BYTES (length body
 pub header_unfit : (at : ℕ) (body : List ℕ) → HEADER_BYTES ≤ length body → (nat_le HEADER_BYTES (little_number 2 body) && nat_le (little_number 2 body) (length body)) ≡ false → header_at at body ≡ Err (refusal (at + 0) BadBlock)
 unfolding header_at
 header_unfit at body long unfit =
-    at_first at _ (rw (le-leb HEADER_BYTES (length body) long, number-there w16 body (omega arith), unfit))
+    at_first at _ (rw (le-leb HEADER_BYTES (length body) long, fixed_enough w16 body (omega arith), unfit))
 
 flags-there : (body : List ℕ) → HEADER_BYTES ≤ length body → fixed_at w16 (drop 2 body) ≡ Ok (little_number 2 (drop 2 body), drop 2 (drop 2 body))
-flags-there body long = number-there w16 (drop 2 body) (omega (arith, length-drop 2 body))
+flags-there body long = fixed_enough w16 (drop 2 body) (omega (arith, length-drop 2 body))
 
 -- Flags of which the first is not set.
 pub header_plain : (at : ℕ) (body : List ℕ) → HEADER_BYTES ≤ little_number 2 body → little_number 2 body ≤ length body → (little_number 2 (drop 2 body) % 2 == 1) ≡ false → header_at at body ≡ Err (refusal (at + 2) Uncompressed)
 unfolding header_at
 header_plain at body above below plain =
     let long : HEADER_BYTES ≤ length body = omega arith in
-    rw (le-leb HEADER_BYTES (length body) long, number-there w16 body (omega arith), and_from _ _ (le-leb HEADER_BYTES (little_number 2 body) above) (le-leb (little_number 2 body) (length body) below), flags-there body long, plain)
+    rw (le-leb HEADER_BYTES (length body) long, fixed_enough w16 body (omega arith), and_from _ _ (le-leb HEADER_BYTES (little_number 2 body) above) (le-leb (little_number 2 body) (length body) below), flags-there body long, plain)
 
 -- A header that is whole.
 pub header_found : (at : ℕ) (body : List ℕ) → HEADER_BYTES ≤ little_number 2 body → little_number 2 body ≤ length body → (little_number 2 (drop 2 body) % 2 == 1) ≡ true → header_at at body ≡ Ok (little_number 2 body)
 unfolding header_at
 header_found at body above below compressed =
     let long : HEADER_BYTES ≤ length body = omega arith in
-    rw (le-leb HEADER_BYTES (length body) long, number-there w16 body (omega arith), and_from _ _ (le-leb HEADER_BYTES (little_number 2 body) above) (le-leb (little_number 2 body) (length body) below), flags-there body long, compressed)
+    rw (le-leb HEADER_BYTES (length body) long, fixed_enough w16 body (omega arith), and_from _ _ (le-leb HEADER_BYTES (little_number 2 body) above) (le-leb (little_number 2 body) (length body) below), flags-there body long, compressed)
 
 -- ---- stacks
 

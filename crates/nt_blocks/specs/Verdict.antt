@@ -5,8 +5,8 @@ use Rattle.byteorder.specs.Endian.{little_number}
 use Rattle.ep_defs.specs.declared.session.TraceInfo.{TraceInfo}
 use Rattle.ep_defs.specs.declared.item.Item.{Item}
 use Rattle.ep_defs.specs.declared.item.ItemKind.TheVariants as item
+use Rattle.ep_defs.specs.Text.{units_in}
 use Rattle.pt_num.specs.Steps.{◌>>=◌, check, or_fault}
-use Rattle.pt_num.specs.Texts.{units_in}
 use Rattle.nt_object.specs.declared.head.ObjectKind.{ObjectKind}
 use Rattle.nt_object.specs.declared.head.ObjectKind.TheVariants as kind
 use Rattle.nt_object.specs.Object.{to_multiple_of_4}

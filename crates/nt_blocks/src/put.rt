@@ -6,7 +6,7 @@ ghost use Rattle.ep_defs.specs.declared.item.ItemKind.TheVariants as item;
 ghost use Rattle.nt_object.specs.declared.object.BlockKind.TheVariants as block;
 ghost use Rattle.nt_blocks.specs.Bodies.{IsBody, point_body, stack_body, stack_bytes, stack_items, thread_bytes};
 ghost use Rattle.nt_blocks.specs.declared.limits.TheConstants.{LAST_COUNT, POINT_THREADS};
-ghost use Rattle.nt_blocks.specs.state.Kept.{Keeps};
+ghost use Rattle.pt_num.specs.Begins.{Keeps};
 
 use ep_defs::Bytes;
 use ep_defs::ranges::bytes_fit;

@@ -4,7 +4,7 @@ ghost use Rattle.nt_blocks.specs.Making.{HoldsBlobs};
 ghost use Rattle.nt_object.specs.declared.object.BlockKind.TheVariants as block;
 ghost use Rattle.nt_blocks.specs.Refusals.{BadBlock, BadHead, StackPlace, blob_at, blob_body_at, body_at, header_at, held_at, may_head, point_body_at, refusal, stack_at, stack_body_at, thread_at, threads_at};
 ghost use Rattle.nt_blocks.specs.Taking.{Appends, IsFault, StandsWithin};
-ghost use Rattle.nt_blocks.specs.state.Kept.{Keeps};
+ghost use Rattle.pt_num.specs.Begins.{Keeps};
 ghost use Rattle.nt_blocks.specs.state.Taken.{CountsStacks, CountsThreads, ReadsBlob, ReadsHead, ReadsStack, ReadsThread};
 
 use crate::limits::{HEADER_BYTES, LAST_COUNT};

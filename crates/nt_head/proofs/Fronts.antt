@@ -1,5 +1,5 @@
 -- A header is read back as itself, and what is read begins with a header that says it.
-use Rattle.std.proofs.Common.{◌≡◌, ℕ, suc, ◌+◌, ◌*◌, ◌/◌, ◌%◌, ◌<◌, ◌≤◌, Bool, true, false, eqb, is_some, List, [], ◌∷◌, ◌++◌, length, take, drop, Option, Some, None, Result, Ok, Err, refl, ap, ◌∙◌, sym, subst, inl, inr, arith, append_assoc}
+use Rattle.std.proofs.Common.{◌≡◌, ℕ, suc, ◌+◌, ◌*◌, ◌/◌, ◌%◌, ◌<◌, ◌≤◌, Bool, true, false, eqb, is_some, List, [], ◌∷◌, ◌++◌, length, take, drop, Option, Some, None, Ok, Err, refl, ap, ◌∙◌, sym, subst, inl, inr, arith, append_assoc}
 use Rattle.std.specs.Int.{w8, w32, w64}
 use Rattle.std.proofs.lemmas.Bool.{cases_lt, le-ltb, lt-ltb, cond-true, cond-false}
 use Rattle.std.proofs.lemmas.List.{length-append, length-drop, length-take-le, take_at, drop_at, take-append-drop}
@@ -10,6 +10,7 @@ use Rattle.pt_num.specs.Steps.{◌>>=◌}
 use Rattle.pt_num.specs.Fields.{Field, Short, bytes_at, fixed_at, var_at}
 use Rattle.pt_num.proofs.Forms.{begins_32, begins_64, read_32, read_64}
 use Rattle.pt_num.proofs.Fronts.{same_field, same_pieces}
+use Rattle.pt_num.proofs.Steps.{bind_inv}
 use Rattle.nt_head.specs.declared.head.HeadState.{HeadState}
 use Rattle.nt_head.specs.declared.limits.TheConstants.{ID_BYTES}
 use Rattle.nt_head.specs.Head.{HeadFields, Sequence, flag, flag_byte, IsSequence, IsGuid, AreHeadBytes, state_after, IsHead}
@@ -186,11 +187,6 @@ same_heads before now other xs ys more rest first second e =
 -- What is read begins with a form of its value.
 abbrev IsForm : {A : Type 0} → (List ℕ → Field A) → (A → List ℕ → Type 0) → Type 0
 IsForm {A} field Form = (x : A) (bytes rest : List ℕ) → AreBytes bytes → field bytes ≡ Ok (x, rest) → Begins (Form x) bytes rest
-
--- What the step before answered, and what came of it.
-bind_inv : {E A B : Type 0} (p : Result A E) (f : A → Result B E) (y : B) → (p >>= f) ≡ Ok y → (x : A) × (p ≡ Ok x) × (f x ≡ Ok y)
-bind_inv (Ok x) f y e = (x, refl, e)
-bind_inv (Err fault) f y e = absurd (cc)
 
 -- Two fields are the same.
 abbrev IsSame : {A : Type 0} → Field A → Field A → Type 0

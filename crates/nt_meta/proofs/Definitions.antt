@@ -16,16 +16,12 @@ use Rattle.nt_meta.specs.Meta.{FitsPayload, IsMeta}
 use Rattle.nt_meta.specs.declared.limits.TheConstants.{LAST_ID}
 use Rattle.std.proofs.lemmas.List.{append-nil}
 use Rattle.std.proofs.lemmas.List.Elements.{All-nil}
-use Rattle.nt_meta.proofs.Lengths.{fixed_len-16, fixed_len-32, fixed_len-64}
-
--- Each unit takes two bytes.
-units-len : (units : List ℕ) → length (units_bytes units) ≡ 2 * length units
-units-len [] = refl
-units-len (unit ∷ units) = omega (arith, length-append (fixed w16 unit) (units_bytes units), fixed_len-16 unit, units-len units)
+use Rattle.pt_num.proofs.Lengths.{length-fixed16, length-fixed32, length-fixed64}
+use Rattle.pt_num.proofs.TextForms.{units_long}
 
 -- So does the zero unit behind them.
 text-len : (units : List ℕ) → length (text_z units) ≡ 2 * length units + 2
-text-len units = omega (arith, length-append (units_bytes units) (fixed w16 0), units-len units, fixed_len-16 0)
+text-len units = omega (arith, length-append (units_bytes units) (fixed w16 0), units_long units, length-fixed16 0)
 
 -- The name of a field that is written.
 abbrev HasShortName : FieldDef → Type 0
@@ -63,7 +59,7 @@ fields-len zero fields h = omega arith
 fields-len (suc more) [] h = omega arith
 fields-len (suc more) (field ∷ fields) h =
     field-len (eqb field.code 1) (fixed w32 field.code) (fixed w32 (inside_count field fields)) (fields_bytes more (inside field fields)) (text_z field.name) (fields_bytes more (after field fields)) (length (inside field fields)) (length (after field fields)) (length fields)
-    (fixed_len-32 field.code) (fixed_len-32 (inside_count field fields))
+    (length-fixed32 field.code) (length-fixed32 (inside_count field fields))
     (fields-len more (inside field fields) (all-take HasShortName (prefix_len (λ f. nat_lt field.depth f.depth) fields) fields h.1))
     (omega (arith, text-len field.name, h.0))
     (fields-len more (after field fields) (all-drop HasShortName (length (inside field fields)) fields h.1))
@@ -73,7 +69,7 @@ fields-len (suc more) (field ∷ fields) h =
 payload-len : (id : ℕ) (def : EventDef) → length def.provider ≤ 1000 → length def.name ≤ 1000 → length def.fields ≤ 100 → AllByRecursion HasShortName def.fields → length (meta_payload id def) ≤ 60000
 payload-len id def p n f h =
     nine (fixed w32 id) (text_z def.provider) (fixed w32 def.id) (text_z def.name) (fixed w64 def.keywords) (fixed w32 def.version) (fixed w32 def.level) (fixed w32 (outermost_count def.fields)) (fields_bytes (length def.fields) def.fields)
-    (fixed_len-32 id) (omega (arith, text-len def.provider, p)) (fixed_len-32 def.id) (omega (arith, text-len def.name, n)) (fixed_len-64 def.keywords) (fixed_len-32 def.version) (fixed_len-32 def.level) (fixed_len-32 (outermost_count def.fields))
+    (length-fixed32 id) (omega (arith, text-len def.provider, p)) (length-fixed32 def.id) (omega (arith, text-len def.name, n)) (length-fixed64 def.keywords) (length-fixed32 def.version) (length-fixed32 def.level) (length-fixed32 (outermost_count def.fields))
     (omega (arith, fields-len (length def.fields) def.fields h, f))
   where
     nine : (a b c d e f g h i : List ℕ) → length a ≡ 4 → length b ≤ 2002 → length c ≡ 4 → length d ≤ 2002 → length e ≡ 8 → length f ≡ 4 → length g ≡ 4 → length h ≡ 4 → length i ≤ 41000 → length (a ++ b ++ c ++ d ++ e ++ f ++ g ++ h ++ i) ≤ 60000

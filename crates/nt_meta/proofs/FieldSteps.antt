@@ -182,7 +182,7 @@ number-shorter w bytes rest n some e =
     behind-shorter (nat_lt (length bytes) (byte_len w)) _ n (byte_len w) bytes rest refl some e
 
 -- A value is that of the field before.
-value_kept : {A : Type 0} (field : Field A) (x : A × List ℕ) → or_else_fault field Cut ≡ Ok x → field ≡ Ok x
+pub value_kept : {A : Type 0} (field : Field A) (x : A × List ℕ) → or_else_fault field Cut ≡ Ok x → field ≡ Ok x
 value_kept (Ok y) x e = let same : y ≡ x = cc in ap Ok same
 value_kept (Err fault) x e = absurd (cc)
 

@@ -1,5 +1,5 @@
 -- What is read of fields is how they are spelled.
-use Rattle.std.proofs.Common.{◌≡◌, ℕ, zero, suc, ◌+◌, ◌^◌, ◌<◌, ◌≤◌, Bool, true, false, cond, inl, inr, Result, Ok, Err, List, [], ◌∷◌, ◌++◌, length, take, drop, refl, sym, ap, subst, ◌∙◌, append_assoc, arith}
+use Rattle.std.proofs.Common.{◌≡◌, ℕ, zero, suc, ◌+◌, ◌^◌, ◌<◌, ◌≤◌, Bool, true, false, cond, inl, inr, Ok, Err, List, [], ◌∷◌, ◌++◌, length, take, drop, refl, sym, ap, subst, ◌∙◌, append_assoc, arith}
 use Rattle.std.specs.Prelude.{◌&&◌, nat_le, nat_lt, ◌==◌, take_while, count_by, if◌then◌else◌}
 use Rattle.std.specs.Int.{w32}
 use Rattle.std.specs.List.{AllByRecursion, list_all, prefix_len}
@@ -11,7 +11,8 @@ use Rattle.ep_defs.specs.declared.event.FieldDef.{FieldDef}
 use Rattle.ep_defs.specs.Event.{is_type_code, are_nested, deepest_after}
 use Rattle.pt_num.specs.Numbers.{fixed}
 use Rattle.pt_num.specs.Texts.{text_z, are_units}
-use Rattle.pt_num.specs.Steps.{◌>>=◌, check}
+use Rattle.pt_num.specs.Steps.{check}
+use Rattle.pt_num.proofs.Steps.{bind_inv}
 use Rattle.nt_meta.specs.declared.limits.TheConstants.{READ_DEPTH}
 use Rattle.nt_meta.specs.Meta.{inside, after, inside_counts, fields_bytes, is_readable_field}
 use Rattle.nt_meta.specs.Reading.{Part, Cut, Wrong, number_at, text_at, if_object, field_at, with_fields, fields_at}
@@ -188,10 +189,6 @@ forest_bytes field inner others within count forest more =
     ∙ ap (λ (fields : List FieldDef). fixed w32 field.code ++ inside_bytes field inner ++ text_z field.name ++ fields_bytes (length fields) fields) (after-is field inner others deeper ends)
 
 -- ---- reading
-
-pub bind_inv : {E A B : Type 0} (p : Result A E) (f : A → Result B E) (y : B) → (p >>= f) ≡ Ok y → (x : A) × (p ≡ Ok x) × (f x ≡ Ok y)
-bind_inv (Ok x) f y e = (x, refl, e)
-bind_inv (Err fault) f y e = absurd (cc)
 
 pub check-inv : (b : Bool) (x : Unit {0}) → check b Wrong ≡ Ok x → b ≡ true
 check-inv true x e = refl

@@ -2,10 +2,7 @@ pub mod DefSteps
 pub mod Definitions
 pub mod FieldSteps
 pub mod Forests
-pub mod Lengths
 pub mod Payloads
 pub mod PutFields
-pub mod PutPieces
 pub mod ReadBack
 pub mod Spelled
-pub mod Units

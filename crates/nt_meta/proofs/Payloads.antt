@@ -11,11 +11,12 @@ use Rattle.ep_defs.specs.Ranges.{AreBytes}
 use Rattle.pt_num.specs.Numbers.{fixed}
 use Rattle.pt_num.specs.Texts.{text_z}
 use Rattle.pt_num.specs.Steps.{check}
+use Rattle.pt_num.proofs.Steps.{bind_inv}
 use Rattle.nt_meta.specs.declared.limits.TheConstants.{LAST_ID}
 use Rattle.nt_meta.specs.Meta.{fields_bytes, outermost_count, is_readable_field, FitsPayload, IsMeta}
 use Rattle.nt_meta.specs.Reading.{Refused, Wrong, number_at, text_at, fields_at, def_at, meta_at}
 use Rattle.nt_meta.proofs.FieldSteps.{same_part}
-use Rattle.nt_meta.proofs.Forests.{bind_inv, check-inv, forest_read}
+use Rattle.nt_meta.proofs.Forests.{check-inv, forest_read}
 use Rattle.nt_meta.proofs.Spelled.{AreLow, low-after, number-spelled-32, number-spelled-64, text-spelled}
 
 -- ---- bytes

@@ -16,7 +16,7 @@ use Rattle.nt_meta.specs.declared.limits.TheConstants.{LAST_ID, READ_DEPTH}
 use Rattle.nt_meta.specs.Meta.{inside, after, inside_count, inside_counts, fields_bytes, outermost_count, is_readable_field, FitsPayload, IsMeta}
 use Rattle.nt_meta.specs.Reading.{Part, Wrong, number_at, if_object, field_at, with_fields, fields_at, def_at, meta_at}
 use Rattle.nt_meta.specs.state.Fields.{inside_bytes}
-use Rattle.nt_meta.proofs.Lengths.{fixed_len-32}
+use Rattle.pt_num.proofs.Lengths.{length-fixed32}
 use Rattle.nt_meta.proofs.PutFields.{after_is, fields_bytes-cons, list_all-take, list_all-drop}
 use Rattle.nt_meta.proofs.FieldSteps.{fields_at-zero, fields_at-suc, field_coded, coded_known}
 use Rattle.nt_meta.proofs.FieldSteps.{within as inner_at, named as field_named}
@@ -287,7 +287,7 @@ forest_long (suc most) depth count (field ∷ fields) forest few =
     let none : (field.code == OBJECT_CODE) ≡ false → inner ≡ [] = λ plain. none_inside field inner plain split.within (subst (λ (d : ℕ). AllByRecursion (λ f. d + 1 ≤ f.depth) inner) (sym split.at_depth) split.inner.deep) in
     let first = inside-long field inner (field.code == OBJECT_CODE) refl (forest_long most (depth + 1) (inside_count field fields) inner split.inner (omega (arith, lengths, few))) none in
     let second = forest_long most depth split.left others split.others (omega (arith, lengths, few)) in
-    summed (fixed w32 field.code) (inside_bytes field inner) (text_z field.name) (fields_bytes (length others) others) (fields_bytes (length (field ∷ fields)) (field ∷ fields)) (fields_bytes-cons field fields) (fixed_len-32 field.code) first second lengths
+    summed (fixed w32 field.code) (inside_bytes field inner) (text_z field.name) (fields_bytes (length others) others) (fields_bytes (length (field ∷ fields)) (field ∷ fields)) (fields_bytes-cons field fields) (length-fixed32 field.code) first second lengths
   where
     summed : (a b c d whole : List ℕ) → whole ≡ ((a ++ b) ++ c) ++ d → length a ≡ 4 → length (inside field fields) ≤ length b → length (after field fields) ≤ length d → length (inside field fields) + length (after field fields) ≡ length fields → suc (length fields) ≤ length whole
     summed a b c d whole e la lb ld sum = omega (arith, ap (λ (bs : List ℕ). length bs) e, length-append ((a ++ b) ++ c) d, length-append (a ++ b) c, length-append a b, la, lb, ld, sum)

@@ -1,19 +1,19 @@
 -- What is read of numbers and texts is how they are spelled.
-use Rattle.std.proofs.Common.{◌≡◌, ℕ, zero, suc, ◌+◌, ◌*◌, ◌/◌, ◌%◌, ◌^◌, ◌<◌, ◌≤◌, Bool, true, false, cond, inl, inr, Ok, Err, List, [], ◌∷◌, ◌++◌, length, take, drop, get_or, refl, sym, ap, subst, ◌∙◌, append_assoc, arith}
-use Rattle.std.specs.Prelude.{nat_lt, nat_le, ◌==◌}
-use Rattle.std.specs.Int.{w16, w32, w64, byte_len, is_in_range}
-use Rattle.std.proofs.lemmas.Bool.{and_from, and_parts, le-leb, leb-true, ltb-false, ne_eqb}
-use Rattle.std.proofs.lemmas.Bool.Decides.{eqb_tells}
+use Rattle.std.proofs.Common.{◌≡◌, ℕ, zero, suc, ◌+◌, ◌^◌, ◌<◌, ◌≤◌, Bool, true, false, cond, Ok, Err, List, [], ◌∷◌, ◌++◌, length, take, drop, get_or, refl, sym, ap, subst, ◌∙◌, arith}
+use Rattle.std.specs.Prelude.{nat_lt}
+use Rattle.std.specs.Int.{w32, w64, byte_len}
+use Rattle.std.proofs.lemmas.Bool.{ltb-false}
 use Rattle.std.proofs.lemmas.List.{take-append-drop}
 use Rattle.byteorder.specs.Endian.{little_number}
 use Rattle.byteorder.specs.Numbers.{little_from-lt}
 use Rattle.pt_num.specs.Steps.{or_else_fault}
 use Rattle.pt_num.specs.Numbers.{fixed}
-use Rattle.pt_num.specs.Texts.{units_bytes, text_z, are_units}
-use Rattle.pt_num.specs.Fields.{Field, Short, text_z_at, with_unit}
+use Rattle.pt_num.specs.Texts.{text_z, are_units}
+use Rattle.pt_num.specs.Fields.{Field, Short, text_z_at}
 use Rattle.pt_num.proofs.FixedForms.{fixed_32, fixed_64, read_fixed}
+use Rattle.pt_num.proofs.TextForms.{begins_z, read_z}
 use Rattle.nt_meta.specs.Reading.{Cut, number_at, text_at}
-use Rattle.nt_meta.proofs.FieldSteps.{same_part}
+use Rattle.nt_meta.proofs.FieldSteps.{same_part, value_kept}
 
 -- Each byte is below 256.
 abbrev pub AreLow : List ℕ → Type 0
@@ -68,88 +68,14 @@ number-read-64 n rest fits = ap (λ (field : Field ℕ). or_else_fault field Cut
 
 -- ---- texts
 
--- The two bytes of a unit.
-unit_of : (low high : ℕ) → low < 256 → high < 256 → fixed w16 (low + 256 * high) ≡ low ∷ high ∷ []
-unfolding fixed
-unit_of low high a b =
-    let first : (low + 256 * high) % 256 ≡ low = omega arith in
-    let second : (low + 256 * high) / 256 % 256 ≡ high = omega arith in
-    ap (λ (n : ℕ). n ∷ (low + 256 * high) / 256 % 256 ∷ []) first ∙ ap (λ (n : ℕ). low ∷ n ∷ []) second
-
--- A unit is read from its two bytes.
-unit_read : (unit : ℕ) (rest : List ℕ) → unit < 65536 → 0 < unit → text_z_at (fixed w16 unit ++ rest) ≡ with_unit unit (text_z_at rest)
-unfolding fixed text_z_at
-unit_read unit rest fits some =
-    let whole : unit % 256 + 256 * (unit / 256 % 256) ≡ unit = omega arith in
-    let apart : (unit == 0) ≡ false = ne_eqb unit 0 (omega arith) in
-    rw (whole, apart) refl
-
-end_read : (rest : List ℕ) → text_z_at (fixed w16 0 ++ rest) ≡ Ok ([], rest)
-unfolding fixed text_z_at
-end_read rest = refl
-
--- Some units before others.
-some_units : (unit : ℕ) (later : Field (List ℕ)) (units rest : List ℕ) → with_unit unit later ≡ Ok (units, rest) → (more : List ℕ) × (units ≡ unit ∷ more) × (later ≡ Ok (more, rest))
-some_units unit (Ok later) units rest e =
-    let same = same_part (unit ∷ later.0) units later.1 rest e in
-    (later.0, sym same.0, ap (λ (r : List ℕ). let out : List ℕ × List ℕ = (later.0, r) in Ok out) same.1)
-some_units unit (Err fault) units rest e = absurd (cc)
-
-text_z-spelled : (bytes rest units : List ℕ) → AreLow bytes → text_z_at bytes ≡ Ok (units, rest) → (bytes ≡ text_z units ++ rest) × (are_units units ≡ true)
-unfolding text_z_at
-text_z-spelled [] rest units low e = absurd (cc)
-text_z-spelled (b ∷ []) rest units low e = absurd (cc)
-text_z-spelled (a ∷ b ∷ bytes) rest units low e =
-    elim (eqb_tells (a + 256 * b) 0) [
-      | inl none ↦
-          let same = same_part [] units bytes rest (rw none.0 at e) in
-          let spelled : fixed w16 0 ≡ a ∷ b ∷ [] = ap (fixed w16) (sym none.1) ∙ unit_of a b (low 0) (low 1) in (
-            ap (λ (front : List ℕ). front ++ bytes) (sym spelled) ∙ ap (λ (back : List ℕ). fixed w16 0 ++ back) same.1 ∙ ap (λ (us : List ℕ). text_z us ++ rest) same.0,
-            ap are_units (sym same.0),
-          )
-      | inr some ↦
-          let split = some_units (a + 256 * b) (text_z_at bytes) units rest (rw some.0 at e) in
-          let later = text_z-spelled bytes rest split.0 (λ i. low (suc (suc i))) split.2 in
-          let spelled : fixed w16 (a + 256 * b) ≡ a ∷ b ∷ [] = unit_of a b (low 0) (low 1) in
-          let positive : 1 ≤ a + 256 * b = positive-from (a + 256 * b) some.1 in (
-            ap (λ (front : List ℕ). front ++ bytes) (sym spelled)
-                ∙ ap (λ (back : List ℕ). fixed w16 (a + 256 * b) ++ back) later.0
-                ∙ grouped (fixed w16 (a + 256 * b)) (units_bytes split.0) (fixed w16 0) rest
-                ∙ ap (λ (us : List ℕ). text_z us ++ rest) (sym split.1),
-            ap are_units split.1 ∙ and_from (is_in_range 1 65535 (a + 256 * b)) (are_units split.0) (and_from (nat_le 1 (a + 256 * b)) (nat_le (a + 256 * b) 65535) (le-leb 1 (a + 256 * b) positive) (le-leb (a + 256 * b) 65535 (omega (arith, low 0, low 1)))) later.1,
-          )
-    ]
-  where
-    positive-from : (n : ℕ) → (n ≡ 0 → ⊥) → 1 ≤ n
-    positive-from n apart = omega arith
-
-    grouped : (unit units end rest : List ℕ) → unit ++ ((units ++ end) ++ rest) ≡ ((unit ++ units) ++ end) ++ rest
-    grouped unit units end rest = simp append_assoc
-
-text_z-read : (units rest : List ℕ) → are_units units ≡ true → text_z_at (text_z units ++ rest) ≡ Ok (units, rest)
-text_z-read [] rest h = end_read rest
-text_z-read (unit ∷ units) rest h =
-    let parts = and_parts (is_in_range 1 65535 unit) (are_units units) h in
-    let range = and_parts (nat_le 1 unit) (nat_le unit 65535) parts.0 in
-    let low = leb-true 1 unit range.0 in
-    let high = leb-true unit 65535 range.1 in
-    ap text_z_at (grouped (fixed w16 unit) (units_bytes units) (fixed w16 0) rest)
-    ∙ unit_read unit (text_z units ++ rest) (omega arith) (omega arith)
-    ∙ ap (with_unit unit) (text_z-read units rest parts.1)
-  where
-    grouped : (unit units end rest : List ℕ) → ((unit ++ units) ++ end) ++ rest ≡ unit ++ ((units ++ end) ++ rest)
-    grouped unit units end rest = simp append_assoc
-
-kept : {A : Type 0} (field : Field A) (x : A × List ℕ) → or_else_fault field Cut ≡ Ok x → field ≡ Ok x
-kept (Ok y) x e = let same : y ≡ x = cc in ap Ok same
-kept (Err fault) x e = absurd (cc)
-
 -- A text.
 pub text-spelled : (bytes rest units : List ℕ) → AreLow bytes → text_at bytes ≡ Ok (units, rest) → (bytes ≡ text_z units ++ rest) × (are_units units ≡ true)
 unfolding text_at
-text-spelled bytes rest units low e = text_z-spelled bytes rest units low (kept (text_z_at bytes) (units, rest) e)
+text-spelled bytes rest units low e =
+    let begun = begins_z bytes units rest low (value_kept (text_z_at bytes) (units, rest) e) in
+    (begun.2 ∙ ap (λ (front : List ℕ). front ++ rest) begun.1.spelled, begun.1.no_zero)
 
 -- A text is read, whatever follows.
 pub text-read : (units rest : List ℕ) → are_units units ≡ true → text_at (text_z units ++ rest) ≡ Ok (units, rest)
 unfolding text_at
-text-read units rest h = ap (λ (field : Field (List ℕ)). or_else_fault field Cut) (text_z-read units rest h)
+text-read units rest h = ap (λ (field : Field (List ℕ)). or_else_fault field Cut) (read_z units rest h)

@@ -5,7 +5,8 @@ ghost use Rattle.ep_defs.specs.Event.{is_valid_event, is_valid_field};
 ghost use Rattle.ep_defs.specs.declared.limits.TheConstants.{FIELDS, FIELD_DEPTH, PAYLOAD_BYTES};
 ghost use Rattle.nt_meta.specs.Meta.{after, fields_bytes, inside, meta_payload, IsMeta};
 ghost use Rattle.nt_meta.specs.declared.limits.TheConstants.{LAST_ID};
-ghost use Rattle.nt_meta.specs.state.Fields.{inside_bytes, Keeps};
+ghost use Rattle.nt_meta.specs.state.Fields.{inside_bytes};
+ghost use Rattle.pt_num.specs.Begins.{Keeps};
 
 use ep_defs::ranges::event_fits;
 use ep_defs::{EventDef, FieldDef, OBJECT_CODE};

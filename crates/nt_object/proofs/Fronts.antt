@@ -191,7 +191,7 @@ same_start same16 same32 same64 info other more rest first second e =
     (same.0, tails more rest same.1)
 
 -- The size, the padding and the body, one after another.
-body_grouped : (size padding body more : List ℕ) → (size ++ padding ++ body) ++ more ≡ size ++ (padding ++ (body ++ more))
+pub body_grouped : (size padding body more : List ℕ) → (size ++ padding ++ body) ++ more ≡ size ++ (padding ++ (body ++ more))
 body_grouped size padding body more = simp append_assoc
 
 -- No block begins another that may stand at the same offset.

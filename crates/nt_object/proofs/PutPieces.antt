@@ -1,10 +1,11 @@
 -- Steps of what is appended piece by piece.
-use Rattle.std.proofs.Common.{◌≡◌, ℕ, ◌≤◌, Result, Ok, Err, List, [], ◌∷◌, ◌++◌, length, take, drop, sym, ap, ◌∙◌, refl, append_assoc, arith}
-use Rattle.std.proofs.lemmas.List.{length-take, take_at, take-append-le, take-append-drop}
+use Rattle.std.proofs.Common.{◌≡◌, ℕ, Result, Ok, Err, List, [], ◌∷◌, ◌++◌, length, sym, ap, ◌∙◌, refl, append_assoc}
+use Rattle.std.proofs.lemmas.List.{take_at}
 use Rattle.std.specs.Int.{w32}
 use Rattle.std.specs.Result.{OnErr}
 use Rattle.pt_num.specs.Numbers.{fixed}
-use Rattle.nt_object.specs.Making.{Keeps, begun_object}
+use Rattle.pt_num.specs.Begins.{Keeps}
+use Rattle.nt_object.specs.Making.{begun_object}
 use Rattle.nt_object.specs.Object.{object}
 
 -- Where the last piece is not put, what was put before stays.
@@ -40,15 +41,6 @@ start_put version name first second third payload old o1 o2 o3 begun paid new e1
     (six_grouped old first second third (begun_object version name) payload (6 ∷ [])
     ∙ ap (λ (bytes : List ℕ). old ++ ((first ++ second ++ third) ++ bytes)) (sym (object_grouped front payload)))
 
--- What a list keeps is kept by one that keeps the list.
-pub Keeps-trans : (before now after : List ℕ) → Keeps before now → Keeps now after → Keeps before after
-Keeps-trans before now after first second =
-    let short : length before ≤ length now = omega (arith, ap length first, length-take (length before) now) in
-    let front : now ++ drop (length now) after ≡ after = rw second at (take-append-drop (length now) after) in
-    ap (λ (xs : List ℕ). take (length before) xs) (sym front)
-    ∙ take-append-le (length before) now (drop (length now) after) short
-    ∙ first
-
 -- Four pieces, one after another.
 four_grouped : (old first second third fourth : List ℕ) → (((old ++ first) ++ second) ++ third) ++ fourth ≡ old ++ (first ++ (second ++ (third ++ fourth)))
 four_grouped old first second third fourth = simp append_assoc
@@ -57,13 +49,3 @@ four_grouped old first second third fourth = simp append_assoc
 pub begun_kept : (old first second third fourth o1 o2 o3 o4 : List ℕ) → o1 ≡ old ++ first → o2 ≡ o1 ++ second → o3 ≡ o2 ++ third → o4 ≡ o3 ++ fourth → Keeps old o4
 begun_kept old first second third fourth o1 o2 o3 o4 e1 e2 e3 e4 =
     rw (e4, e3, e2, e1, four_grouped old first second third fourth) (take_at old (first ++ (second ++ (third ++ fourth))) (length old) refl)
-
--- What stays on an error.
-pub on_error : {A E : Type 0} (r : Result A E) {P : Type 0} → P → OnErr r P
-on_error (Ok a) p = tt
-on_error (Err e) p = p
-
--- Where a later piece is put in part, what was put before stays.
-pub kept_through : {A E : Type 0} (r : Result A E) (before now after : List ℕ) → Keeps before now → OnErr r (Keeps now after) → OnErr r (Keeps before after)
-kept_through (Ok a) before now after kept e = e
-kept_through (Err e) before now after first second = Keeps-trans before now after first second

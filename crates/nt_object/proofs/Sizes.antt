@@ -1,22 +1,15 @@
 -- Sizes of what is put.
-use Rattle.std.proofs.Common.{◌≡◌, ◌*◌, ℕ, List, [], ◌∷◌, length, replicate, refl, arith}
-use Rattle.std.specs.List.{flat_map}
+use Rattle.std.proofs.Common.{◌≡◌, ℕ, List, [], ◌∷◌, length, replicate, arith}
 use Rattle.std.specs.Prelude.{IsTrue}
-use Rattle.std.specs.Int.{w16}
 use Rattle.std.proofs.lemmas.List.{length-append, length-replicate}
 use Rattle.std.proofs.lemmas.Bool.{and_parts, eqb-true}
 use Rattle.ep_defs.specs.declared.session.TraceInfo.{TraceInfo}
 use Rattle.ep_defs.specs.Session.{is_info}
 use Rattle.pt_num.specs.Numbers.{fixed}
+use Rattle.pt_num.proofs.TextForms.{units_long}
 use Rattle.nt_object.specs.declared.object.BlockKind.{BlockKind}
 use Rattle.nt_object.specs.Object.{trace_payload, block_bytes, block_len, padded, padding_begins, to_multiple_of_4}
 use Rattle.nt_object.specs.Stream.{stream_start}
-
--- A unit takes two bytes.
-dates : (date : List ℕ) → length (flat_map (fixed w16) date) ≡ 2 * length date
-unfolding fixed
-dates [] = refl
-dates (part ∷ date) = omega (arith, dates date)
 
 -- A date has eight parts.
 date_8 : (info : TraceInfo) → IsTrue (is_info info) → length info.date ≡ 8
@@ -25,7 +18,7 @@ date_8 info h = eqb-true (length info.date) 8 (and_parts _ _ (and_parts _ _ (and
 -- The payload of the Trace object takes 48 bytes.
 payload_size : (info : TraceInfo) → length info.date ≡ 8 → length (trace_payload info) ≡ 48
 unfolding fixed
-payload_size info date = simp (length-append, dates) (omega (arith, date))
+payload_size info date = simp (length-append, units_long) (omega (arith, date))
 
 -- The start of a stream takes 102 bytes.
 pub start_size : (info : TraceInfo) → IsTrue (is_info info) → length (stream_start info) ≡ 102

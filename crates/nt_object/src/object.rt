@@ -1,6 +1,7 @@
 //! Writing the start of a stream and its blocks.
 ghost use Rattle.std.specs.Prelude.{◌≡◌, ◌+◌, ◌^◌, ◌<◌, ◌≤◌, [], ◌∷◌, ◌++◌, length, replicate, IsOk, OnOk, OnErr, vec_len, vec_capacity};
-ghost use Rattle.nt_object.specs.Making.{Keeps, begun_object};
+ghost use Rattle.nt_object.specs.Making.{begun_object};
+ghost use Rattle.pt_num.specs.Begins.{Keeps};
 ghost use Rattle.nt_object.specs.Object.{block_bytes, block_len, block_name, padded, to_multiple_of_4, trace_payload, CanStand};
 ghost use Rattle.nt_object.specs.Stream.{stream_start, IsStream};
 ghost use Rattle.nt_object.specs.declared.limits.TheConstants.{START_BYTES};

@@ -10,19 +10,21 @@ use Rattle.ep_defs.specs.declared.item.Item.{Item}
 use Rattle.ep_defs.specs.declared.item.ItemKind.TheVariants as item
 use Rattle.pt_num.specs.Numbers.{fixed}
 use Rattle.pt_num.specs.Steps.{◌>>=◌}
+use Rattle.pt_num.proofs.Lengths.{length-fixed32}
 use Rattle.nt_object.specs.declared.object.BlockKind.{BlockKind}
 use Rattle.nt_object.specs.declared.object.BlockKind.TheVariants as block
 use Rattle.nt_object.specs.declared.head.ObjectKind.TheVariants as kind
 use Rattle.nt_object.specs.Object.{trace_object, trace_payload, block_name, Block, block_bytes, to_multiple_of_4}
 use Rattle.nt_object.specs.Stream.{stream_head, CanFollow, blocks_bytes}
 use Rattle.nt_object.specs.Reading.{number_in}
+use Rattle.nt_object.proofs.Fronts.{body_grouped}
 use Rattle.nt_blocks.specs.Refusals.{body_at}
 use Rattle.nt_blocks.specs.Verdict.{Cut, More, Verdict, closed, info_in, named_at, object_at, objects_at, or_refused, payload_at, unit, verdict}
 use Rattle.nt_write.specs.Trace.{BlocksHold, IsTrace, trace_item}
 use Rattle.nt_whole.specs.Reading.{IsBegun}
 use Rattle.nt_whole.proofs.Units.{next, passed, unit-there}
-use Rattle.nt_whole.proofs.Infos.{length-fixed32, payload-long}
-use Rattle.nt_whole.proofs.Objects.{Parts, begun, block-begun, block-found, block-parts, block_behind, block_payload, ended, length-begun, parts-of, payload-grouped, trace-begun, trace-found, trace-parts, trace_behind}
+use Rattle.nt_whole.proofs.Infos.{payload-long}
+use Rattle.nt_whole.proofs.Objects.{Parts, begun, block-begun, block-found, block-parts, block_behind, block_payload, ended, length-begun, parts-of, trace-begun, trace-found, trace-parts, trace_behind}
 use Rattle.nt_whole.proofs.Streams.{BodiesRead, headed, object-step, stream-grouped}
 
 -- ---- a cut
@@ -138,10 +140,10 @@ block-cut b at rest part left items parts e =
           elim (split (ended name) (block_payload b ++ 6 ∷ rest) one.0 left one.2) [
             | inl short ↦ inl (ap (object_at true (at + 1)) one.1 ∙ name-cut b.kind (at + 1) one.0 short)
             | inr two ↦
-                elim (payload-cut b.kind place size b.padding b.body rest two.0 left items (length-fixed32 (length b.body)) parts.sized parts.small parts.padded parts.held (sym (payload-grouped size b.padding b.body (6 ∷ rest)) ∙ two.2)) [
+                elim (payload-cut b.kind place size b.padding b.body rest two.0 left items (length-fixed32 (length b.body)) parts.sized parts.small parts.padded parts.held (sym (body_grouped size b.padding b.body (6 ∷ rest)) ∙ two.2)) [
                   | inl short ↦ inl (ap (object_at true (at + 1)) (one.1 ∙ ap with_head two.1) ∙ block-begun b.kind (at + 1) two.0 ∙ short)
                   | inr all ↦
-                      inr (all.0, one.1 ∙ ap with_head two.1 ∙ ap with_name (all.1 ∙ sym (payload-grouped size b.padding b.body (6 ∷ all.0))), all.2)
+                      inr (all.0, one.1 ∙ ap with_head two.1 ∙ ap with_name (all.1 ∙ sym (body_grouped size b.padding b.body (6 ∷ all.0))), all.2)
                 ]
           ]
     ]

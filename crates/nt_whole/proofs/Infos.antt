@@ -1,31 +1,23 @@
 -- The payload of a Trace object is read as what it says.
-use Rattle.std.proofs.Common.{◌≡◌, ℕ, ◌+◌, ◌*◌, ◌/◌, ◌%◌, ◌^◌, ◌<◌, true, eqb, List, [], ◌∷◌, ◌++◌, length, take, drop, refl, ap, sym, ◌∙◌, arith, append_assoc, length-append}
+use Rattle.std.proofs.Common.{◌≡◌, ℕ, ◌+◌, ◌^◌, ◌<◌, true, eqb, List, [], ◌∷◌, ◌++◌, length, take, drop, refl, ap, sym, ◌∙◌, arith, append_assoc, length-append}
 use Rattle.std.specs.Prelude.{nat_lt, IsTrue}
 use Rattle.std.specs.Int.{w16, w32, w64}
 use Rattle.std.specs.List.{flat_map, list_all}
 use Rattle.std.proofs.lemmas.Bool.{and_parts, eqb-true, ltb-true}
 use Rattle.std.proofs.lemmas.List.{append-nil, take_at, drop_at}
 use Rattle.byteorder.specs.Endian.{little_number}
-use Rattle.byteorder.specs.Numbers.{little_number-reads_back, length-bytes_low_first}
+use Rattle.byteorder.specs.Numbers.{little_number-reads_back}
 use Rattle.ep_defs.specs.declared.session.TraceInfo.{TraceInfo}
 use Rattle.ep_defs.specs.Session.{is_info}
+use Rattle.ep_defs.specs.Text.{units_in}
 use Rattle.pt_num.specs.Numbers.{fixed}
-use Rattle.pt_num.specs.Texts.{units_in}
+use Rattle.pt_num.proofs.Lengths.{length-fixed32, length-fixed64}
+use Rattle.pt_num.proofs.TextForms.{unit_made, units_long}
 use Rattle.nt_object.specs.Object.{trace_payload}
 use Rattle.nt_object.specs.Reading.{number_in}
 use Rattle.nt_blocks.specs.Verdict.{info_in}
 
 -- ---- numbers
-
--- Four bytes.
-pub length-fixed32 : (n : ℕ) → length (fixed w32 n) ≡ 4
-unfolding fixed
-length-fixed32 n = length-bytes_low_first 0 4 n
-
--- Eight bytes.
-length-fixed64 : (n : ℕ) → length (fixed w64 n) ≡ 8
-unfolding fixed
-length-fixed64 n = length-bytes_low_first 0 8 n
 
 -- A number of four bytes behind so many.
 pub number-there : (bytes front more : List ℕ) (place n : ℕ) → n < 2 ^ 32 → length front ≡ place → bytes ≡ front ++ (fixed w32 n ++ more) → number_in bytes place ≡ n
@@ -43,24 +35,14 @@ wide-there bytes front more place n fits long e =
     ∙ ap (little_number 8) (drop_at front (fixed w64 n ++ more) place long)
     ∙ little_number-reads_back 8 n more fits
 
--- The two bytes of a unit, and the unit that they make.
-unit-made : (unit : ℕ) → unit < 2 ^ 16 → unit % 256 + 256 * (unit / 256 % 256) ≡ unit
-unit-made unit fits = omega arith
-
 -- Units are read back from their bytes.
 units-there : (units : List ℕ) → list_all (λ n. nat_lt n (2 ^ 16)) units ≡ true → units_in (flat_map (fixed w16) units) ≡ units
 unfolding fixed
 units-there [] all = refl
 units-there (unit ∷ units) all =
     let parts = and_parts (nat_lt unit (2 ^ 16)) (list_all (λ n. nat_lt n (2 ^ 16)) units) all in
-    let made = unit-made unit (ltb-true unit (2 ^ 16) parts.0) in
+    let made = unit_made unit (ltb-true unit (2 ^ 16) parts.0) in
     rw made (ap (λ (us : List ℕ). unit ∷ us) (units-there units parts.1))
-
--- Units take two bytes each.
-length-units : (units : List ℕ) → length (flat_map (fixed w16) units) ≡ 2 * length units
-unfolding fixed
-length-units [] = refl
-length-units (unit ∷ units) = omega (arith, length-units units)
 
 -- ---- the payload
 
@@ -148,7 +130,7 @@ lengths a b c d e f g la lb lc ld le lf lg =
 -- The places of the numbers in a payload.
 payload-lengths : (info : TraceInfo) → Fits info → Lengths (flat_map (fixed w16) info.date) (fixed w64 info.sync) (fixed w64 info.frequency) (fixed w32 info.pointer_size) (fixed w32 info.process_id) (fixed w32 info.processors) (fixed w32 info.rate)
 payload-lengths info f =
-    let dates : length (flat_map (fixed w16) info.date) ≡ 16 = omega (arith, length-units info.date, f.eight) in
+    let dates : length (flat_map (fixed w16) info.date) ≡ 16 = omega (arith, units_long info.date, f.eight) in
     lengths _ _ _ _ _ _ _ dates (length-fixed64 info.sync) (length-fixed64 info.frequency) (length-fixed32 info.pointer_size) (length-fixed32 info.process_id) (length-fixed32 info.processors) (length-fixed32 info.rate)
 
 -- The payload takes 48 bytes.

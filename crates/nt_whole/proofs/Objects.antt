@@ -9,16 +9,18 @@ use Rattle.ep_defs.specs.Session.{is_info}
 use Rattle.ep_defs.specs.declared.item.Item.{Item}
 use Rattle.ep_defs.specs.declared.item.ItemKind.TheVariants as item
 use Rattle.pt_num.specs.Numbers.{fixed}
+use Rattle.pt_num.proofs.Lengths.{length-fixed32}
 use Rattle.nt_object.specs.declared.object.BlockKind.{BlockKind}
 use Rattle.nt_object.specs.declared.object.BlockKind.TheVariants as block
 use Rattle.nt_object.specs.declared.head.ObjectKind.TheVariants as kind
 use Rattle.nt_object.specs.Object.{object, trace_payload, trace_object, block_name, Block, block_bytes, padding_begins, to_multiple_of_4, CanStand}
 use Rattle.nt_object.specs.Reading.{number_in}
+use Rattle.nt_object.proofs.Fronts.{body_grouped}
 use Rattle.nt_blocks.specs.Refusals.{body_at}
 use Rattle.nt_blocks.specs.Verdict.{Object, Stop, named_at, object_at, or_refused, payload_at}
 use Rattle.nt_write.specs.Trace.{body_begins, trace_item}
 use Rattle.nt_whole.proofs.Units.{closed-there, next, passed, unit-there}
-use Rattle.nt_whole.proofs.Infos.{info-there, length-fixed32, number-there, payload-long}
+use Rattle.nt_whole.proofs.Infos.{info-there, number-there, payload-long}
 
 -- ---- the parts of an object
 
@@ -134,10 +136,6 @@ length-block b =
       length-fixed32 (length b.body),
     )
 
--- The size, the padding and the body, one after another.
-pub payload-grouped : (size padding body more : List ℕ) → (size ++ padding ++ body) ++ more ≡ size ++ (padding ++ (body ++ more))
-payload-grouped size padding body more = simp append_assoc
-
 -- The payload of a block that stands at this offset, by its parts.
 pub record Parts (at : ℕ) (b : Block) (items : List Item) : Type 0 where
   pub sized : number_in (fixed w32 (length b.body)) 0 ≡ length b.body
@@ -163,6 +161,6 @@ block-found b at rest items parts =
     let ends : place + 4 + length b.padding + length b.body + 1 ≡ at + length (block_bytes b) = omega (arith, length-block b) in
     let found : ℕ → Result Object Stop = λ n. Ok (record { items = items; next = n; rest = rest }) in
     block-begun b.kind (at + 1) (block_payload b ++ 6 ∷ rest)
-    ∙ ap (payload_at (kind.Block b.kind) place) (payload-grouped size b.padding b.body (6 ∷ rest))
+    ∙ ap (payload_at (kind.Block b.kind) place) (body_grouped size b.padding b.body (6 ∷ rest))
     ∙ block-payload b.kind place size b.padding b.body rest items (length-fixed32 (length b.body)) parts.sized parts.small parts.padded parts.held
     ∙ ap found ends

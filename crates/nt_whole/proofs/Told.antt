@@ -4,14 +4,9 @@ use Rattle.std.proofs.lemmas.List.{map-append}
 use Rattle.ep_defs.specs.declared.item.Item.{Item}
 use Rattle.ep_defs.specs.declared.item.ItemKind.{ItemKind}
 use Rattle.ep_defs.specs.Entry.{Entry}
-use Rattle.pt_num.specs.Steps.{◌>>=◌}
+use Rattle.pt_num.proofs.Steps.{bind_inv}
 use Rattle.nt_blocks.specs.Ordered.{AreOrdered, Names, Tell, kinds_of, names_after, no_names, tell, told_after}
 use Rattle.nt_whole.proofs.Units.{next}
-
--- What steps that came to a value went through.
-went : {E A B : Type 0} (first : Result A E) (f : A → Result B E) (y : B) → (first >>= f) ≡ Ok y → (x : A) × (first ≡ Ok x) × (f x ≡ Ok y)
-went (Ok x) f y e = (x, refl, e)
-went (Err fault) f y e = absurd (cc)
 
 -- Equal answers have equal values.
 same : {E : Type 0} (x y : List Entry) → (let one : Result (List Entry) E = Ok x in one ≡ Ok y) → x ≡ y
@@ -25,8 +20,8 @@ same {E} x y e = ap value e
 told-first : (names : Names) (first others : List ItemKind) (entries : List Entry) → told_after names (first ++ others) ≡ Ok entries → (told more : List Entry) × (told_after names first ≡ Ok told) × (entries ≡ told ++ more)
 told-first names [] others entries e = ([], entries, refl, refl)
 told-first names (kind ∷ first) others entries e =
-    let one = went (tell names kind) _ entries e in
-    let all = went (told_after (names_after names kind) (first ++ others)) _ entries one.2 in
+    let one = bind_inv (tell names kind) _ entries e in
+    let all = bind_inv (told_after (names_after names kind) (first ++ others)) _ entries one.2 in
     let later = told-first (names_after names kind) first others all.0 all.1 in (
       one.0 ++ later.0,
       later.1,

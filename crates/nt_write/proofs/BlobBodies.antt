@@ -1,10 +1,10 @@
 -- A body that is made of drafts is a body of blobs.
-use Rattle.std.proofs.Common.{◌≡◌, ℕ, zero, suc, ◌+◌, ◌^◌, ◌<◌, ◌≤◌, List, [], ◌∷◌, ◌++◌, length, refl, ap, sym, ◌∙◌, arith, length-append}
+use Rattle.std.proofs.Common.{◌≡◌, ℕ, zero, suc, ◌+◌, ◌^◌, ◌<◌, ◌≤◌, List, [], ◌∷◌, ◌++◌, length, refl, ap, sym, arith, length-append}
 use Rattle.std.proofs.lemmas.List.{append-nil}
 use Rattle.std.specs.Prelude.{map, replicate}
 use Rattle.std.proofs.lemmas.List.Elements.{All-nil}
 use Rattle.std.specs.List.{concat, flat_map, AllByRecursion}
-use Rattle.std.specs.Int.{w16, w32, w64}
+use Rattle.std.specs.Int.{w16, w64}
 use Rattle.ep_defs.specs.declared.event.EventDef.{EventDef}
 use Rattle.ep_defs.specs.declared.item.Item.{Item}
 use Rattle.ep_defs.specs.declared.item.ItemKind.{ItemKind}
@@ -16,6 +16,7 @@ use Rattle.nt_meta.specs.Meta.{meta_payload}
 use Rattle.nt_blocks.specs.Bodies.{Blob, blob_bytes, AreChained, HoldsEvent, HoldsMeta, AreItems, IsBlobBody}
 use Rattle.nt_blocks.specs.Ordered.{kinds_of}
 use Rattle.nt_blocks.specs.Drafts.{Draft, drafts_bytes, stamps, least, greatest, blob_body, meta_draft, meta_drafts}
+use Rattle.nt_blocks.proofs.PutBlobs.{length-blob_body}
 use Rattle.nt_head.specs.Fewest.{head_bytes}
 use Rattle.nt_write.specs.Writable.{CanDefine}
 use Rattle.nt_head.proofs.Heads.{MayFollow, head-is, head-len}
@@ -108,43 +109,11 @@ drafts-len-more before (d ∷ drafts) draft h =
     longer-rest (head_bytes before d.state) d.payload (drafts_bytes d.state drafts) (drafts_bytes d.state (drafts ++ draft ∷ [])) (88 + length draft.payload)
     (drafts-len-more d.state drafts draft h)
 
--- A number of 16 bits has two bytes.
-pub fixed_len-16 : (n : ℕ) → length (fixed w16 n) ≡ 2
-unfolding fixed
-fixed_len-16 n = refl
-
--- A number of 32 bits has four bytes.
-pub fixed_len-32 : (n : ℕ) → length (fixed w32 n) ≡ 4
-unfolding fixed
-fixed_len-32 n = refl
-
--- A number of 64 bits has eight bytes.
-pub fixed_len-64 : (n : ℕ) → length (fixed w64 n) ≡ 8
-unfolding fixed
-fixed_len-64 n = refl
-
--- The length of five pieces is the sum of theirs.
-five-len : (a b c d e : List ℕ) → length (concat (a ∷ b ∷ c ∷ d ∷ e ∷ [])) ≡ length a + length b + length c + length d + length e
-five-len a b c d e =
-    omega (arith, length-append a (b ++ (c ++ (d ++ (e ++ [])))), length-append b (c ++ (d ++ (e ++ []))), length-append c (d ++ (e ++ [])), length-append d (e ++ []), length-append e [])
-
--- The 20 bytes of the body's own header, and the blobs.
-pub body-len : (drafts : List Draft) → length (blob_body drafts) ≡ 20 + length (drafts_bytes zero_state drafts)
-body-len drafts =
-    let least_stamp : ℕ = least (stamps drafts) in
-    let greatest_stamp : ℕ = greatest (stamps drafts) in
-    five-len (fixed w16 20) (fixed w16 1) (fixed w64 least_stamp) (fixed w64 greatest_stamp) (drafts_bytes zero_state drafts)
-    ∙ front (length (fixed w16 20)) (length (fixed w16 1)) (length (fixed w64 least_stamp)) (length (fixed w64 greatest_stamp)) (length (drafts_bytes zero_state drafts))
-    (fixed_len-16 20) (fixed_len-16 1) (fixed_len-64 least_stamp) (fixed_len-64 greatest_stamp)
-  where
-    front : (a b c d e : ℕ) → a ≡ 2 → b ≡ 2 → c ≡ 8 → d ≡ 8 → a + b + c + d + e ≡ 20 + e
-    front a b c d e p q r s = omega arith
-
 -- A body with one blob more is longer by its payload and 88 bytes at most.
 pub body-len-more : (drafts : List Draft) (draft : Draft) → IsState draft.state → length (blob_body (drafts ++ draft ∷ [])) ≤ length (blob_body drafts) + (88 + length draft.payload)
 body-len-more drafts draft h =
     within (length (blob_body (drafts ++ draft ∷ []))) (length (drafts_bytes zero_state (drafts ++ draft ∷ []))) (length (blob_body drafts)) (length (drafts_bytes zero_state drafts)) (88 + length draft.payload)
-    (body-len (drafts ++ draft ∷ [])) (body-len drafts) (drafts-len-more zero_state drafts draft h)
+    (length-blob_body (drafts ++ draft ∷ [])) (length-blob_body drafts) (drafts-len-more zero_state drafts draft h)
   where
     within : (a b c d n : ℕ) → a ≡ 20 + b → c ≡ 20 + d → b ≤ d + n → a ≤ c + n
     within a b c d n p q r = omega arith

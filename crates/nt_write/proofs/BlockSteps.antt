@@ -18,7 +18,7 @@ use Rattle.nt_blocks.specs.Ordered.{kinds_of}
 use Rattle.nt_write.specs.Layout.{with_block}
 use Rattle.nt_write.specs.Writable.{CanPoint, IsStack}
 use Rattle.nt_write.proofs.Bytes.{AreLow, bytes-of, low-of, low-stack_body, low-point_body}
-use Rattle.nt_write.proofs.BlobBodies.{fixed_len-32, fixed_len-64}
+use Rattle.pt_num.proofs.Lengths.{length-fixed32, length-fixed64}
 
 -- ---- a block more
 
@@ -85,12 +85,12 @@ block-more kind body blocks items more h small is =
 threads-len : (threads : List (ℕ × ℕ)) → length (flat_map thread_bytes threads) ≡ 12 * length threads
 threads-len [] = refl
 threads-len (thread ∷ threads) =
-    omega (arith, length-append (thread_bytes thread) (flat_map thread_bytes threads), length-append (fixed w64 thread.0) (fixed w32 thread.1), fixed_len-64 thread.0, fixed_len-32 thread.1, threads-len threads)
+    omega (arith, length-append (thread_bytes thread) (flat_map thread_bytes threads), length-append (fixed w64 thread.0) (fixed w32 thread.1), length-fixed64 thread.0, length-fixed32 thread.1, threads-len threads)
 
 -- The length of the body of a point.
 pub point-len : (stamp : ℕ) (threads : List (ℕ × ℕ)) → length (point_body stamp threads) ≡ 12 + 12 * length threads
 point-len stamp threads =
-    omega (arith, length-append (fixed w64 stamp ++ fixed w32 (length threads)) (flat_map thread_bytes threads), length-append (fixed w64 stamp) (fixed w32 (length threads)), fixed_len-64 stamp, fixed_len-32 (length threads), threads-len threads)
+    omega (arith, length-append (fixed w64 stamp ++ fixed w32 (length threads)) (flat_map thread_bytes threads), length-append (fixed w64 stamp) (fixed w32 (length threads)), length-fixed64 stamp, length-fixed32 (length threads), threads-len threads)
 
 -- A point that can be written is the body of a point.
 pub point-is : (at : ℕ) (point : PointEntry) → CanPoint point → IsPointBody at (record { at = at; kind = item.Point point.stamp point.threads } ∷ []) (point_body point.stamp point.threads)
@@ -147,7 +147,7 @@ flat_map-len-more f (y ∷ xs) x =
 -- The 8 bytes of the body's own header, and the stacks.
 stack_body-len : (first : ℕ) (stacks : List (List ℕ)) → length (stack_body first stacks) ≡ 8 + length (flat_map stack_bytes stacks)
 stack_body-len first stacks =
-    omega (arith, length-append (fixed w32 first ++ fixed w32 (length stacks)) (flat_map stack_bytes stacks), length-append (fixed w32 first) (fixed w32 (length stacks)), fixed_len-32 first, fixed_len-32 (length stacks))
+    omega (arith, length-append (fixed w32 first ++ fixed w32 (length stacks)) (flat_map stack_bytes stacks), length-append (fixed w32 first) (fixed w32 (length stacks)), length-fixed32 first, length-fixed32 (length stacks))
 
 -- The body of no stacks.
 pub stack_body-len-none : (first : ℕ) → length (stack_body first []) ≡ 8
@@ -156,4 +156,4 @@ stack_body-len-none first = stack_body-len first []
 -- One stack more at the end of its body.
 pub stack-len-more : (first : ℕ) (stacks : List (List ℕ)) (stack : List ℕ) → length (stack_body first (stacks ++ stack ∷ [])) ≡ length (stack_body first stacks) + (4 + length stack)
 stack-len-more first stacks stack =
-    omega (arith, stack_body-len first (stacks ++ stack ∷ []), stack_body-len first stacks, flat_map-len-more stack_bytes stacks stack, length-append (fixed w32 (length stack)) stack, fixed_len-32 (length stack))
+    omega (arith, stack_body-len first (stacks ++ stack ∷ []), stack_body-len first stacks, flat_map-len-more stack_bytes stacks stack, length-append (fixed w32 (length stack)) stack, length-fixed32 (length stack))

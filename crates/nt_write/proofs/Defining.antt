@@ -55,7 +55,7 @@ needs-is layout def out meta stack h g =
 -- ---- definitions
 
 -- One definition more, under the next id.
-meta_drafts-more : (id : ℕ) (definitions : List EventDef) (def : EventDef) → meta_drafts id (definitions ++ def ∷ []) ≡ meta_drafts id definitions ++ meta_draft (id + length definitions) def ∷ []
+pub meta_drafts-more : (id : ℕ) (definitions : List EventDef) (def : EventDef) → meta_drafts id (definitions ++ def ∷ []) ≡ meta_drafts id definitions ++ meta_draft (id + length definitions) def ∷ []
 meta_drafts-more id [] def = ap (λ (n : ℕ). meta_draft n def ∷ []) (none id)
   where
     none : (n : ℕ) → n ≡ n + 0

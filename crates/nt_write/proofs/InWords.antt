@@ -1,11 +1,11 @@
 -- What is laid out is as the words say.
 use Rattle.std.proofs.Common.{◌≡◌, ℕ, zero, suc, ◌+◌, ◌-◌, ◌^◌, ◌<◌, ◌≤◌, Bool, true, false, cond, List, [], ◌∷◌, ◌++◌, length, drop, refl, sym, subst, arith, append_assoc}
 use Rattle.std.proofs.lemmas.List.{length-drop, drop_at, append-nil}
-use Rattle.std.specs.Prelude.{replicate, is_some, not, nat_eq}
-use Rattle.std.specs.Bool.{then_some}
+use Rattle.std.specs.Prelude.{replicate, not, nat_eq}
 use Rattle.std.specs.Cmp.Lexicographic.{pointwise}
 use Rattle.nt_head.specs.declared.head.HeadState.{HeadState}
 use Rattle.nt_head.specs.Fewest.{has_sequence, sequence_of}
+use Rattle.nt_head.proofs.PutHeads.{is_some-then_some}
 use Rattle.std.specs.List.{AllByRecursion}
 use Rattle.ep_defs.specs.declared.event.EventDef.{EventDef}
 use Rattle.ep_defs.specs.declared.session.TraceInfo.{TraceInfo}
@@ -229,18 +229,14 @@ in_words info entries bytes can few fit canonical =
 
 -- ---- headers
 
-there : {A : Type 0} (set : Bool) (x : A) → is_some (then_some set x) ≡ set
-there true x = refl
-there false x = refl
-
 -- Each flag stands where its value differs.
 pub flags-stand : (before now : HeadState) → FlagsStand before now
 flags-stand before now = record {
-  metadata = there (not (nat_eq before.metadata now.metadata)) now.metadata;
-  sequence = there (has_sequence before now) (sequence_of before now);
-  thread = there (not (nat_eq before.thread now.thread)) now.thread;
-  stack = there (not (nat_eq before.stack now.stack)) now.stack;
-  activity = there (not (pointwise nat_eq before.activity now.activity)) now.activity;
-  related = there (not (pointwise nat_eq before.related now.related)) now.related;
-  size = there (not (nat_eq before.size now.size)) now.size;
+  metadata = is_some-then_some (not (nat_eq before.metadata now.metadata)) now.metadata;
+  sequence = is_some-then_some (has_sequence before now) (sequence_of before now);
+  thread = is_some-then_some (not (nat_eq before.thread now.thread)) now.thread;
+  stack = is_some-then_some (not (nat_eq before.stack now.stack)) now.stack;
+  activity = is_some-then_some (not (pointwise nat_eq before.activity now.activity)) now.activity;
+  related = is_some-then_some (not (pointwise nat_eq before.related now.related)) now.related;
+  size = is_some-then_some (not (nat_eq before.size now.size)) now.size;
 }

@@ -13,14 +13,16 @@ use Rattle.nt_blocks.specs.Bodies.{stack_body, point_body}
 use Rattle.ep_defs.specs.Entry.{EventEntry, PointEntry, Entry, Event, Point}
 use Rattle.nt_blocks.specs.Ordered.{Names}
 use Rattle.nt_blocks.specs.Drafts.{Draft, blob_body, meta_draft, meta_drafts}
+use Rattle.nt_blocks.proofs.PutBlobs.{length-blob_body}
 use Rattle.nt_stacks.specs.Stacks.{with_stack, stack_id}
 use Rattle.nt_write.specs.Layout.{Layout, event_draft, empty_layout, id_in, with_member, new_metas, new_stack_body, with_block, with_block_of, flushed, passes, needs_flush, with_event, with_point, with_entry, with_entries}
 use Rattle.nt_write.specs.Writable.{CanDefine, IsStack, CanWrite, CanPoint, CanTell}
-use Rattle.nt_write.proofs.BlobBodies.{body-len, body-len-more, meta-state}
+use Rattle.nt_write.proofs.BlobBodies.{body-len-more, meta-state}
 use Rattle.nt_write.proofs.BlockSteps.{all-more, no_blocks, stack_body-len-none, stack-len-more}
 use Rattle.nt_write.proofs.Names.{named, IsNumbered, numbered-more, Members, members}
 use Rattle.nt_write.proofs.Sameness.{text_sameness, event_sameness}
 use Rattle.nt_write.proofs.Told.{AreTold, metas-told, stacks-told, events-told, point-told, Pending, draft_of, entry_of, IsStacked, IsPending, pending-draft}
+use Rattle.nt_write.proofs.Defining.{meta_drafts-more}
 
 -- ---- the parts of a layout
 
@@ -111,8 +113,8 @@ flushed-is p =
 -- Where nothing waits, the bodies are small.
 nothing-small : (p : Parts) → p.new_definitions ≡ [] → p.new_stacks ≡ [] → p.pending ≡ [] → AreSmall p
 nothing-small p d s e = record {
-  events = rw e (omega (arith, body-len []));
-  metas = rw d (omega (arith, body-len []));
+  events = rw e (omega (arith, length-blob_body []));
+  metas = rw d (omega (arith, length-blob_body []));
   stacks = rw s (omega (arith, stack_body-len-none (length p.old_stacks + 1)));
 }
 
@@ -170,8 +172,8 @@ room-by-test layout event h =
 -- After a flush there is room for any event that can be written.
 room-after-flush : (layout : Layout) (event : EventEntry) → CanWrite event → HasRoom (flushed layout) event
 room-after-flush layout event h = record {
-  events = omega (arith, body-len [], h.short);
-  metas = λ e. rw (drop_all (length layout.definitions) layout.definitions (omega arith)) (whole (length (blob_body [])) (length (meta_payload (length layout.definitions + 1) event.def)) (body-len []) (h.def.short (length layout.definitions + 1)));
+  events = omega (arith, length-blob_body [], h.short);
+  metas = λ e. rw (drop_all (length layout.definitions) layout.definitions (omega arith)) (whole (length (blob_body [])) (length (meta_payload (length layout.definitions + 1) event.def)) (length-blob_body []) (h.def.short (length layout.definitions + 1)));
   stacks = λ lt. rw (drop_all (length layout.stacks) layout.stacks (omega arith)) (room (length (stack_body (length layout.stacks + 1) [])) (stack_body-len-none (length layout.stacks + 1)));
 }
   where
@@ -182,17 +184,6 @@ room-after-flush layout event h = record {
     room body e = omega (arith, h.stack.short)
 
 -- ---- a definition and a stack more
-
--- The draft of one definition more has the next id.
-metas-append : (id : ℕ) (defs : List EventDef) (def : EventDef) → meta_drafts id (defs ++ def ∷ []) ≡ meta_drafts id defs ++ meta_draft (id + length defs) def ∷ []
-metas-append id [] def = ap (λ (n : ℕ). meta_draft n def ∷ []) (nothing id)
-  where
-    nothing : (n : ℕ) → n ≡ n + 0
-    nothing n = omega arith
-metas-append id (d ∷ defs) def = ap (λ (ds : List Draft). meta_draft id d ∷ ds) (metas-append (id + 1) defs def ∙ ap (λ (n : ℕ). meta_drafts (id + 1) defs ++ meta_draft n def ∷ []) (shift id (length defs)))
-  where
-    shift : (n k : ℕ) → n + 1 + k ≡ n + suc k
-    shift n k = omega arith
 
 -- The new definitions with one that an event has.
 record DefinitionsGrown (old new : List EventDef) (def : EventDef) : Type 0 where
@@ -239,7 +230,7 @@ definitions-grown old new def can all small room =
           list = list;
           grown = sym (append_assoc old new (def ∷ []));
           can = all-more CanDefine new def all can;
-          small = subst (λ (ds : List Draft). length (blob_body ds) ≤ 102400) (sym (metas-append (length old + 1) new def))
+          small = subst (λ (ds : List Draft). length (blob_body ds) ≤ 102400) (sym (meta_drafts-more (length old + 1) new def))
               (within (length (blob_body (meta_drafts (length old + 1) new ++ meta_draft id def ∷ []))) (length (blob_body (meta_drafts (length old + 1) new))) (88 + length (meta_payload id def)) longer
               (subst (λ (n : ℕ). length (blob_body (meta_drafts (length old + 1) new)) + (88 + length (meta_payload n def)) ≤ 102400) (sym id-is) (room e.0)));
           numbered = subst (λ (ds : List EventDef). IsNumbered ds (id_in is_same_event def ds) def) list m.numbered;

@@ -47,7 +47,7 @@ fixed_few : (w : Width) (bytes : List ℕ) → length bytes < byte_len w → fix
 fixed_few w bytes few = cond-true _ _ _ (lt-ltb (length bytes) (byte_len w) few)
 
 -- Enough bytes are a number.
-fixed_enough : (w : Width) (bytes : List ℕ) → byte_len w ≤ length bytes → fixed_at w bytes ≡ Ok (little_number (byte_len w) bytes, drop (byte_len w) bytes)
+pub fixed_enough : (w : Width) (bytes : List ℕ) → byte_len w ≤ length bytes → fixed_at w bytes ≡ Ok (little_number (byte_len w) bytes, drop (byte_len w) bytes)
 fixed_enough w bytes enough = cond-false _ _ _ (le-ltb (length bytes) (byte_len w) enough)
 
 -- A number that is read begins the bytes.

@@ -2,5 +2,8 @@ pub mod FixedForms
 pub mod Forms
 pub mod Fronts
 pub mod Groups
+pub mod Kept
+pub mod Lengths
 pub mod Reading
+pub mod Steps
 pub mod TextForms

@@ -6,10 +6,11 @@ use Rattle.std.proofs.lemmas.Bool.{cases_lt, le-leb, leb-true, and_from, and_par
 use Rattle.std.proofs.lemmas.Bool.Decides.{nat_tests}
 use Rattle.std.proofs.lemmas.List.{length-append, length-drop, length-take-le, take_at, drop_at, take-append-drop, drop-drop, drop_more, get_or-drop}
 use Rattle.byteorder.specs.Endian.{little_number}
+use Rattle.ep_defs.specs.Text.{units_in}
 use Rattle.pt_num.specs.declared.text.TakenText.{TakenText}
 use Rattle.pt_num.specs.declared.text.TakenText.TheVariants as text
 use Rattle.pt_num.specs.Numbers.{fixed}
-use Rattle.pt_num.specs.Texts.{units_bytes, units_in, text_z, are_units, are_wide, text_c, IsTextZ, IsTextC}
+use Rattle.pt_num.specs.Texts.{units_bytes, text_z, are_units, are_wide, text_c, IsTextZ, IsTextC}
 use Rattle.pt_num.specs.Steps.{◌>>=◌, check}
 use Rattle.pt_num.specs.Fields.{Field, Fault, Short, NoZero, fixed_at, with_unit, text_z_at, units_at, counted_units_at, text_c_at}
 use Rattle.pt_num.specs.Taking.{TakesText, IfUnits}
@@ -421,7 +422,7 @@ text_c_is units few fits = inr (refl, omega (arith, few), wide units fits)
 -- ---- laws
 
 -- The two bytes of a unit, and the unit that they make.
-unit_made : (unit : ℕ) → unit < 2 ^ 16 → unit % 256 + 256 * (unit / 256 % 256) ≡ unit
+pub unit_made : (unit : ℕ) → unit < 2 ^ 16 → unit % 256 + 256 * (unit / 256 % 256) ≡ unit
 unit_made unit fits = omega arith
 
 -- A text is read, whatever follows.
@@ -453,7 +454,7 @@ units_back (unit ∷ units) all =
     rw made (ap (λ (us : List ℕ). unit ∷ us) (units_back units parts.1))
 
 -- Units take two bytes each.
-units_long : (units : List ℕ) → length (units_bytes units) ≡ 2 * length units
+pub units_long : (units : List ℕ) → length (units_bytes units) ≡ 2 * length units
 unfolding fixed
 units_long [] = refl
 units_long (unit ∷ units) = omega (arith, units_long units)

@@ -3,12 +3,12 @@ use Rattle.std.specs.Prelude.{◌≡◌, ℕ, ◌+◌, ◌-◌, ◌*◌, ◌<◌
 use Rattle.std.specs.List.{list_all}
 use Rattle.std.specs.Int.{Width, w32, byte_len}
 use Rattle.byteorder.specs.Endian.{little_number}
+use Rattle.ep_defs.specs.Text.{units_in}
 use Rattle.pt_num.specs.declared.varuint.Taken.{Taken}
 use Rattle.pt_num.specs.declared.varuint.Taken.TheVariants as taken
 use Rattle.pt_num.specs.declared.text.TakenText.{TakenText}
 use Rattle.pt_num.specs.declared.text.TakenText.TheVariants as text
 use Rattle.pt_num.specs.Numbers.{most_groups}
-use Rattle.pt_num.specs.Texts.{units_in}
 use Rattle.pt_num.specs.Fields.{Field, Short, TooWide, NoZero, fixed_at, last_group}
 
 -- ---- numbers

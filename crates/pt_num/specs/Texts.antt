@@ -1,5 +1,5 @@
 -- Texts in UTF-16 as bytes.
-use Rattle.std.specs.Prelude.{◌≡◌, ℕ, ◌+◌, ◌*◌, ◌^◌, ◌<◌, Bool, ◌⊎◌, List, [], ◌∷◌, ◌++◌, length, IsTrue}
+use Rattle.std.specs.Prelude.{◌≡◌, ℕ, ◌+◌, ◌^◌, ◌<◌, Bool, ◌⊎◌, List, [], ◌++◌, length, IsTrue}
 use Rattle.std.specs.List.{flat_map, list_all}
 use Rattle.std.specs.Int.{w16, w32, is_in_range}
 use Rattle.pt_num.specs.Numbers.{fixed}
@@ -7,12 +7,6 @@ use Rattle.pt_num.specs.Numbers.{fixed}
 -- The units of a text, two bytes each, the low byte first.
 abbrev pub units_bytes : List ℕ → List ℕ
 units_bytes units = flat_map (fixed w16) units
-
--- The units that stand in these bytes.
-abbrev pub units_in : List ℕ → List ℕ
-units_in [] = []
-units_in (low ∷ []) = []
-units_in (low ∷ high ∷ bytes) = (low + 256 * high) ∷ units_in bytes
 
 -- A text that a zero unit ends, as in metadata (the NetTrace format document of PerfView (version 4), metadata payloads).
 abbrev pub text_z : List ℕ → List ℕ

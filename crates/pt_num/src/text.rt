@@ -2,7 +2,8 @@
 ghost use Rattle.std.specs.Prelude.{◌≡◌, ◌≢◌, ◌+◌, ◌*◌, ◌<◌, ◌≤◌, ◌↔◌, [], ◌∷◌, ◌++◌, length, take, drop, IsTrue, IsOk, OnOk, OnErr, vec_len, vec_capacity};
 ghost use Rattle.pt_num.specs.declared.text.TakenText.TheVariants.{Short, NoZero};
 ghost use Rattle.pt_num.specs.declared.limits.TheConstants.{TEXT_UNITS};
-ghost use Rattle.pt_num.specs.Texts.{text_z, text_c, are_units, units_in, units_bytes, IsTextZ, IsTextC};
+ghost use Rattle.ep_defs.specs.Text.{units_in};
+ghost use Rattle.pt_num.specs.Texts.{text_z, text_c, are_units, units_bytes, IsTextZ, IsTextC};
 ghost use Rattle.pt_num.specs.Fields.{text_z_at, text_c_at};
 ghost use Rattle.pt_num.specs.Taking.{TakesText, IfUnits, counted, last_counted};
 

@@ -1,5 +1,5 @@
 -- A part of a payload that is put by a call of its own.
-use Rattle.std.specs.Prelude.{◌≡◌, ℕ, ◌+◌, List, [], ◌++◌, length, take, count_by, ◌==◌, if◌then◌else◌}
+use Rattle.std.specs.Prelude.{ℕ, ◌+◌, List, [], ◌++◌, length, count_by, ◌==◌, if◌then◌else◌}
 use Rattle.std.specs.Int.{w32}
 use Rattle.ep_defs.specs.declared.event.TheConstants.{OBJECT_CODE}
 use Rattle.ep_defs.specs.declared.event.FieldDef.{FieldDef}
@@ -12,7 +12,3 @@ inside_bytes field fields =
     if field.code == OBJECT_CODE
     then fixed w32 (count_by (λ f. f.depth == field.depth + 1) fields) ++ fields_bytes (length fields) fields
     else []
-
--- The list begins with all that it held before.
-abbrev pub Keeps : List ℕ → List ℕ → Type 0
-Keeps before now = take (length before) now ≡ before

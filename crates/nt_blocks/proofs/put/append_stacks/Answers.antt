@@ -1,5 +1,5 @@
 use Rattle.std.proofs.Common.{◌<◌, ◌^◌, List, ℕ, length, subst, sym}
-use Rattle.nt_blocks.proofs.PutPieces.{Keeps-trans, on_error}
+use Rattle.pt_num.proofs.Kept.{Keeps-trans, on_error}
 use Rattle.nt_blocks.proofs.Sizes.{stack-fits, keeps_three}
 use Rattle.nt_blocks.proofs.put.append_stacks.Goals as goal
 

@@ -1,7 +1,7 @@
 use Rattle.std.proofs.Common.{arith}
 use Rattle.std.proofs.lemmas.Grind.{common_steps}
 use Rattle.nt_meta.proofs.PutFields.{Parts-of, first_put}
-use Rattle.nt_meta.proofs.PutPieces.{Keeps-trans, on_error}
+use Rattle.pt_num.proofs.Kept.{Keeps-trans, on_error}
 use Rattle.nt_meta.proofs.put.+fields.Goals as goal
 
 pub append_fields-append_inside-requires : goal.append_fields-append_inside-requires

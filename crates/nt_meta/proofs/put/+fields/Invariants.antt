@@ -2,7 +2,7 @@
 use Rattle.std.proofs.Common.{◌≡◌, ◌+◌, ◌*◌, ◌≤◌, ◌++◌, length, IsTrue}
 use Rattle.std.specs.List.{list_all}
 use Rattle.ep_defs.specs.Event.{is_valid_field}
-use Rattle.nt_meta.specs.state.Fields.{Keeps}
+use Rattle.pt_num.specs.Begins.{Keeps}
 use Rattle.nt_meta.specs.Meta.{fields_bytes}
 use Rattle.nt_meta.proofs.put.+fields.Given as goal
 

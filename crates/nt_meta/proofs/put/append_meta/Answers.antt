@@ -2,7 +2,7 @@ use Rattle.std.proofs.Common.{length, arith}
 use Rattle.std.proofs.lemmas.Grind.{common_steps}
 use Rattle.nt_meta.specs.Meta.{fields_bytes}
 use Rattle.nt_meta.proofs.PutFields.{meta_put}
-use Rattle.nt_meta.proofs.PutPieces.{kept_through}
+use Rattle.pt_num.proofs.Kept.{kept_through}
 use Rattle.nt_meta.proofs.put.append_meta.Goals as goal
 
 pub returns-clause-ok : goal.returns-clause-ok

@@ -1,5 +1,6 @@
 use Rattle.std.proofs.Common.{codes}
-use Rattle.nt_object.proofs.PutPieces.{begun_kept, on_error, start_put, Keeps-trans}
+use Rattle.pt_num.proofs.Kept.{Keeps-trans, on_error}
+use Rattle.nt_object.proofs.PutPieces.{begun_kept, start_put}
 use Rattle.nt_object.proofs.object.append_start.Goals as goal
 
 pub returns-clause-ok : goal.returns-clause-ok

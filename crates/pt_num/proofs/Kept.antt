@@ -2,7 +2,7 @@
 use Rattle.std.proofs.Common.{◌≡◌, ℕ, ◌≤◌, Result, Ok, Err, List, ◌++◌, length, take, drop, sym, ap, ◌∙◌, arith}
 use Rattle.std.proofs.lemmas.List.{length-take, take-append-le, take-append-drop}
 use Rattle.std.specs.Result.{OnErr}
-use Rattle.nt_blocks.specs.state.Kept.{Keeps}
+use Rattle.pt_num.specs.Begins.{Keeps}
 
 -- What a list keeps is kept by one that keeps the list.
 pub Keeps-trans : (before now after : List ℕ) → Keeps before now → Keeps now after → Keeps before after
