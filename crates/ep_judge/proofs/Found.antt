@@ -10,6 +10,7 @@ use Rattle.std.proofs.lemmas.Option.{slice_get_read, slice_get-get_or}
 use Rattle.std.proofs.lemmas.List.Quantifiers.{position-Some}
 use Rattle.ep_defs.specs.declared.event.EventDef.{EventDef}
 use Rattle.ep_model.specs.History.{Past, present, is_present, was_there, is_there, has_left, in_write, is_open, is_due}
+use Rattle.ep_model.proofs.Lists.{has}
 use Rattle.ep_row.specs.Row.{slot_of}
 use Rattle.ep_stream.specs.Rows.{IsRow}
 use Rattle.ep_stream.specs.Steps.{ToldRows}
@@ -17,7 +18,6 @@ use Rattle.ep_rows.specs.Rows.{told_of}
 use Rattle.ep_judge.specs.declared.tables.Present.{Present}
 use Rattle.ep_judge.specs.declared.tables.Tables.{Tables}
 use Rattle.ep_judge.specs.Tables.{TablesFollow, PresentFollows, RowFollows, PlaceFollows, IsGone, own_row, row_of, number_of}
-use Rattle.ep_judge.proofs.Lists.{has}
 use Rattle.ep_judge.proofs.Pasts.{has_present}
 
 -- ---- lists
@@ -47,7 +47,7 @@ none_passes p xs is =
       | false ↦ λ _. refl
     ] refl
 
-any_at : {A : Type 0} (p : A → Bool) (xs : List A) (i : ℕ) (x : A) → slice_get xs i ≡ Some x → p x ≡ true → list_any p xs ≡ true
+pub any_at : {A : Type 0} (p : A → Bool) (xs : List A) (i : ℕ) (x : A) → slice_get xs i ≡ Some x → p x ≡ true → list_any p xs ≡ true
 any_at p [] i x is on = cc
 any_at {A = A} p (y ∷ ys) zero x is on = let same : y ≡ x = cc in let P : A → Type 0 = λ z. (p z || list_any p ys) ≡ true in subst P (sym same) (rw on refl)
 any_at p (y ∷ ys) (suc i) x is on = elim (p y) as (λ v. (v || list_any p ys) ≡ true) [ true ↦ refl | false ↦ any_at p ys i x is on ]
@@ -127,10 +127,6 @@ row_found events past tables thread row h is =
 -- What has no row of its own never came, or is gone.
 pub no_row : (events : List EventDef) (past : Past) (tables : Tables) (thread : ℕ) → TablesFollow events past tables → None ≡ row_of tables thread → (was_there thread past ≡ false) ⊎ IsGone thread past
 no_row events past tables thread h is = own_none past (told_of tables.rows) thread (get nat_cmp tables.threads thread) (h.places thread) (sym is)
-
-pub was_there_is : (past : Past) (told : ToldRows) (thread : ℕ) (given : Option ℕ) → PlaceFollows past told thread given → is_some given ≡ was_there thread past
-was_there_is past told thread None follows = sym follows
-was_there_is past told thread (Some row) follows = sym follows.0
 
 pub there_found : (past : Past) (tables : Tables) (thread row : ℕ) → RowFound past tables thread row → not ((told_of tables.rows).row row).left ≡ is_there thread past
 there_found past tables thread row h =

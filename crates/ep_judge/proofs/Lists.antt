@@ -1,12 +1,9 @@
 -- Numbers in lists.
 use Rattle.std.proofs.Common.{◌≡◌, ℕ, zero, suc, ◌+◌, ◌<◌, ◌≤◌, Bool, true, false, List, [], ◌∷◌, map, length, refl, ap, sym, ◌∙◌, subst, arith, if◌then◌else◌}
 use Rattle.std.specs.Prelude.{◌&&◌, ◌||◌, ◌++◌, not, filter, ◌==◌}
-use Rattle.std.specs.List.{list_any, range_with_len}
+use Rattle.std.specs.List.{range_with_len}
 use Rattle.std.proofs.lemmas.Bool.{eqb-true, eqb-false, eq-eqb, ne_eqb, and_right, or_from, or_left, or_right, false≢true}
-
--- The number stands in the list.
-abbrev pub has : ℕ → List ℕ → Bool
-has n xs = list_any (λ x. x == n) xs
+use Rattle.ep_model.proofs.Lists.{has}
 
 -- No number stands twice.
 abbrev pub IsDistinct : List ℕ → Type 0
@@ -62,9 +59,6 @@ distinct-filter f (x ∷ xs) d =
       | true ↦ (has-filter f x xs ∙ and_right (f x) _ d.0, distinct-filter f xs d.1)
       | false ↦ distinct-filter f xs d.1
     ]
-
-pub eqb_turn : (a b : ℕ) → (a == b) ≡ false → (b == a) ≡ false
-eqb_turn a b off = ne_eqb b a (λ same. eqb-false a b off (sym same))
 
 -- ---- how many there are
 
@@ -122,10 +116,6 @@ pub range-distinct : (a count : ℕ) → IsDistinct (range_with_len a count)
 range-distinct a zero = tt
 range-distinct a (suc count) = (has-range a (a + 1) count (omega arith), range-distinct (a + 1) count)
 
-pub range-length : (a count : ℕ) → length (range_with_len a count) ≡ count
-range-length a zero = refl
-range-length a (suc count) = ap suc (range-length (a + 1) count)
-
 pub has-within : (n a count : ℕ) → a ≤ n → n < a + count → has n (range_with_len a count) ≡ true
 has-within n a zero low high = absurd (omega arith)
 has-within n a (suc count) low high =
@@ -165,7 +155,3 @@ distinct-map f g (x ∷ xs) back d =
       ] refl,
       distinct-map f g xs more d.1,
     )
-
-pub length-map : (f : ℕ → ℕ) (xs : List ℕ) → length (map f xs) ≡ length xs
-length-map f [] = refl
-length-map f (x ∷ xs) = ap suc (length-map f xs)

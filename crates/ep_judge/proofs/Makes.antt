@@ -1,11 +1,12 @@
 -- A step that can be made finds what it needs.
-use Rattle.std.proofs.Common.{◌≡◌, ℕ, zero, suc, ◌<◌, ◌≤◌, Bool, true, false, inl, inr, List, [], ◌∷◌, map, length, Option, Some, None, IfNone, refl, ap, sym, ◌∙◌, subst, arith, get_or}
+use Rattle.std.proofs.Common.{◌≡◌, ℕ, zero, suc, ◌<◌, ◌≤◌, Bool, true, false, inl, inr, List, [], ◌∷◌, length, Option, Some, None, IfNone, refl, ap, sym, ◌∙◌, subst, arith, get_or}
 use Rattle.std.specs.Prelude.{not, is_some, is_none, slice_get, position, nat_lt, ◌==◌}
 use Rattle.std.specs.BTreeMap.{get}
 use Rattle.std.specs.Ordering.{nat_cmp}
-use Rattle.std.proofs.lemmas.Bool.{eqb-true, leb-false, le-leb, ltb-false, and_parts, not-true, not-false, false≢true}
+use Rattle.std.proofs.lemmas.Bool.{eqb-true, leb-false, le-leb, ltb-false, and_parts, not-true, not-false, false≢true, false_from_ne_true}
 use Rattle.std.proofs.lemmas.Option.{slice_get-get_or}
 use Rattle.std.proofs.lemmas.List.Quantifiers.{position-Some}
+use Rattle.std.proofs.lemmas.List.{length-map}
 use Rattle.ep_defs.specs.Definitions.{definition_at}
 use Rattle.ep_defs.specs.declared.event.EventDef.{EventDef}
 use Rattle.ep_model.specs.declared.step.Step.{Step}
@@ -14,15 +15,17 @@ use Rattle.ep_model.specs.Chunks.{turns, in_hand, is_hand_full}
 use Rattle.ep_model.specs.Fold.{budget_of}
 use Rattle.ep_model.specs.History.{Past, present, is_present, was_there, is_there, has_left, in_write, opened, is_open, rows}
 use Rattle.ep_model.specs.Lawful.{objections, objection_to, was_opened, begins}
+use Rattle.ep_model.proofs.Objections.{none_there}
+use Rattle.ep_model.proofs.Sessions.{open_opened, open_somewhere}
 use Rattle.ep_row.specs.Row.{slot_of}
 use Rattle.ep_rows.specs.Rows.{told_of}
 use Rattle.ep_judge.specs.declared.tables.Present.{Present}
 use Rattle.ep_judge.specs.declared.tables.Tables.{Tables}
 use Rattle.ep_judge.specs.Tables.{TablesFollow, PresentFollows, IsGone, row_of, number_of}
 use Rattle.ep_judge.specs.Can.{HasRow, HasPlace, IsQuiet, CanOpenOn, CanShowTo, IsOn, HasEmptyHand, IsNowhere, CanMake}
-use Rattle.ep_judge.proofs.Pasts.{none_there, open_opened, open_there, open_somewhere}
+use Rattle.ep_judge.proofs.Pasts.{open_there}
 use Rattle.ep_judge.proofs.Found.{All-at, RowFound, row_found, no_row, no_place, there_found, in_write_found, SessionFound, on_found, owed_found}
-use Rattle.ep_judge.proofs.Slots.{has_due_found, all_taken, is_false}
+use Rattle.ep_judge.proofs.Slots.{has_due_found, all_taken}
 use Rattle.ep_judge.proofs.Somewhere.{none_is}
 
 -- ---- threads
@@ -108,16 +111,12 @@ empty_hand events past tables session one counted found empty =
 
 -- ---- limits
 
-length-mapped : {A : Type 0} (f : A → ℕ) (xs : List A) → length (map f xs) ≡ length xs
-length-mapped f [] = refl
-length-mapped f (x ∷ xs) = ap suc (length-mapped f xs)
-
 within : {A : Type 0} (xs : List A) (i : ℕ) → is_none (slice_get xs i) ≡ false → i < length xs
 within [] i is = absurd (false≢true (sym is))
 within (x ∷ xs) zero is = omega arith
 within (x ∷ xs) (suc i) is = let less = within xs i is in omega arith
 
-defined : (definitions : List EventDef) (event : ℕ) → is_none (definition_at definitions event) ≡ false → (0 < event) × (event ≤ length definitions)
+pub defined : (definitions : List EventDef) (event : ℕ) → is_none (definition_at definitions event) ≡ false → (0 < event) × (event ≤ length definitions)
 defined definitions zero is = absurd (false≢true (sym is))
 defined definitions (suc place) is = let less = within definitions place is in (omega arith, omega arith)
 
@@ -134,7 +133,7 @@ pub can_make : (events : List EventDef) (past : Past) (tables : Tables) (made : 
 can_make events past tables (step.Accept s config) counted h none =
     let o = none_there (objections events past (step.Accept s config)) none in
     let few = leb-false 64 (length (present past)) o.1.1.0 in
-    let count = ap length h.present_are ∙ length-mapped number_of tables.present.items in
+    let count = ap length h.present_are ∙ length-map tables.present.items number_of in
     (not-false _ o.1.0, omega (arith, few, count))
 can_make events past tables (step.Enter t) counted h none =
     let o = none_there (objections events past (step.Enter t)) none in
@@ -148,7 +147,7 @@ can_make events past tables (step.Open s t) counted h none =
     let at = present_place events past tables s h (not-false _ o.0) in
     let on = there_row events past tables t h there in
     let R = (told_of tables.rows).row on.row in
-    let closed : is_open s t past ≡ false = is_false (is_open s t past) (λ is. false≢true (sym o.1.1.0 ∙ open_opened s t past is)) in
+    let closed : is_open s t past ≡ false = false_from_ne_true (is_open s t past) (λ is. false≢true (sym o.1.1.0 ∙ open_opened s t past is)) in
     let few = leb-false 1000000 (length (opened s past)) o.1.1.1.0 in
     let count = at.found.follows.count ∙ ap (λ n. length (opened n past)) at.found.number in
     has_place events past tables s (λ one. HasRow tables t (CanOpenOn t one)) at
@@ -220,7 +219,7 @@ can_make events past tables (step.Finish s stamp) counted h none =
     let at = present_place events past tables s h (not-false _ o.0) in
     let told = told_of tables.rows in
     has_place events past tables s (λ one. IsNowhere tables one × HasEmptyHand one) at (
-      λ r is_row. none_is (slot_of (told.row r) at.one.slot) (is_false (is_some (slot_of (told.row r) at.one.slot)) (λ on.
+      λ r is_row. none_is (slot_of (told.row r) at.one.slot) (false_from_ne_true (is_some (slot_of (told.row r) at.one.slot)) (λ on.
           false≢true (sym o.1.0 ∙ open_somewhere s (told.row r).thread past (sym ((at.found.follows.rows r is_row).on ∙ ap (λ n. is_open n (told.row r).thread past) at.found.number) ∙ on)))),
       empty_hand events past tables s at.one (counted s) at.found o.1.1.0,
     )

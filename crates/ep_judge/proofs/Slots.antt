@@ -5,12 +5,13 @@ use Rattle.std.specs.Int.{bit_at}
 use Rattle.std.specs.List.{All, list_any, AllByRecursion}
 use Rattle.std.specs.BTreeMap.{get}
 use Rattle.std.specs.Ordering.{nat_cmp}
-use Rattle.std.proofs.lemmas.Bool.{eqb-true, eq-eqb, le-leb, leb-true, and_from, and_right, or_left, or_right, or_from, false≢true}
+use Rattle.std.proofs.lemmas.Bool.{eqb-true, eq-eqb, le-leb, leb-true, and_from, and_right, or_left, or_right, or_from, false≢true, false_from_ne_true}
 use Rattle.std.proofs.lemmas.Nat.Bits.{bit_at-lt, bit_at-zero, same_from_bits}
 use Rattle.std.proofs.lemmas.List.Elements.{All-head, All-tail, All-from_get_or}
 use Rattle.ep_defs.specs.declared.event.EventDef.{EventDef}
 use Rattle.ep_model.specs.History.{Past, present, was_there, is_there, has_left, takes_row, rows, is_open, is_due}
 use Rattle.ep_model.specs.Lawful.{has_due}
+use Rattle.ep_model.proofs.Lists.{same_bools}
 use Rattle.ep_row.specs.Row.{slot_of}
 use Rattle.ep_row.specs.declared.row.Opening.{Opening}
 use Rattle.ep_stream.specs.Rows.{IsRow}
@@ -39,17 +40,6 @@ any_slot q slot (p ∷ ps) passes is =
       | true ↦ λ same _. or_left (q p.slot) _ (ap q (eqb-true p.slot slot same) ∙ passes)
       | false ↦ λ _ h. or_right (q p.slot) _ (any_slot q slot ps passes h)
     ] refl is
-
-pub same_bools : (a b : Bool) → (a ≡ true → b ≡ true) → (b ≡ true → a ≡ true) → a ≡ b
-same_bools true true f g = refl
-same_bools false false f g = refl
-same_bools true false f g = sym (f refl)
-same_bools false true f g = g refl
-
--- What is refuted is false.
-pub is_false : (b : Bool) → (b ≡ true → ⊥) → b ≡ false
-is_false true not = absurd (not refl)
-is_false false not = refl
 
 -- ---- what is due
 
@@ -100,7 +90,7 @@ open_any events past tables row h is_row =
     ∙ any_same (PresentFollows events past told) (λ (p : Present). is_open p.number thread past) (λ (p : Present). is_some (slot_of (told.row row) p.slot)) tables.present.items
     (λ p follows. sym (follows.rows row is_row).on) h.sessions
 
-none_at : (xs : List (Option Opening)) (slot : ℕ) → All IsNone xs → is_some (slice_index_or xs slot None) ≡ false
+pub none_at : (xs : List (Option Opening)) (slot : ℕ) → All IsNone xs → is_some (slice_index_or xs slot None) ≡ false
 none_at [] slot all = refl
 none_at (x ∷ xs) zero all = All-head IsNone x xs all
 none_at (x ∷ xs) (suc slot) all = none_at xs slot (All-tail IsNone x xs all)
@@ -108,7 +98,7 @@ none_at (x ∷ xs) (suc slot) all = none_at xs slot (All-tail IsNone x xs all)
 -- ---- rows that are taken
 
 le_false : (n m : ℕ) → m < n → nat_le n m ≡ false
-le_false n m less = is_false (nat_le n m) (λ is. let most = leb-true n m is in absurd (omega (arith, most, less)))
+le_false n m less = false_from_ne_true (nat_le n m) (λ is. let most = leb-true n m is in absurd (omega (arith, most, less)))
 
 -- The row is not free, so its thread takes it.
 row_taken : (events : List EventDef) (past : Past) (tables : Tables) (row : ℕ) → TablesFollow events past tables → IsRow 256 row
@@ -122,7 +112,7 @@ row_taken events past tables row h is_row not_free =
           elim (list_any (λ s. is_open s R.thread past) (present past)) as (λ v. list_any (λ s. is_open s R.thread past) (present past) ≡ v → takes_row R.thread past ≡ true) [
             | true ↦ λ some. or_right (is_there R.thread past) _ some
             | false ↦ λ none.
-                let off : (slot : ℕ) → is_some (slot_of R slot) ≡ false = λ slot. is_false (is_some (slot_of R slot)) (λ on.
+                let off : (slot : ℕ) → is_some (slot_of R slot) ≡ false = λ slot. false_from_ne_true (is_some (slot_of R slot)) (λ on.
                 false≢true (sym none ∙ open_any events past tables row h is_row ∙ any_slot (λ s. is_some (slot_of R s)) slot tables.present.items on (h.on_known row slot is_row on))) in
                 absurd (not_free left (All-from_get_or IsNone R.slots None (λ slot _. off slot)))
           ] refl

@@ -2,10 +2,12 @@
 use Rattle.std.proofs.Common.{◌≡◌, ℕ, zero, suc, ◌↔◌, Bool, true, false, inl, inr, List, [], ◌∷◌, Option, Some, None, IsTrue, refl, ap, sym, ◌∙◌, arith}
 use Rattle.std.specs.Prelude.{◌⊎◌, ◌||◌, not, is_some, option_map, nat_le}
 use Rattle.std.specs.List.{list_any}
-use Rattle.std.proofs.lemmas.Bool.{leb-true, leb-false, false≢true}
+use Rattle.std.proofs.lemmas.Bool.{leb-true, leb-false, false≢true, false_from_ne_true}
 use Rattle.ep_defs.specs.declared.event.EventDef.{EventDef}
 use Rattle.ep_model.specs.History.{Past, opened, is_open}
 use Rattle.ep_model.specs.Lawful.{is_open_somewhere}
+use Rattle.ep_model.proofs.Sessions.{open_somewhere}
+use Rattle.ep_model.proofs.Lists.{same_bools}
 use Rattle.ep_slot.specs.Hand.{hand_of}
 use Rattle.ep_row.specs.Row.{slot_of, opening_of}
 use Rattle.ep_stream.specs.Rows.{IsRow}
@@ -17,9 +19,9 @@ use Rattle.ep_rows.specs.Outside.{none_outside}
 use Rattle.ep_judge.specs.declared.tables.Present.{Present}
 use Rattle.ep_judge.specs.declared.tables.Tables.{Tables}
 use Rattle.ep_judge.specs.Tables.{TablesFollow}
-use Rattle.ep_judge.proofs.Pasts.{open_there, open_somewhere}
+use Rattle.ep_judge.proofs.Pasts.{open_there}
 use Rattle.ep_judge.proofs.Found.{SessionFound}
-use Rattle.ep_judge.proofs.Slots.{served, same_bools, is_false}
+use Rattle.ep_judge.proofs.Slots.{served}
 
 some_map : {A B C : Type 0} (f : A → B) (g : A → C) (o : Option A) → is_some (option_map f o) ≡ is_some (option_map g o)
 some_map f g None = refl
@@ -34,7 +36,7 @@ none_mapped f None is = refl
 none_mapped f (Some x) is = cc
 
 -- A row and its slots say alike whether a session is open.
-cell_on : (set : Rows) (r s : ℕ) → is_some (slot_of ((told_of set).row r) s) ≡ is_some ((told_of set).slot r s)
+pub cell_on : (set : Rows) (r s : ℕ) → is_some (slot_of ((told_of set).row r) s) ≡ is_some ((told_of set).slot r s)
 cell_on set r s = ap is_some (set.known r s).on ∙ some_map (λ (o : Open). opening_of o.slot) (λ (o : Open). o.slot) (open_at set.columns.items r s)
 
 row_or : (r : ℕ) → IsRow 256 r ⊎ (IsRow 256 r → ⊥)
@@ -66,7 +68,7 @@ somewhere_found events past tables session present nowhere h s is =
     sym (cell_on tables.rows r present.slot) ∙ (s.follows.rows r at).on ∙ ap (λ n. is_open n (told.row r).thread past) s.number in
     let off : is_open_somewhere session past ≡ false → (r : ℕ) → told.slot r present.slot ≡ None = λ none r.
     elim (row_or r) [
-      | inl at ↦ none_is (told.slot r present.slot) (is_false (is_some (told.slot r present.slot)) (λ here. false≢true (sym none ∙ open_somewhere session (told.row r).thread past (sym (on r at) ∙ here))))
+      | inl at ↦ none_is (told.slot r present.slot) (false_from_ne_true (is_some (told.slot r present.slot)) (λ here. false≢true (sym none ∙ open_somewhere session (told.row r).thread past (sym (on r at) ∙ here))))
       | inr not ↦ none_mapped hand_of (told.slot r present.slot) (none_outside tables.rows r present.slot not)
     ] in
     same_bools (not nowhere) (is_open_somewhere session past)

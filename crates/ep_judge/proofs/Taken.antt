@@ -1,17 +1,19 @@
 -- How many rows are taken: as many as there are exactly where none is free.
-use Rattle.std.proofs.Common.{◌≡◌, ℕ, zero, suc, ◌+◌, ◌<◌, ◌≤◌, Bool, true, false, List, [], ◌∷◌, map, length, Option, Some, None, refl, ap, sym, ◌∙◌, subst, arith}
-use Rattle.std.specs.Prelude.{◌&&◌, ◌||◌, ◌++◌, not, unwrap_or, nat_lt, nat_le, ◌==◌}
+use Rattle.std.proofs.Common.{◌≡◌, ℕ, zero, suc, ◌+◌, ◌<◌, ◌≤◌, Bool, true, false, List, [], ◌∷◌, map, length, Option, Some, refl, ap, sym, ◌∙◌, subst, arith}
+use Rattle.std.specs.Prelude.{◌&&◌, ◌||◌, ◌++◌, unwrap_or, nat_lt, nat_le, ◌==◌}
 use Rattle.std.specs.Int.{is_in_range}
 use Rattle.std.specs.List.{list_any, range_with_len}
-use Rattle.std.proofs.lemmas.Bool.{eqb-true, ltb-true, leb-true, le-leb, and_from, and_parts, or_parts, or_from, not-true, not-false, false≢true}
+use Rattle.std.proofs.lemmas.Bool.{eqb-true, ltb-true, leb-true, le-leb, and_from, and_parts, or_from, not-true, not-false, false≢true}
+use Rattle.std.proofs.lemmas.List.FromFn.{length-range_with_len}
+use Rattle.std.proofs.lemmas.List.{length-map}
 use Rattle.ep_defs.specs.declared.event.EventDef.{EventDef}
 use Rattle.ep_model.specs.declared.step.Step.TheVariants as step
-use Rattle.ep_model.specs.declared.step.Kind.{Kind}
-use Rattle.ep_model.specs.declared.step.Kind.TheVariants.{NoThread, ThreadsFull}
 use Rattle.ep_model.specs.History.{Past, entered, was_there, takes_row, rows}
-use Rattle.ep_model.specs.Lawful.{Objection, against, first_kind, IsLawful, is_next_thread}
+use Rattle.ep_model.specs.Lawful.{IsLawful, is_next_thread, objections}
+use Rattle.ep_model.proofs.Lists.{has, same_bools, above_none}
+use Rattle.ep_model.proofs.Objections.{none_there}
 use Rattle.ep_stream.specs.Rows.{IsRow}
-use Rattle.ep_judge.proofs.Lists.{has, IsDistinct, has-filter, has-append, has-within, distinct-filter, distinct-map, pigeons, range-distinct, range-length, source_of, length-map}
+use Rattle.ep_judge.proofs.Lists.{IsDistinct, has-filter, has-append, has-within, distinct-filter, distinct-map, pigeons, range-distinct, source_of}
 
 or_turn : (a b : Bool) → (a || b) ≡ (b || a)
 or_turn true true = refl
@@ -43,12 +45,6 @@ in_range n is = let low = range_low n 1 256 is in let high = range_high n 1 256 
 pub row_has : (n : ℕ) → IsRow 256 n → has n (range_with_len 1 256) ≡ true
 row_has n is = has-within n 1 256 (omega (arith, is.0)) (omega (arith, is.1))
 
-same_bools : (a b : Bool) → (a ≡ true → b ≡ true) → (b ≡ true → a ≡ true) → a ≡ b
-same_bools true true f g = refl
-same_bools false false f g = refl
-same_bools true false f g = sym (f refl)
-same_bools false true f g = g refl
-
 has_in_range : (n : ℕ) → has n (range_with_len 1 256) ≡ is_in_range 1 256 n
 has_in_range n = same_bools _ _ (λ is. let at = in_range n is in and_from (nat_le 1 n) (nat_le n 256) (le-leb 1 n (omega (arith, at.0))) (le-leb n 256 at.1)) (λ is. let at = and_parts (nat_le 1 n) (nat_le n 256) is in row_has n (omega (arith, leb-true 1 n at.0), leb-true n 256 at.1))
 
@@ -67,19 +63,6 @@ has_rows thread past = has-filter (λ t. takes_row t past) thread (threads past)
 
 -- ---- they differ
 
-none_first : (there : Bool) (kind : Kind) (others : List Objection) → first_kind (against there kind ∷ others) ≡ None → there ≡ false
-none_first true kind others is = cc
-none_first false kind others is = refl
-
--- A number above all others is none of them.
-above_all : (t : ℕ) (ts : List ℕ) → list_any (λ n. nat_le t n) ts ≡ false → has t ts ≡ false
-above_all t [] none = refl
-above_all t (n ∷ ts) none =
-    elim (n == t) as (λ v. (n == t) ≡ v → (v || has t ts) ≡ false) [
-      | true ↦ λ same. let e = eqb-true n t same in absurd (false≢true (sym (or_parts (nat_le t n) _ none).0 ∙ le-leb t n (omega arith)))
-      | false ↦ λ _. above_all t ts (or_parts (nat_le t n) _ none).1
-    ] refl
-
 entered_anew : (t : ℕ) (past : Past) → is_next_thread t past ≡ true → has t (threads past) ≡ false
 entered_anew t past next =
     let parts = and_parts (nat_lt 256 t) _ next in
@@ -89,12 +72,12 @@ entered_anew t past next =
       | true ↦ λ is. let at = in_range t is in absurd (omega (arith, at.1, high))
       | false ↦ λ _. refl
     ] refl in
-    has-append t (entered past) (range_with_len 1 256) ∙ or_from (has t (entered past)) _ (above_all t (entered past) (not-true (list_any (λ n. nat_le t n) (entered past)) parts.1)) off
+    has-append t (entered past) (range_with_len 1 256) ∙ or_from (has t (entered past)) _ (above_none t (entered past) (not-true (list_any (λ n. nat_le t n) (entered past)) parts.1)) off
 
 pub threads_distinct : (events : List EventDef) (past : Past) → IsLawful events past → IsDistinct (threads past)
 threads_distinct events [] lawful = range-distinct 1 256
 threads_distinct events (step.Enter t ∷ past) lawful =
-    (entered_anew t past (not-false (is_next_thread t past) (none_first (not (is_next_thread t past)) NoThread (against (nat_le 256 (length (rows past))) ThreadsFull ∷ []) lawful.1)), threads_distinct events past lawful.0)
+    (entered_anew t past (not-false (is_next_thread t past) (none_there (objections events past (step.Enter t)) lawful.1).0), threads_distinct events past lawful.0)
 threads_distinct events (step.Accept s config ∷ past) lawful = threads_distinct events past lawful.0
 threads_distinct events (step.Open s t ∷ past) lawful = threads_distinct events past lawful.0
 threads_distinct events (step.Leave t ∷ past) lawful = threads_distinct events past lawful.0
@@ -125,7 +108,7 @@ none_free past own place places there takes =
     subst H s.is (has_rows (own s.source) past ∙ and_from _ _ (takes s.source at) (there s.source at)) in
     let distinct = distinct-map own (row_of place) (range_with_len 1 256) (λ n is. ap (λ o. unwrap_or o 0) (places n (in_range n is))) (range-distinct 1 256) in
     let most = pigeons (map own (range_with_len 1 256)) (rows past) distinct each in
-    let count = length-map own (range_with_len 1 256) ∙ range-length 1 256 in
+    let count = length-map (range_with_len 1 256) own ∙ length-range_with_len 1 256 in
     omega (arith, most, count)
 
 -- A thread and the row that it takes.
@@ -164,6 +147,6 @@ some_free events past own place row lawful places served is_row free =
           subst H (sym (at s.source h) ∙ s.is) (row_has h.row h.is_row)
     ] refl in
     let most = pigeons (row ∷ map f (rows past)) (range_with_len 1 256) (off, distinct) each in
-    let count = length-map f (rows past) in
-    let all = range-length 1 256 in
+    let count = length-map (rows past) f in
+    let all = length-range_with_len 1 256 in
     omega (arith, most, count, all)

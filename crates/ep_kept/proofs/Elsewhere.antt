@@ -10,18 +10,9 @@ use Rattle.ep_model.specs.Entries.{pending, told_number}
 use Rattle.ep_model.specs.Fold.{Budget, lacks_chunk, with_record, with_steal, with_give, with_show, budget_of}
 use Rattle.ep_model.specs.History.{Past, config_of, is_open, opened_at, shows, writes_of}
 use Rattle.ep_model.specs.Lawful.{IsLawful}
+use Rattle.ep_model.proofs.Sessions.{accept_unreached, present_reached, open_present}
+use Rattle.ep_model.proofs.Lists.{eqb_turn, and_more}
 use Rattle.ep_kept.specs.Changes.{changes_slot, changes_pool, begins_write}
-use Rattle.ep_kept.proofs.Pasts.{accept_anew, open_reached}
-
--- ---- tests
-
-turn_off : (a b : ℕ) → (a == b) ≡ false → (b == a) ≡ false
-turn_off a b off = false_from_ne_true (b == a) (λ same. false≢true (sym off ∙ eq-eqb a b (sym (eqb-true b a same))))
-
-and_more : (a b c : Bool) → (a && b) ≡ false → (a && b && c) ≡ false
-and_more false b c off = refl
-and_more true false c off = refl
-and_more true true c off = cc
 
 -- ---- what a thread has pending
 
@@ -29,11 +20,11 @@ show_other : (budget : Budget) (chunks thread t size : ℕ) → (t == thread) �
 show_other budget chunks thread t size off =
     elim (lacks_chunk budget chunks t size) as (λ v. (if v then budget else with_record budget t size).pending thread ≡ budget.pending thread) [
       | true ↦ refl
-      | false ↦ rw (turn_off t thread off) refl
+      | false ↦ rw (eqb_turn t thread off) refl
     ]
 
 steal_other : (budget : Budget) (thread t : ℕ) → (t == thread) ≡ false → (with_steal budget t).pending thread ≡ budget.pending thread
-steal_other budget thread t off = rw (turn_off t thread off) refl
+steal_other budget thread t off = rw (eqb_turn t thread off) refl
 
 -- Where a step of the session is on another thread, the thread has what it had.
 own_other : (own here : Bool) (old new : Budget) (thread : ℕ) → (own && here) ≡ false → (here ≡ false → new.pending thread ≡ old.pending thread) → (if own then new else old).pending thread ≡ old.pending thread
@@ -119,8 +110,8 @@ config_stays events session thread past (step.Accept s config) lawful on =
     let off : (s == session) ≡ false =
     false_from_ne_true (s == session) (λ same.
     let P : ℕ → Type 0 = λ n. is_open n thread past ≡ true in
-    let here = open_reached events s thread past lawful.0 (subst P (sym (eqb-true s session same)) on) in
-    false≢true (sym (accept_anew events s config past lawful.1) ∙ here)) in
+    let here = present_reached s past (open_present events s thread past lawful.0 (subst P (sym (eqb-true s session same)) on)) in
+    false≢true (sym (accept_unreached events past s config lawful.1) ∙ here)) in
     rw off refl
 config_stays events session thread past (step.Enter t) lawful on = refl
 config_stays events session thread past (step.Leave t) lawful on = refl

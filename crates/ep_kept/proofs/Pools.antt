@@ -15,6 +15,8 @@ use Rattle.ep_model.specs.Chunks.{Turn, Written, Taken, Given, takes_from, is_ba
 use Rattle.ep_model.specs.Fold.{lacks_chunk, budget_of}
 use Rattle.ep_model.specs.History.{Past, Begun}
 use Rattle.ep_model.specs.Lawful.{IsLawful}
+use Rattle.ep_model.proofs.Sessions.{accept_unreached}
+use Rattle.ep_model.proofs.Lists.{same_bools}
 use Rattle.ep_pool.specs.Counts.{PoolCounts}
 use Rattle.ep_slot.specs.declared.shown.Shown.{Shown}
 use Rattle.ep_slot.specs.Slot.{SlotState, is_refused as is_shown_refused}
@@ -22,7 +24,7 @@ use Rattle.ep_stream.specs.Steps.{given_back}
 use Rattle.ep_rows.specs.Shows.{ShowsWrite, chunks_taken}
 use Rattle.ep_kept.specs.Changes.{changes_pool}
 use Rattle.ep_kept.specs.Kept.{IsLast, SlotFollows, PoolFollows}
-use Rattle.ep_kept.proofs.Pasts.{accept_anew, none_held}
+use Rattle.ep_kept.proofs.Pasts.{none_held}
 use Rattle.ep_kept.proofs.Elsewhere.{config_kept, held_stays}
 
 -- A refusal comes where the fold lacks a chunk.
@@ -34,19 +36,13 @@ IsCounted session thread past = is_refused session thread past ≡ lacks_chunk (
 pub pool_accepted : (events : List EventDef) (past : Past) (session : ℕ) (config : Config) → IsLawful events (step.Accept session config ∷ past)
     → PoolFollows (step.Accept session config ∷ past) session (record { total = config.chunks; free = config.chunks })
 pool_accepted events past session config lawful =
-    let none = none_held events session past lawful.0 (accept_anew events session config past lawful.1) in
+    let none = none_held events session past lawful.0 (accept_unreached events past session config lawful.1) in
     record {
       total_is = rw (eq-eqb session session refl) refl;
       free_are = omega (arith, none);
     }
 
 -- ---- a write is shown
-
-same_bools : (a b : Bool) → (a ≡ true → b ≡ true) → (b ≡ true → a ≡ true) → a ≡ b
-same_bools true true f g = refl
-same_bools false false f g = refl
-same_bools true false f g = sym (f refl)
-same_bools false true f g = g refl
 
 -- It is refused where the budget lacks a chunk: none is free exactly where as many are held as there are.
 pub pool_refuses : (events : List EventDef) (past : Past) (session thread : ℕ) (slot : SlotState) (stamp : ℕ) (write : Write) (shown : Shown) (old new : PoolCounts)

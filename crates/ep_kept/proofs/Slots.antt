@@ -19,12 +19,12 @@ use Rattle.ep_model.specs.Fold.{Budget, lacks_chunk, with_record as with_record_
 use Rattle.ep_model.specs.History.{Past, Begun, config_of, last_begun, is_open, opened_at, closed_at, shows, writes_of}
 use Rattle.ep_model.specs.Lawful.{IsLawful}
 use Rattle.ep_model.specs.Marks.{marks_on}
+use Rattle.ep_model.proofs.Objections.{open_new}
 use Rattle.ep_slot.specs.Slot.{SlotState, opened, recorded, with_record, with_refusal, with_steal, marks_of}
 use Rattle.ep_stream.specs.Telling.{entry_of, entries_of}
 use Rattle.ep_rows.specs.Shows.{shown_slot}
 use Rattle.ep_kept.specs.Changes.{changes_slot}
 use Rattle.ep_kept.specs.Kept.{IsLast, SlotFollows}
-use Rattle.ep_kept.proofs.Pasts.{open_anew}
 use Rattle.ep_kept.proofs.Elsewhere.{same_on, config_stays}
 use Rattle.ep_kept.proofs.Unopened.{has_nothing}
 
@@ -36,7 +36,7 @@ same_pair session thread = and_from (session == session) (thread == thread) (eq-
 pub slot_opened : (events : List EventDef) (past : Past) (session thread : ℕ) (config : Config) → IsLawful events (step.Open session thread ∷ past) → config_of session past ≡ Some config
     → SlotFollows events (step.Open session thread ∷ past) session (opened session thread (length (writes_of thread past)) config.chunks)
 slot_opened events past session thread config lawful configured =
-    let none = has_nothing events session thread past lawful.0 (open_anew events session thread past lawful.1) in
+    let none = has_nothing events session thread past lawful.0 (open_new events past session thread lawful.1) in
     let here = same_pair session thread in
     record {
       session_is = refl;

@@ -1,8 +1,7 @@
 -- A session that was never opened on a thread has nothing of it.
-use Rattle.std.proofs.Common.{◌≡◌, ℕ, Bool, true, false, cond, inl, inr, List, [], ◌∷◌, refl, ap, sym, ◌∙◌, subst}
-use Rattle.std.specs.Prelude.{◌&&◌, ◌||◌, not, nat_lt, ◌==◌}
-use Rattle.std.specs.List.{list_any}
-use Rattle.std.proofs.lemmas.Bool.{eqb-true, and_parts, and_left, and_right, or_parts, cases_Bool, false≢true, false_from_ne_true}
+use Rattle.std.proofs.Common.{◌≡◌, ℕ, false, inl, inr, List, [], ◌∷◌, refl, sym, ◌∙◌}
+use Rattle.std.specs.Prelude.{◌&&◌, ◌||◌, not, ◌==◌}
+use Rattle.std.proofs.lemmas.Bool.{and_left, and_right, or_parts, cases_Bool}
 use Rattle.ep_defs.specs.declared.event.EventDef.{EventDef}
 use Rattle.ep_model.specs.declared.step.Step.{Step}
 use Rattle.ep_model.specs.declared.step.Step.TheVariants as step
@@ -10,23 +9,12 @@ use Rattle.ep_model.specs.Budget.{no_pending}
 use Rattle.ep_model.specs.Chunks.{refused, written}
 use Rattle.ep_model.specs.Entries.{pending, told_number}
 use Rattle.ep_model.specs.Fold.{budget_of}
-use Rattle.ep_model.specs.History.{Past, config_of, insert_ascending, opened, is_open, admits_write, is_due, shows}
+use Rattle.ep_model.specs.History.{Past, config_of, opened, is_open, admits_write, is_due, shows}
 use Rattle.ep_model.specs.Lawful.{IsLawful, was_opened}
+use Rattle.ep_model.proofs.Objections.{show_due, steal_open, close_open}
+use Rattle.ep_model.proofs.Lists.{any_inserted, off_pair}
 use Rattle.ep_kept.specs.Changes.{changes_slot}
-use Rattle.ep_kept.proofs.Pasts.{show_due, steal_open, close_open}
 use Rattle.ep_kept.proofs.Elsewhere.{same_on}
-
-or_swap : (a b c : Bool) → (a || (b || c)) ≡ (b || (a || c))
-or_swap true true c = refl
-or_swap true false c = refl
-or_swap false true c = refl
-or_swap false false c = refl
-
-any_inserted : (p : ℕ → Bool) (n : ℕ) (ms : List ℕ) → list_any p (insert_ascending n ms) ≡ (p n || list_any p ms)
-any_inserted p n [] = refl
-any_inserted p n (m ∷ ms) =
-    elim (nat_lt n m) as (λ b. list_any p (cond b (n ∷ m ∷ ms) (m ∷ insert_ascending n ms)) ≡ (p n || (p m || list_any p ms)))
-    [ true ↦ refl | false ↦ ap (λ t. p m || t) (any_inserted p n ms) ∙ or_swap (p m) (p n) (list_any p ms) ]
 
 -- A session that was not opened on a thread was not opened there before, nor now.
 unopened_parts : (session thread s t : ℕ) (past : Past) → was_opened session thread (step.Open s t ∷ past) ≡ false → (((s == session) && (t == thread)) ≡ false) × (was_opened session thread past ≡ false)
@@ -84,24 +72,15 @@ quiet_next events session thread past (step.Point s stamp) h = h.quiet
 quiet_next events session thread past (step.Close s t) h = h.quiet
 quiet_next events session thread past (step.Finish s stamp) h = h.quiet
 
--- A test that fails of a session and a thread passes of no numbers that are the same.
-not_both : (test : ℕ → ℕ → Bool) (session thread s t : ℕ) → test session thread ≡ false → test s t ≡ true → ((s == session) && (t == thread)) ≡ false
-not_both test session thread s t fails passes =
-    false_from_ne_true ((s == session) && (t == thread)) (λ both.
-    let parts = and_parts (s == session) (t == thread) both in
-    let here : test session thread ≡ true =
-    subst (λ n. test n thread ≡ true) (eqb-true s session parts.0) (subst (λ m. test s m ≡ true) (eqb-true t thread parts.1) passes) in
-    false≢true (sym fails ∙ here))
-
 -- What needs the session to be open there is no lawful step.
 step_elsewhere : (events : List EventDef) (session thread : ℕ) (past : Past) (step : Step) → IsLawful events (step ∷ past) → was_opened session thread (step ∷ past) ≡ false → HasNothing events session thread past → changes_slot session thread step ≡ false
 step_elsewhere events session thread past (step.Open s t) lawful off h = (unopened_parts session thread s t past off).0
 step_elsewhere events session thread past (step.Show t s) lawful off h =
-    not_both (λ n m. is_due events n m past) session thread s t h.quiet (show_due events s t past lawful.1)
+    off_pair (λ n m. is_due events n m past) s t session thread (show_due events past t s lawful.1) h.quiet
 step_elsewhere events session thread past (step.Steal s t) lawful off h =
-    not_both (λ n m. is_open n m past) session thread s t h.shut (steal_open events s t past lawful.1)
+    off_pair (λ n m. is_open n m past) s t session thread (steal_open events past s t lawful.1) h.shut
 step_elsewhere events session thread past (step.Close s t) lawful off h =
-    not_both (λ n m. is_open n m past) session thread s t h.shut (close_open events s t past lawful.1)
+    off_pair (λ n m. is_open n m past) s t session thread (close_open events past s t lawful.1) h.shut
 step_elsewhere events session thread past (step.Accept s config) lawful off h = refl
 step_elsewhere events session thread past (step.Enter t) lawful off h = refl
 step_elsewhere events session thread past (step.Leave t) lawful off h = refl

@@ -5,14 +5,17 @@ use Rattle.std.specs.Int.{bit_at}
 use Rattle.std.specs.List.{list_any, AllByRecursion}
 use Rattle.std.specs.BTreeMap.{get}
 use Rattle.std.specs.Ordering.{nat_cmp}
-use Rattle.std.proofs.lemmas.Bool.{eq-eqb, ne_eqb, and_parts, or_left, or_right, not-true, not-false, false≢true}
+use Rattle.std.proofs.lemmas.Bool.{eq-eqb, ne_eqb, and_parts, or_left, or_right, not-true, not-false, false≢true, false_from_ne_true}
 use Rattle.ep_defs.specs.declared.event.EventDef.{EventDef}
 use Rattle.ep_defs.specs.declared.session.Config.{Config}
 use Rattle.ep_defs.specs.declared.session.TraceInfo.{TraceInfo}
 use Rattle.ep_model.specs.declared.step.Step.TheVariants as step
-use Rattle.ep_model.specs.Fold.{budget_of}
+use Rattle.ep_model.specs.Fold.{budget_of, Budget}
 use Rattle.ep_model.specs.History.{Past, accepted, opened, is_open, is_due}
 use Rattle.ep_model.specs.Lawful.{IsLawful, objections, is_next_session, was_opened}
+use Rattle.ep_model.proofs.Objections.{none_there}
+use Rattle.ep_model.proofs.Sessions.{open_somewhere, accept_new, untouched}
+use Rattle.ep_model.proofs.Due.{due_within}
 use Rattle.ep_table.specs.Sessions.{is_held, held_count, holds}
 use Rattle.ep_row.specs.Row.{RowState, slot_of}
 use Rattle.ep_stream.specs.Rows.{IsRow}
@@ -21,11 +24,9 @@ use Rattle.ep_rows.specs.Rows.{told_of}
 use Rattle.ep_judge.specs.declared.tables.Present.{Present}
 use Rattle.ep_judge.specs.declared.tables.Tables.{Tables}
 use Rattle.ep_judge.specs.Tables.{TablesFollow, PresentFollows, RowFollows, OnFollows, has_slot, number_of}
-use Rattle.ep_judge.proofs.Pasts.{none_there, open_somewhere}
-use Rattle.ep_judge.proofs.Slots.{is_false}
 use Rattle.ep_made.specs.Made.{MakesAccept, MakesFinish}
 use Rattle.ep_made.proofs.Lists.{All-each, All-remove, map-remove, any-remove, length-remove}
-use Rattle.ep_made.proofs.Pasts.{due_on, accepts_anew, never_accepted, never_on, present_accept, present_finish, last_more, last_less}
+use Rattle.ep_made.proofs.Pasts.{never_on, present_accept, present_finish, last_more, last_less}
 use Rattle.ep_made.proofs.Follow.{place_stays, session_at, numbers_distinct, seats_distinct}
 use Rattle.ep_made.proofs.Slots.{free_slot, accept_held, accept_count, gone_slot, free_held, free_count}
 
@@ -37,7 +38,7 @@ false_bit n not = ne_eqb n 1 not
 
 -- Nothing is due to a session that is not open.
 undue : (events : List EventDef) (session thread : ℕ) (past : Past) → IsLawful events past → is_open session thread past ≡ false → is_due events session thread past ≡ false
-undue events session thread past lawful off = is_false (is_due events session thread past) (λ due. false≢true (sym off ∙ (due_on events session thread past lawful due).0))
+undue events session thread past lawful off = false_from_ne_true (is_due events session thread past) (λ due. false≢true (sym off ∙ (due_within events session thread past lawful due).on))
 
 -- ---- a session comes
 
@@ -49,14 +50,14 @@ after_accept_step events past session config info old new lawful h m =
     let later = step.Accept session config ∷ past in
     let now = m.now in
     let slot = now.slot in
-    let anew = accepts_anew events session config past lawful in
-    let fresh = never_accepted events session past h.lawful anew in
+    let anew = accept_new events past session config lawful.1 in
+    let fresh = untouched events session past h.lawful anew in
     let next = and_parts (nat_lt 0 session) _ (not-false (is_next_session session past) (none_there (objections events past (step.Accept session config)) lawful.1).0) in
     let less = last_less old.last_session session (sym (h.last_session session next.0) ∙ not-true _ next.1) in
     let rest = m.rest.1 in
     let unheld : has_slot slot old.present.items ≡ false = sym (h.held slot) ∙ free_slot old.table slot m.id m.seat in
     let off : (r : ℕ) → IsRow 256 r → is_some (slot_of (after.row r) slot) ≡ false = λ r is_row.
-    is_false (is_some (slot_of (after.row r) slot)) (λ on. false≢true (sym unheld ∙ h.on_known r slot is_row (ap (λ (R : RowState). is_some (slot_of R slot)) (sym (m.rows.rows r)) ∙ on))) in
+    false_from_ne_true (is_some (slot_of (after.row r) slot)) (λ on. false≢true (sym unheld ∙ h.on_known r slot is_row (ap (λ (R : RowState). is_some (slot_of R slot)) (sym (m.rows.rows r)) ∙ on))) in
     let undue_at : (r : ℕ) → IsRow 256 r → (bit_at (after.row r).due slot == 1) ≡ false = λ r is_row.
     false_bit (bit_at (after.row r).due slot) (λ one. false≢true (sym unheld ∙ h.due_known r slot is_row (ap (λ (R : RowState). bit_at R.due slot) (sym (m.rows.rows r)) ∙ one))) in
     let never : (t : ℕ) → is_open session t past ≡ false = λ t. never_on events session t past h.lawful anew in
@@ -66,9 +67,9 @@ after_accept_step events past session config info old new lawful h m =
         on = off r is_row ∙ sym (never (after.row r).thread) ∙ ap (λ n. is_open n (after.row r).thread past) (sym m.number);
         owed = undue_at r is_row ∙ sym (undue events session (after.row r).thread past h.lawful (never (after.row r).thread)) ∙ ap (λ n. is_due events n (after.row r).thread past) (sym m.number);
       };
-      ever = λ t. ap is_some (m.ever t) ∙ sym (ap (λ n. was_opened n t past) m.number ∙ ap (list_any (λ x. x == t)) fresh.0);
-      count = m.count ∙ sym (ap (λ n. length (opened n past)) m.number ∙ ap length fresh.0);
-      in_hand = ap (λ (r : _). r.in_hand) rest ∙ sym (ap (λ n. (budget_of n past).in_hand) m.number ∙ fresh.1);
+      ever = λ t. ap is_some (m.ever t) ∙ sym (ap (λ n. was_opened n t past) m.number ∙ ap (list_any (λ x. x == t)) fresh.nowhere);
+      count = m.count ∙ sym (ap (λ n. length (opened n past)) m.number ∙ ap length fresh.nowhere);
+      in_hand = ap (λ (r : _). r.in_hand) rest ∙ sym (ap (λ n. (budget_of n past).in_hand) m.number ∙ ap (λ (b : Budget). b.in_hand) fresh.nothing);
     } in
     let All : List Present → Type 0 = AllByRecursion (PresentFollows events later after) in
     record {
@@ -113,7 +114,7 @@ after_finish events past session stamp old new lawful h m =
     let found = session_at events past old session m.place m.was h m.stands in
     let rest = remove old.present.items m.place in
     let nowhere = (none_there (objections events past (step.Finish session stamp)) lawful.1).1.0 in
-    let closed : (t : ℕ) → is_open session t past ≡ false = λ t. is_false (is_open session t past) (λ on. false≢true (sym nowhere ∙ open_somewhere session t past on)) in
+    let closed : (t : ℕ) → is_open session t past ≡ false = λ t. false_from_ne_true (is_open session t past) (λ on. false≢true (sym nowhere ∙ open_somewhere session t past on)) in
     let off : (r : ℕ) → IsRow 256 r → is_some (slot_of (before.row r) slot) ≡ false = λ r is_row.
     (found.follows.rows r is_row).on ∙ ap (λ n. is_open n (before.row r).thread past) found.number ∙ closed (before.row r).thread in
     let undue_at : (r : ℕ) → IsRow 256 r → (bit_at (before.row r).due slot == 1) ≡ false = λ r is_row.

@@ -1,19 +1,20 @@
 -- What a thread makes that comes.
-use Rattle.std.proofs.Common.{◌≡◌, ℕ, zero, suc, Bool, true, false, inl, inr, List, [], ◌∷◌, map, length, Option, Some, None, refl, ap, sym, ◌∙◌, subst, if◌then◌else◌}
-use Rattle.std.specs.Prelude.{◌||◌, is_some, IsNone, slice_index_or, nat_lt, nat_le, ◌==◌}
+use Rattle.std.proofs.Common.{◌≡◌, ℕ, Bool, true, false, inl, inr, List, [], ◌∷◌, map, length, Option, Some, None, refl, ap, sym, ◌∙◌, subst, if◌then◌else◌}
+use Rattle.std.specs.Prelude.{◌||◌, is_some, IsNone, nat_lt, nat_le, ◌==◌}
 use Rattle.std.specs.Int.{bit_at, is_in_range}
 use Rattle.std.specs.List.{All, AllByRecursion}
 use Rattle.std.specs.BTreeMap.{get}
 use Rattle.std.specs.Ordering.{nat_cmp}
 use Rattle.std.proofs.lemmas.Bool.{eqb-true, eq-eqb, ne_eqb, ltb-true, and_parts, or_left, or_right, or_cases, not-true, not-false, cases_eq, false≢true}
-use Rattle.std.proofs.lemmas.List.Elements.{All-head, All-tail}
 use Rattle.ep_defs.specs.declared.event.EventDef.{EventDef}
 use Rattle.ep_model.specs.declared.step.Step.TheVariants as step
 use Rattle.ep_model.specs.History.{Past, entered, was_there, is_open}
 use Rattle.ep_model.specs.Lawful.{IsLawful, objections, is_next_thread}
+use Rattle.ep_model.proofs.Lists.{has}
+use Rattle.ep_model.proofs.Objections.{none_there}
+use Rattle.ep_model.proofs.Sessions.{open_present}
 use Rattle.ep_table.specs.Sessions.{is_held, held_count}
 use Rattle.ep_row.specs.Row.{RowState, slot_of}
-use Rattle.ep_row.specs.declared.row.Opening.{Opening}
 use Rattle.ep_stream.specs.Rows.{IsRow}
 use Rattle.ep_stream.specs.Steps.{ToldRows}
 use Rattle.ep_rows.specs.Rows.{told_of}
@@ -21,19 +22,14 @@ use Rattle.ep_rows.specs.Writes.{EntersRow}
 use Rattle.ep_judge.specs.declared.tables.Present.{Present}
 use Rattle.ep_judge.specs.declared.tables.Tables.{Tables}
 use Rattle.ep_judge.specs.Tables.{TablesFollow, PresentFollows, RowFollows, OnFollows, PlaceFollows, IsGone, number_of}
-use Rattle.ep_judge.proofs.Lists.{has}
-use Rattle.ep_judge.proofs.Pasts.{none_there, has_present}
+use Rattle.ep_judge.proofs.Pasts.{has_present}
+use Rattle.ep_judge.proofs.Slots.{none_at}
 use Rattle.ep_made.specs.Made.{MakesEnter}
 use Rattle.ep_made.proofs.Lists.{All-each}
-use Rattle.ep_made.proofs.Pasts.{left_quiet, never_came, never_open, quiet_undue, enters_anew, open_present, last_more, last_less}
+use Rattle.ep_made.proofs.Pasts.{left_quiet, never_came, never_open, quiet_undue, enters_anew, last_more, last_less}
 use Rattle.ep_made.proofs.Follow.{each_row, same_seats, sessions_stay}
 
 -- ---- the row that is free
-
-pub none_at : (slots : List (Option Opening)) (slot : ℕ) → All IsNone slots → is_some (slice_index_or slots slot None) ≡ false
-none_at [] slot all = refl
-none_at (x ∷ xs) zero all = All-head IsNone x xs all
-none_at (x ∷ xs) (suc slot) all = none_at xs slot (All-tail IsNone x xs all)
 
 -- No session is open on the row's thread where none is open in a slot.
 none_open : (events : List EventDef) (past : Past) (told : ToldRows) (session row : ℕ) (ps : List Present) → IsRow 256 row → ((slot : ℕ) → is_some (slot_of (told.row row) slot) ≡ false)

@@ -6,7 +6,7 @@ use Rattle.std.specs.List.{list_any, AllByRecursion}
 use Rattle.std.specs.BTreeMap.{get}
 use Rattle.std.specs.Ordering.{nat_cmp}
 use Rattle.std.proofs.lemmas.Bool.{eq-eqb, ne_eqb, cases_eq}
-use Rattle.std.proofs.lemmas.Option.{get_or_from_slice_get}
+use Rattle.std.proofs.lemmas.Option.{get_or_from_slice_get, same_Some}
 use Rattle.ep_defs.specs.declared.event.EventDef.{EventDef}
 use Rattle.ep_model.specs.declared.step.Step.{Step}
 use Rattle.ep_model.specs.History.{Past, accepted, entered, present, was_there}
@@ -45,9 +45,6 @@ pub record OwnRow (past : Past) (tables : Tables) (thread row : ℕ) : Type 0 wh
   pub others : (r : ℕ) → IsRow 256 r → (r ≡ row → ⊥) → (thread == ((told_of tables.rows).row r).thread) ≡ false
   pub follows : RowFollows past ((told_of tables.rows).row row)
 
-pub some_is : {A : Type 0} (x y : A) → Some x ≡ Some y → x ≡ y
-some_is x y is = cc
-
 pub own_row : (events : List EventDef) (past : Past) (tables : Tables) (thread row : ℕ) → TablesFollow events past tables → row_of tables thread ≡ Some row → OwnRow past tables thread row
 own_row events past tables thread row h own =
     let told = told_of tables.rows in
@@ -57,7 +54,7 @@ own_row events past tables thread row h own =
       thread_is = found.thread_is;
       here = eq-eqb thread (told.row row).thread (sym found.thread_is);
       others = λ r is_row other. ne_eqb thread (told.row r).thread (λ same.
-          other (some_is r row (sym (h.place_of r is_row) ∙ ap (get nat_cmp tables.threads) (sym same ∙ sym found.thread_is) ∙ h.place_of row found.is_row)));
+          other (same_Some r row (sym (h.place_of r is_row) ∙ ap (get nat_cmp tables.threads) (sym same ∙ sym found.thread_is) ∙ h.place_of row found.is_row)));
       follows = found.follows;
     }
 

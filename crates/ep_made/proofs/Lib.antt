@@ -14,3 +14,4 @@ mod TiedComings
 pub mod Opened
 pub mod Turning
 pub mod Telling
+mod Starting

@@ -2,8 +2,11 @@
 use Rattle.std.proofs.Common.{◌≡◌, ℕ, zero, suc, Bool, true, false, List, [], ◌∷◌, map, length, Some, refl, ap, sym, ◌∙◌, subst, set}
 use Rattle.std.specs.Prelude.{◌||◌, not, filter, slice_get, slice_index_or, remove, ◌==◌}
 use Rattle.std.specs.List.{list_any, AllByRecursion}
-use Rattle.std.proofs.lemmas.Bool.{eq-eqb, or_parts, or_left, or_right}
-use Rattle.ep_judge.proofs.Lists.{has, IsDistinct, eqb_turn}
+use Rattle.std.proofs.lemmas.Bool.{eq-eqb, or_parts}
+use Rattle.std.proofs.lemmas.Option.{get_or_from_slice_get}
+use Rattle.std.proofs.lemmas.List.{set-get_or}
+use Rattle.ep_judge.proofs.Lists.{IsDistinct}
+use Rattle.ep_model.proofs.Lists.{has, eqb_turn, or_swap}
 
 -- ---- what holds of each item
 
@@ -12,11 +15,6 @@ All-each P Q [] each all = tt
 All-each P Q (x ∷ xs) each all = (each x all.0, All-each P Q xs each all.1)
 
 -- ---- one item in the place of another
-
-pub set_same : {A : Type 0} (xs : List A) (i : ℕ) (x : A) → slice_get xs i ≡ Some x → set xs i x ≡ xs
-set_same [] i x is = refl
-set_same (y ∷ ys) zero x is = let first : y ≡ x = cc in ap (λ z. z ∷ ys) (sym first)
-set_same (y ∷ ys) (suc i) x is = ap (λ zs. y ∷ zs) (set_same ys i x is)
 
 pub map-set : {A : Type 0} (key : A → ℕ) (xs : List A) (i : ℕ) (old new : A) → slice_get xs i ≡ Some old → key new ≡ key old → map key (set xs i new) ≡ map key xs
 map-set key [] i old new is same = refl
@@ -27,12 +25,6 @@ pub any-set : {A : Type 0} (test : A → Bool) (xs : List A) (i : ℕ) (old new 
 any-set test [] i old new is same = refl
 any-set test (x ∷ xs) zero old new is same = let first : x ≡ old = cc in ap (λ b. b || list_any test xs) (same ∙ ap test (sym first))
 any-set test (x ∷ xs) (suc i) old new is same = ap (λ b. test x || b) (any-set test xs i old new is same)
-
--- An item that passes stands in the list.
-pub any_item : {A : Type 0} (test : A → Bool) (xs : List A) (i : ℕ) (x : A) → slice_get xs i ≡ Some x → test x ≡ true → list_any test xs ≡ true
-any_item test [] i x is on = cc
-any_item test (y ∷ ys) zero x is on = let first : y ≡ x = cc in or_left (test y) (list_any test ys) (ap test first ∙ on)
-any_item test (y ∷ ys) (suc i) x is on = or_right (test y) (list_any test ys) (any_item test ys i x is on)
 
 key_apart : {A : Type 0} (key : A → ℕ) (xs : List A) (i : ℕ) (x : A) (n : ℕ) → slice_get xs i ≡ Some x → has n (map key xs) ≡ false → (key x == n) ≡ false
 key_apart key [] i x n is none = cc
@@ -70,7 +62,7 @@ All-set number slot P Q (x ∷ xs) (suc i) old new is numbers slots each one all
 pub All-one : {A : Type 0} (number slot : A → ℕ) (P Q : A → Type 0) (xs : List A) (i : ℕ) (old : A) → slice_get xs i ≡ Some old → IsDistinct (map number xs) → IsDistinct (map slot xs)
     → ((x : A) → Apart number slot old x → P x → Q x) → (P old → Q old) → AllByRecursion P xs → AllByRecursion Q xs
 All-one number slot P Q xs i old is numbers slots each one all =
-    subst (AllByRecursion Q) (set_same xs i old is) (All-set number slot P Q xs i old old is numbers slots each one all)
+    subst (AllByRecursion Q) (ap (set xs i) (sym (get_or_from_slice_get xs i old old is)) ∙ set-get_or xs i old) (All-set number slot P Q xs i old old is numbers slots each one all)
 
 -- ---- one item less
 
@@ -101,12 +93,6 @@ All-remove number slot P Q (x ∷ xs) (suc i) old is numbers slots each all = (
   each x (record { numbers = eqb_turn (number old) (number x) (key_apart number xs i old (number x) is numbers.0); slots = eqb_turn (slot old) (slot x) (key_apart slot xs i old (slot x) is slots.0) }) all.0,
   All-remove number slot P Q xs i old is numbers.1 slots.1 each all.1,
 )
-
-pub or_swap : (a b c : Bool) → (a || (b || c)) ≡ (b || (a || c))
-or_swap true true c = refl
-or_swap true false c = refl
-or_swap false true c = refl
-or_swap false false c = refl
 
 pub any-remove : {A : Type 0} (test : A → Bool) (xs : List A) (i : ℕ) (old : A) → slice_get xs i ≡ Some old → list_any test xs ≡ (test old || list_any test (remove xs i))
 any-remove test [] i old is = cc

@@ -6,12 +6,14 @@ use Rattle.std.proofs.Math.ListN.{length-set}
 use Rattle.std.proofs.lemmas.List.Quantifiers.{position-Some}
 use Rattle.std.proofs.lemmas.List.Sums.{sum_by-cons, sum_by-set}
 use Rattle.std.proofs.lemmas.Option.{slice_get-get_or}
+use Rattle.std.proofs.lemmas.List.{length-map}
 use Rattle.ep_table.specs.Sessions.{Sessions, is_held, held_count, holds, is_free, seat_at, seated_at, accepted_by, after_accept, after_free}
 use Rattle.ep_table.specs.declared.table.Accepted.TheVariants.{Seat as SeatAt}
 use Rattle.ep_table.specs.declared.table.Seat.{Seat}
 use Rattle.ep_judge.specs.declared.tables.Present.{Present}
 use Rattle.ep_judge.specs.Tables.{has_slot}
-use Rattle.ep_judge.proofs.Lists.{has, IsDistinct, has-filter, pigeons, distinct-filter, eqb_turn}
+use Rattle.ep_judge.proofs.Lists.{IsDistinct, has-filter, pigeons, distinct-filter}
+use Rattle.ep_model.proofs.Lists.{has, eqb_turn}
 use Rattle.ep_made.proofs.Lists.{map-remove}
 
 -- ---- numbers of which as many differ as there are
@@ -117,10 +119,6 @@ pub has_slots : (n : ℕ) (ps : List Present) → has n (map (λ (p : Present). 
 has_slots n [] = refl
 has_slots n (p ∷ ps) = ap (λ b. (p.slot == n) || b) (has_slots n ps)
 
-length-mapped : {A : Type 0} (f : A → ℕ) (xs : List A) → length (map f xs) ≡ length xs
-length-mapped f [] = refl
-length-mapped f (x ∷ xs) = ap suc (length-mapped f xs)
-
 -- As many slots are held as there are sessions, and by these: so no two of them have one slot.
 pub slots_distinct : (table : Sessions) (ps : List Present) → ((slot : ℕ) → is_held table slot ≡ has_slot slot ps) → held_count table ≡ length ps → IsDistinct (map (λ (p : Present). p.slot) ps)
 slots_distinct table ps held count =
@@ -131,7 +129,7 @@ slots_distinct table ps held count =
     let same : at.place ≡ n = omega (arith, e) in
     has_slots n ps ∙ sym (held n) ∙ subst P same at.there in
     let many = held_length 0 table.seats in
-    let long = length-mapped (λ (p : Present). p.slot) ps in
+    let long = length-map ps (λ (p : Present). p.slot) in
     all_distinct (held_from 0 table.seats) (map (λ (p : Present). p.slot) ps) (held_distinct 0 table.seats) all (omega (arith, many, long, count))
 
 -- One session less leaves its slot to no other.

@@ -1,7 +1,6 @@
 -- What a session's call told, and where it ran out of stack ids.
-use Rattle.std.proofs.Common.{◌≡◌, true, List, ◌++◌, Result, Ok, Err, refl, ap, subst}
+use Rattle.std.proofs.Common.{◌≡◌, true, List, ◌++◌, Result, Ok, Err, refl, subst}
 use Rattle.std.specs.Prelude.{OnOk}
-use Rattle.std.specs.Result.{IsErrAnd}
 use Rattle.ep_defs.specs.Definitions.{definition_at}
 use Rattle.ep_defs.specs.declared.event.EventDef.{EventDef}
 use Rattle.ep_defs.specs.Entry.{Entry}
@@ -35,11 +34,3 @@ pub spent_in : {A : Type 0} (events : List EventDef) (entries : List Entry) (was
 spent_in events entries was now result is writes faulty before info told telling =
     let t = writes before info told telling in
     (t.done, t.front, t.telling.spent (faulty.fails TooLong is))
-
--- What the exit of a `?` answers.
-pub err_is : {A : Type 0} (result : Result A Fault) (fault : Fault) → IsErrAnd result (λ other. other ≡ fault) → result ≡ Err fault
-err_is (Ok a) fault is = absurd is
-err_is (Err other) fault is = ap Err is
-
-pub err_same : {A : Type 0} (result : Result A Fault) (a b : Fault) → result ≡ Err a → result ≡ Err b → a ≡ b
-err_same result a b is also = cc

@@ -5,7 +5,7 @@ use Rattle.std.specs.BTreeMap.{get}
 use Rattle.std.specs.Ordering.{nat_cmp}
 use Rattle.std.specs.List.{AllByRecursion}
 use Rattle.std.proofs.lemmas.Bool.{eqb-true}
-use Rattle.std.proofs.lemmas.Option.{slice_get_read}
+use Rattle.std.proofs.lemmas.Option.{slice_get_read, same_Some}
 use Rattle.std.proofs.lemmas.List.Quantifiers.{position-Some}
 use Rattle.ep_defs.specs.declared.session.Config.{Config}
 use Rattle.ep_defs.specs.declared.session.Marks.{Marks}
@@ -106,14 +106,11 @@ rows_with rows was now seat config in_hand hands h =
 pub keeps_same : (rows : Rows) (slot : ℕ) → KeepsSlots expected_in configured_in out_in slot rows rows
 keeps_same rows slot = record { hands = λ r s _. refl; configs = λ r s _. refl; chunks = λ s _. refl }
 
-some_same : {A : Type 0} (a b : A) → Some a ≡ Some b → a ≡ b
-some_same a b e = cc
-
 -- What was asked of a session's place holds of the session that stands there.
 pub holds_at : (tables : Tables) (session place : ℕ) (was : Present) (Holds : Present → Type 0) → HasPlace tables session Holds → StandsAt session tables place was → Holds was
 holds_at tables session place was Holds can stands =
-    let at : can.place ≡ place = some_same can.place place (sym can.first ∙ stands.first) in
-    let there : can.present ≡ was = some_same can.present was (sym can.there ∙ ap (slice_get tables.present.items) at ∙ stands.there) in
+    let at : can.place ≡ place = same_Some can.place place (sym can.first ∙ stands.first) in
+    let there : can.present ≡ was = same_Some can.present was (sym can.there ∙ ap (slice_get tables.present.items) at ∙ stands.there) in
     subst Holds there can.holds
 
 -- A session whose hand of a row is another of the same thread, and whose marks stay.
@@ -124,7 +121,7 @@ hand_now old new was now row hand next number slot opened seat count rows_are so
     let Known : ℕ → Type 0 = λ t. is_some (get nat_cmp was.opened t) ≡ true in
     turn_now old new was now number slot opened seat count rows_are sound
     (hands_set was.session now.session row (Some next) Known sets
-    (λ x is. subst (λ (y : HandState). Known y.thread) (some_same next x is) (subst Known (sym same) (h.ever hand.thread (inl (row, hand, held, refl)))))
+    (λ x is. subst (λ (y : HandState). Known y.thread) (same_Some next x is) (subst Known (sym same) (h.ever hand.thread (inl (row, hand, held, refl)))))
     (of_hands was.session Known h.ever))
     (λ place mark is. h.ever mark.thread (inr (place, mark, ap (λ (ms : List Marks). slice_get ms place) (sym marks) ∙ is, refl)))
     h
@@ -147,7 +144,7 @@ pub own_thread : (told : ToldRows) (thread row : ℕ) (given : Option ℕ) → o
 own_thread told thread row None is = absurd (cc)
 own_thread told thread row (Some r) is =
     elim ((told.row r).thread == thread) as (λ v. ((told.row r).thread == thread) ≡ v → (if v then Some r else None) ≡ Some row → (told.row row).thread ≡ thread) [
-      | true ↦ λ same e. subst (λ (n : ℕ). (told.row n).thread ≡ thread) (some_same r row e) (eqb-true (told.row r).thread thread same)
+      | true ↦ λ same e. subst (λ (n : ℕ). (told.row n).thread ≡ thread) (same_Some r row e) (eqb-true (told.row r).thread thread same)
       | false ↦ λ _ e. absurd (cc)
     ]
     refl is

@@ -1,35 +1,36 @@
 -- What each step makes of one session that is present.
-use Rattle.std.proofs.Common.{◌≡◌, ℕ, zero, suc, ◌+◌, Bool, true, false, inl, inr, List, ◌∷◌, length, Option, Some, None, refl, ap, sym, ◌∙◌, subst, arith, if◌then◌else◌}
-use Rattle.std.specs.Prelude.{◌&&◌, ◌||◌, not, is_some, slice_index_or, option_map, ◌==◌}
+use Rattle.std.proofs.Common.{◌≡◌, ℕ, zero, suc, ◌+◌, Bool, true, false, inl, inr, List, ◌∷◌, length, Some, None, refl, ap, sym, ◌∙◌, subst, arith, if◌then◌else◌}
+use Rattle.std.specs.Prelude.{◌&&◌, ◌||◌, not, is_some, slice_index_or, ◌==◌}
 use Rattle.std.specs.Int.{bit_at}
 use Rattle.std.specs.List.{list_any}
 use Rattle.std.specs.BTreeMap.{get, btree_map_len}
 use Rattle.std.specs.Ordering.{nat_cmp}
 use Rattle.std.proofs.lemmas.Bool.{eq-eqb, ne_eqb, and_from, and_left, and_right, or_left, or_from, not-false, cases_eq, false≢true}
+use Rattle.std.proofs.lemmas.Option.{same_Some}
 use Rattle.ep_defs.specs.declared.event.EventDef.{EventDef}
 use Rattle.ep_model.specs.declared.step.Step.{Step}
 use Rattle.ep_model.specs.declared.step.Step.TheVariants as step
 use Rattle.ep_model.specs.Fold.{Budget, budget_of, with_steal, with_give}
 use Rattle.ep_model.specs.History.{Past, accepted, entered, present, was_there, is_there, has_left, opened, insert_ascending, is_open, is_due}
 use Rattle.ep_model.specs.Lawful.{IsLawful, objections, begins, was_opened}
+use Rattle.ep_model.proofs.Objections.{none_there}
+use Rattle.ep_model.proofs.Lists.{any_inserted, length_inserted}
 use Rattle.ep_slot.specs.Slot.{opened as opened_slot}
-use Rattle.ep_row.specs.Row.{RowState, slot_of, opening_of}
+use Rattle.ep_row.specs.Row.{RowState, slot_of}
 use Rattle.ep_stream.specs.Rows.{IsRow}
 use Rattle.ep_stream.specs.Session.{Rest, rest_of}
 use Rattle.ep_stream.specs.Steps.{ToldRows, ChangesRow, OpensRow, ClosesRow}
 use Rattle.ep_stream.specs.Sweep.{TellsGive}
 use Rattle.ep_rows.specs.declared.opened.Open.{Open}
-use Rattle.ep_rows.specs.declared.rows.Rows.{Rows}
 use Rattle.ep_rows.specs.Rows.{told_of}
-use Rattle.ep_rows.specs.Told.{open_at}
 use Rattle.ep_judge.specs.declared.tables.Present.{Present}
 use Rattle.ep_judge.specs.declared.tables.Tables.{Tables}
 use Rattle.ep_judge.specs.Tables.{TablesFollow, PresentFollows, RowFollows, OnFollows, IsGone, has_slot, number_of}
-use Rattle.ep_judge.proofs.Pasts.{none_there}
+use Rattle.ep_judge.proofs.Found.{any_at}
+use Rattle.ep_judge.proofs.Somewhere.{cell_on}
 use Rattle.ep_made.specs.Made.{ChangesOne, OpensOn, StealsOn, ClosesOn, Gives, Points, MakesOpen, MakesSteal, MakesClose, MakesGive, MakesPoint}
 use Rattle.ep_made.specs.Given.{PendingFollows}
-use Rattle.ep_made.proofs.Lists.{All-set, any_item, get-set_other}
-use Rattle.ep_made.proofs.Pasts.{any_inserted, length_inserted}
+use Rattle.ep_made.proofs.Lists.{All-set, get-set_other}
 use Rattle.ep_made.proofs.Follow.{each_row, OwnRow, own_row, one_seated, sessions_are, session_at, numbers_distinct, seats_distinct, follows_on}
 
 -- ---- the session that changes
@@ -100,10 +101,7 @@ after_turn events past s session Changes old new lawful h one same_accepted same
 -- ---- a session gives back
 
 give_rows : (slot chunks : ℕ) (old new : ToldRows) → TellsGive slot chunks (Some old) (Some new) → (r : ℕ) → new.row r ≡ old.row r
-give_rows slot zero old new told r = ap (λ (t : ToldRows). t.row r) (some_is new old told)
-  where
-    some_is : (x y : ToldRows) → Some x ≡ Some y → x ≡ y
-    some_is x y is = cc
+give_rows slot zero old new told r = ap (λ (t : ToldRows). t.row r) (same_Some new old told)
 give_rows slot (suc chunks) old new told r = told.rows r
 
 pub after_give : (events : List EventDef) (past : Past) (session : ℕ) (old new : Tables) → IsLawful events (step.Give session ∷ past) → TablesFollow events past old → MakesGive session old new → TablesFollow events (step.Give session ∷ past) new
@@ -212,14 +210,6 @@ closes_slot slot R S closes =
       others = λ s off. ap (λ slots. slice_index_or slots s None) closes.slots ∙ get-set_other R.slots slot s _ None off;
     }
 
--- A row and its slots say alike whether a session is open.
-cell_on : (set : Rows) (r s : ℕ) → is_some (slot_of ((told_of set).row r) s) ≡ is_some ((told_of set).slot r s)
-cell_on set r s = ap is_some (set.known r s).on ∙ some_map (λ (o : Open). opening_of o.slot) (λ (o : Open). o.slot) (open_at set.columns.items r s)
-  where
-    some_map : {A B C : Type 0} (f : A → B) (g : A → C) (o : Option A) → is_some (option_map f o) ≡ is_some (option_map g o)
-    some_map f g None = refl
-    some_map f g (Some x) = refl
-
 -- What the step leaves: where sessions are open but for this one on this thread, and what is due.
 record LeavesOthers (events : List EventDef) (past : Past) (s : Step) (session thread : ℕ) : Type 0 where
   open_else : (n t : ℕ) → (session == n) ≡ false → is_open n t (s ∷ past) ≡ is_open n t past
@@ -304,7 +294,7 @@ after_slot events past s session thread row Changes Sets old new lawful h own on
     h.sessions))
     (λ r at. each_row row Sets before after (λ r R S. IsRow 256 r → is_some (slot_of S at) ≡ true → has_slot at old.present.items ≡ true) changes
     (λ c is_row is. elim (cases_eq at slot) [
-      | inl same ↦ any_item (λ (p : Present). p.slot == at) old.present.items one.place one.was one.stands.there (eq-eqb slot at (sym same))
+      | inl same ↦ any_at (λ (p : Present). p.slot == at) old.present.items one.place one.was one.stands.there (eq-eqb slot at (sym same))
       | inr off ↦ h.on_known row at is_row (ap is_some (sym ((sets (before.row row) (after.row row) c).others at off)) ∙ is)
     ])
     (λ r other is_row is. h.on_known r at is_row is) r)

@@ -15,10 +15,13 @@ use Rattle.ep_defs.specs.declared.session.Write.{Write}
 use Rattle.ep_model.specs.declared.step.Step.TheVariants as step
 use Rattle.ep_model.specs.History.{Past, config_of, in_write, writes_of, is_open, is_due, admits_write}
 use Rattle.ep_model.specs.Lawful.{IsLawful, objections}
+use Rattle.ep_model.proofs.Objections.{none_there}
+use Rattle.ep_model.proofs.Due.{due_within}
 use Rattle.ep_slot.specs.Slot.{SlotState, is_refused}
 use Rattle.ep_row.specs.AtRest.{RowAtRest}
 use Rattle.ep_row.specs.Bits.{one_if}
 use Rattle.ep_row.specs.Row.{RowState, slot_of, mask_of}
+use Rattle.ep_row.proofs.Resting.{one_true}
 use Rattle.ep_stream.specs.Rows.{IsRow}
 use Rattle.ep_rows.specs.Rows.{told_of}
 use Rattle.ep_rows.specs.Shows.{ShowsRow, shown_slot}
@@ -26,11 +29,11 @@ use Rattle.ep_rows.specs.Writes.{BeginsRow}
 use Rattle.ep_judge.specs.declared.tables.Present.{Present}
 use Rattle.ep_judge.specs.declared.tables.Tables.{Tables}
 use Rattle.ep_judge.specs.Tables.{TablesFollow, PresentFollows, RowFollows, OnFollows, has_slot, number_of}
-use Rattle.ep_judge.proofs.Pasts.{none_there}
+use Rattle.ep_judge.proofs.Found.{any_at}
 use Rattle.ep_made.specs.Made.{MakesBegin, MakesShow}
 use Rattle.ep_made.specs.Given.{RowsRest}
-use Rattle.ep_made.proofs.Lists.{All-one, any_item, get-set_other}
-use Rattle.ep_made.proofs.Pasts.{due_on, show_hand}
+use Rattle.ep_made.proofs.Lists.{All-one, get-set_other}
+use Rattle.ep_made.proofs.Pasts.{show_hand}
 use Rattle.ep_made.proofs.Follow.{each_row, own_row, same_seats, sessions_stay, session_at, numbers_distinct, seats_distinct, follows_on}
 
 -- ---- bits
@@ -38,10 +41,6 @@ use Rattle.ep_made.proofs.Follow.{each_row, own_row, same_seats, sessions_stay, 
 one_is : (b : Bool) → (one_if b == 1) ≡ b
 one_is true = refl
 one_is false = refl
-
-one_true : (b : Bool) → one_if b ≡ 1 → b ≡ true
-one_true true is = refl
-one_true false is = cc
 
 -- A bit that is set is one of a slot.
 pub bit_within : (due slot : ℕ) → due < 2 ^ 64 → bit_at due slot ≡ 1 → slot < 64
@@ -192,7 +191,7 @@ after_show events past thread session write old new lawful h m =
     let changes = m.rows.rows in
     let later = step.Show thread session ∷ past in
     let due = not-false (is_due events session thread past) (none_there (objections events past (step.Show thread session)) lawful.1).1.1.1.0 in
-    let on : is_open session (before.row row).thread past ≡ true = ap (λ t. is_open session t past) own.thread_is ∙ (due_on events session thread past lawful.0 due).0 in
+    let on : is_open session (before.row row).thread past ≡ true = ap (λ t. is_open session t past) own.thread_is ∙ (due_within events session thread past lawful.0 due).on in
     follows_on events past (step.Show thread session) old new lawful h m.events m.threads m.sessions.slots (same_seats old new m.sessions) refl refl refl (h.begins_are ∙ sym m.begins) (λ t. refl)
     (λ t gone. record { gone = gone.gone; closed = gone.closed })
     (each_row row (ShowsRow slot buffer) before after (λ r R S. S.thread ≡ R.thread) changes (λ shows. ap (λ (R : RowState). R.thread) shows.others) (λ r other. refl))
@@ -225,13 +224,13 @@ after_show events past thread session write old new lawful h m =
     h.sessions))
     (λ r s. each_row row (ShowsRow slot buffer) before after (λ r R S. IsRow 256 r → is_some (slot_of S s) ≡ true → has_slot s old.present.items ≡ true) changes
     (λ shows at is. elim (cases_eq s slot) [
-      | inl same ↦ any_item (λ (p : Present). p.slot == s) old.present.items m.place m.present m.stands.there (eq-eqb slot s (sym same))
+      | inl same ↦ any_at (λ (p : Present). p.slot == s) old.present.items m.place m.present m.stands.there (eq-eqb slot s (sym same))
       | inr off ↦ h.on_known row s at (ap is_some (sym (show_slot slot s buffer (before.row row) (after.row row) shows off)) ∙ is)
     ])
     (λ r other at is. h.on_known r s at is) r)
     (λ r s. each_row row (ShowsRow slot buffer) before after (λ r R S. IsRow 256 r → bit_at S.due s ≡ 1 → has_slot s old.present.items ≡ true) changes
     (λ shows at one. elim (cases_eq s slot) [
-      | inl same ↦ any_item (λ (p : Present). p.slot == s) old.present.items m.place m.present m.stands.there (eq-eqb slot s (sym same))
+      | inl same ↦ any_at (λ (p : Present). p.slot == s) old.present.items m.place m.present m.stands.there (eq-eqb slot s (sym same))
       | inr off ↦ h.due_known row s at (sym (show_bit slot s buffer (before.row row) (after.row row) shows (bit_within (after.row row).due s m.due one) off) ∙ one)
     ])
     (λ r other at one. h.due_known r s at one) r)

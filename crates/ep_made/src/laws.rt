@@ -1,5 +1,5 @@
 //! What holds of tables once a step was made in them, by the definitions of `specs/`.
-ghost use Rattle.std.specs.Prelude.{◌≡◌, ℕ, List, ◌∷◌};
+ghost use Rattle.std.specs.Prelude.{◌≡◌, ℕ, List, [], ◌∷◌};
 ghost use Rattle.ep_defs.specs.declared.event.EventDef.{EventDef};
 ghost use Rattle.ep_defs.specs.declared.session.Config.{Config};
 ghost use Rattle.ep_defs.specs.declared.session.TraceInfo.{TraceInfo};
@@ -10,8 +10,13 @@ ghost use Rattle.ep_model.specs.declared.step.Step.TheVariants.{Accept, Enter, L
 ghost use Rattle.ep_rows.specs.Rows.{told_of};
 ghost use Rattle.ep_judge.specs.declared.tables.Tables.{Tables};
 ghost use Rattle.ep_judge.specs.Tables.{TablesFollow};
-ghost use Rattle.ep_made.specs.Made.{MakesAccept, MakesEnter, MakesLeave, MakesOpen, MakesBegin, MakesShow, MakesEnd, MakesSteal, MakesGive, MakesPoint, MakesClose, MakesFinish};
+ghost use Rattle.ep_made.specs.Made.{MakesAccept, MakesEnter, MakesLeave, MakesOpen, MakesBegin, MakesShow, MakesEnd, MakesSteal, MakesGive, MakesPoint, MakesClose, MakesFinish, IsStart};
 ghost use Rattle.ep_made.specs.Given.{RowsRest, PendingFollows};
+
+/// Before the first step.
+pub fn tables_follow_at_the_start()
+    ensures { (events : List EventDef) (tables : Tables) → IsStart events tables → TablesFollow events [] tables }
+{}
 
 /// Once a session was accepted.
 pub fn tables_follow_an_accept()

@@ -1,5 +1,5 @@
 -- How the writes that a session admits grow.
-use Rattle.std.proofs.Common.{◌≡◌, ℕ, suc, ◌+◌, ◌≤◌, Bool, true, false, cond, inl, inr, List, [], ◌∷◌, ◌++◌, length, take, drop, filter, Option, Some, None, eqb, refl, ap, sym, arith}
+use Rattle.std.proofs.Common.{◌≡◌, ℕ, suc, ◌+◌, ◌≤◌, Bool, true, false, cond, inl, inr, List, ◌∷◌, ◌++◌, length, take, drop, filter, Option, Some, None, eqb, refl, ap, sym, arith, []}
 use Rattle.std.specs.Prelude.{◌&&◌, unwrap_or}
 use Rattle.std.specs.Option.{option_map_or}
 use Rattle.std.proofs.lemmas.Bool.{not-false, eq-eqb, ne_eqb, cases_Bool, cases_eq, false_from_ne_true}
@@ -14,7 +14,8 @@ use Rattle.ep_model.specs.declared.step.Step.TheVariants as step
 use Rattle.ep_model.specs.History.{Past, event_at, admits_write, admitted_from, is_open, opened_at, closed_at, writes_of}
 use Rattle.ep_model.specs.Lawful.{IsLawful, objections, was_opened}
 use Rattle.ep_model.specs.Faithful.{numbered, contents_if}
-use Rattle.ep_model.proofs.Sessions.{none_there, open-opened, unopened-none}
+use Rattle.ep_model.proofs.Objections.{none_there}
+use Rattle.ep_model.proofs.Sessions.{open_opened, unopened_none}
 
 -- ---- where a session stands on a thread
 
@@ -48,7 +49,7 @@ closed_last from to stands_open writes inside (Closed first last a b c d) = cc
 
 -- A session that was not opened on a thread is not open there.
 pub unopened-shut : (session thread : ℕ) (past : Past) → was_opened session thread past ≡ false → is_open session thread past ≡ false
-unopened-shut session thread past h = false_from_ne_true (is_open session thread past) (λ e. let f = open-opened session thread past e in cc)
+unopened-shut session thread past h = false_from_ne_true (is_open session thread past) (λ e. let f = open_opened session thread past e in cc)
 
 -- A session stands on each thread in one of the three ways.
 pub stands : (events : List EventDef) (session thread : ℕ) (past : Past) → IsLawful events past → StandsOn session thread past
@@ -62,7 +63,7 @@ stands events session thread (step.Open s t ∷ past) lawful =
                 let fresh = (none_there (objections events past (step.Open s t)) lawful.1).1.1.0 in
                 let unopened : was_opened session thread past ≡ false = rw same_thread at (rw same at fresh) in
                 rw (eq-eqb s session same, eq-eqb t thread same_thread)
-                (opened_first _ _ _ _ (unopened-none session thread past unopened) (unopened-shut session thread past unopened) before)
+                (opened_first _ _ _ _ (unopened_none session thread past unopened) (unopened-shut session thread past unopened) before)
             | inr other ↦ rw (eq-eqb s session same, ne_eqb t thread other) before
           ]
       | inr other ↦ rw (ne_eqb s session other) before

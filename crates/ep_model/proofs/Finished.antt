@@ -1,5 +1,5 @@
 -- What a finished session's entries tell is faithful.
-use Rattle.std.proofs.Common.{◌≡◌, ℕ, ◌+◌, Bool, true, false, cond, inl, inr, List, [], ◌∷◌, ◌++◌, length, map, filter, Some, eqb, refl, ap, sym, ◌∙◌, arith}
+use Rattle.std.proofs.Common.{◌≡◌, ℕ, ◌+◌, Bool, true, false, cond, inl, inr, List, ◌∷◌, ◌++◌, length, map, filter, Some, eqb, refl, ap, sym, ◌∙◌, arith, []}
 use Rattle.std.specs.Prelude.{not, ◌&&◌, ◌||◌}
 use Rattle.std.specs.List.{list_any, list_all, AllByRecursion}
 use Rattle.std.proofs.lemmas.Bool.{and_parts, and_from, or_left, or_right, not-false, eqb-true, eq-eqb, ne_eqb, cases_Bool, cases_eq, false_from_ne_true}
@@ -15,7 +15,9 @@ use Rattle.ep_model.specs.History.{Past, config_of, is_present, is_finished, ope
 use Rattle.ep_model.specs.Lawful.{IsLawful, objections, was_opened}
 use Rattle.ep_model.proofs.Admitted.{contents-long}
 use Rattle.ep_model.proofs.Numbers.{AreOwn}
-use Rattle.ep_model.proofs.Sessions.{none_there, any_inserted, open-opened, open-present, finished-absent}
+use Rattle.ep_model.proofs.Lists.{any_inserted}
+use Rattle.ep_model.proofs.Objections.{none_there}
+use Rattle.ep_model.proofs.Sessions.{open_opened, open_present, finished_absent}
 use Rattle.ep_model.proofs.Tally.{pending-own}
 use Rattle.ep_model.proofs.Told.{tally}
 
@@ -80,7 +82,7 @@ among-taken events session s t past stands_open among =
           let here : is_open session t past ≡ true = rw same at stands_open in
           rw (eq-eqb s session same)
           (among-append (opened session past) (entries events session past) _ among
-          (among-own t (opened session past) (pending events session t past) (open-opened session t past here) (pending-own events session t past)))
+          (among-own t (opened session past) (pending events session t past) (open_opened session t past here) (pending-own events session t past)))
       | inr other ↦ rw (ne_eqb s session other) among
     ]
 
@@ -114,7 +116,7 @@ other_session : (events : List EventDef) (session s : ℕ) (past : Past) → IsL
 other_session events session s past lawful done there =
     false_from_ne_true (eqb s session) (λ same.
     let present_here : is_present session past ≡ true = rw (eqb-true s session same) at (not-false (is_present s past) there) in
-    let absent = finished-absent events session past lawful done in
+    let absent = finished_absent events session past lawful done in
     cc)
 
 ends-with_point : (events : List EventDef) (session : ℕ) (past : Past) → IsLawful events past → is_finished session past ≡ true → EndsWithPoint events session past
@@ -161,8 +163,8 @@ has_told : (events : List EventDef) (session thread : ℕ) (past : Past) → IsL
 has_told events session thread past lawful done was =
     let h = tally events session thread past lawful in
     let lines = entries events session past in
-    let absent = finished-absent events session past lawful done in
-    let shut = false_from_ne_true (is_open session thread past) (λ e. let there = open-present events session thread past lawful e in cc) in
+    let absent = finished_absent events session past lawful done in
+    let shut = false_from_ne_true (is_open session thread past) (λ e. let there = open_present events session thread past lawful e in cc) in
     let nothing = h.shut shut in
     let named = h.named was shut (finished-named events session thread past lawful done) in
     let whole = rw (nothing.0, append-nil h.before) at h.whole in

@@ -1,17 +1,13 @@
 mod Admitted
 mod Counted
+pub mod Due
 mod Finished
 mod InOrder
+pub mod Lists
 mod Numbers
+pub mod Objections
 mod Others
-mod Sessions
+pub mod Sessions
 mod Spent
 mod Tally
-mod TodayAdmitted
-mod TodayFinished
-mod TodayInOrder
-mod TodayOthers
-mod TodaySessions
-mod TodayTally
-mod TodayTold
 mod Told

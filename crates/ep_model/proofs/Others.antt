@@ -1,5 +1,5 @@
 -- What other sessions do, does not matter to a session.
-use Rattle.std.proofs.Common.{◌≡◌, ℕ, ◌+◌, ◌≤◌, Bool, true, false, cond, inl, inr, List, [], ◌∷◌, ◌++◌, length, map, filter, None, eqb, leb, refl, ap, sym, ◌∙◌, arith}
+use Rattle.std.proofs.Common.{◌≡◌, ℕ, ◌+◌, ◌≤◌, Bool, true, false, cond, inl, inr, List, ◌∷◌, ◌++◌, length, map, filter, None, eqb, leb, refl, ap, sym, ◌∙◌, arith, []}
 use Rattle.std.specs.Prelude.{not, ◌&&◌, ◌||◌, nat_lt}
 use Rattle.std.specs.List.{list_any, range_with_len, AllByRecursion}
 use Rattle.std.proofs.lemmas.Bool.{and_parts, or_cases, or_parts, or_left, or_right, not-false, eq-eqb, ne_eqb, leb-false, lt-leb, cases_Bool, cases_eq, false_from_ne_true}
@@ -13,8 +13,9 @@ use Rattle.ep_model.specs.Chunks.{in_hand, turns, is_refused, is_hand_full, refu
 use Rattle.ep_model.specs.Lawful.{IsLawful, objection_to, objections, is_next_session, begins, has_due, is_open_somewhere}
 use Rattle.ep_model.specs.Entries.{awaits_point, is_named, entries, pending, told_number, point_entry}
 use Rattle.ep_model.specs.Only.{concerns, only}
-use Rattle.ep_model.proofs.Sessions.{none_there, present-accepted, accept-unreached, was_reached}
-use Rattle.ep_model.proofs.Told.{any_kept}
+use Rattle.ep_model.proofs.Lists.{any_kept}
+use Rattle.ep_model.proofs.Objections.{none_there}
+use Rattle.ep_model.proofs.Sessions.{present_accepted, accept_unreached, was_reached}
 
 -- A step that changes nothing of a value can be left out.
 passes_over : {X : Type 0} (value : Past → X) (kept : Bool) (step : Step) (past : Past) → value (step ∷ past) ≡ value past → value (cond kept (step ∷ past) past) ≡ value past
@@ -248,13 +249,13 @@ has_due-only events session thread past none =
     let parts = any_equal (λ s. is_present s (only session past)) (λ s. is_due events s thread (only session past)) session (accepted (only session past)) (accepted-only session past) some in
     let there = sym (present-only session past) ∙ parts.0 in
     let due = sym (due-only events session thread past) ∙ parts.1 in
-    let some_before : has_due events thread past ≡ true = any_kept (λ s. is_present s past) (λ s. is_due events s thread past) session there due (accepted past) (present-accepted session past there) in
+    let some_before : has_due events thread past ≡ true = any_kept (λ s. is_present s past) (λ s. is_due events s thread past) session (accepted past) there due (present_accepted session past there) in
     cc)
 
 accept-only : (events : List EventDef) (session : ℕ) (config : _) (past : Past) → objection_to events past (step.Accept session config) ≡ None → objection_to events (only session past) (step.Accept session config) ≡ None
 accept-only events session config past h =
     let known = none_there (objections events past (step.Accept session config)) h in
-    let none = unreached-only session past (accept-unreached events session past config h) in
+    let none = unreached-only session past (accept_unreached events past session config h) in
     let positive = (and_parts (nat_lt 0 session) (not (was_reached session past)) (not-false (is_next_session session past) known.0)).0 in
     let valid = not-false (is_valid_config config) known.1.0 in
     rw (none, positive, valid) refl
@@ -285,7 +286,7 @@ row-only session thread past h =
           let parts = any_equal (λ s. is_present s (only session past)) (λ s. is_open s thread (only session past)) session (accepted (only session past)) (accepted-only session past) some in
           let there = sym (present-only session past) ∙ parts.0 in
           let inside = sym (open-only session thread past) ∙ parts.1 in
-          or_right (is_there thread past) _ (any_kept (λ s. is_present s past) (λ s. is_open s thread past) session there inside (accepted past) (present-accepted session past there))
+          or_right (is_there thread past) _ (any_kept (λ s. is_present s past) (λ s. is_open s thread past) session (accepted past) there inside (present_accepted session past there))
     ]
 
 filter_fewer : (p q : ℕ → Bool) → ((x : ℕ) → p x ≡ true → q x ≡ true) → (xs : List ℕ) → length (filter p xs) ≤ length (filter q xs)

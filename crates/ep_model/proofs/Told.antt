@@ -1,5 +1,5 @@
 -- The tally of a session on a thread holds after each lawful past.
-use Rattle.std.proofs.Common.{◌≡◌, ℕ, ◌^◌, ◌<◌, Bool, true, false, cond, inl, inr, List, [], ◌∷◌, ◌++◌, map, filter, eqb, refl, arith, zero-add}
+use Rattle.std.proofs.Common.{◌≡◌, ℕ, ◌^◌, ◌<◌, Bool, true, false, inl, inr, List, ◌∷◌, ◌++◌, map, filter, eqb, refl, arith, zero-add, []}
 use Rattle.std.specs.Prelude.{◌&&◌}
 use Rattle.std.specs.List.{list_any}
 use Rattle.std.proofs.lemmas.Bool.{and_parts, or_cases, or_parts, or_right, not-false, eqb-true, eq-eqb, ne_eqb, cases_Bool, cases_eq, false_from_ne_true}
@@ -13,7 +13,9 @@ use Rattle.ep_model.specs.History.{Past, Begun, config_of, accepted, is_present,
 use Rattle.ep_model.specs.Lawful.{IsLawful, objections, has_due, was_opened}
 use Rattle.ep_model.proofs.Admitted.{stands, unopened-shut, never-closed, never-open, open-not_closed, begin-admitted, open-admitted, admitted-few}
 use Rattle.ep_model.proofs.Numbers.{knowns-none, knowns-some, knowns-last, runs-up}
-use Rattle.ep_model.proofs.Sessions.{none_there, any_inserted, opens_more, open-opened, present-accepted, open-present, accept-unreached, unreached-none, unopened-none, begins-few, writes-begins, was_reached}
+use Rattle.ep_model.proofs.Lists.{any_inserted, any_kept}
+use Rattle.ep_model.proofs.Objections.{none_there}
+use Rattle.ep_model.proofs.Sessions.{opens_more, open_opened, present_accepted, open_present, accept_unreached, unreached_none, unopened_none, begins_few, writes_begun, was_reached}
 use Rattle.ep_model.proofs.Tally.{Tally, empty_tally, stacks_tally, open_tally, begin_tally, write_tally, refuse_tally, end_tally, take_tally, more_tally, point_tally, pending-own, events_of-other, sightings-other}
 
 abbrev pub TallyOn : List EventDef → ℕ → ℕ → Past → Type 0
@@ -26,8 +28,8 @@ TallyOn events session thread past =
 -- No thread has more numbers than 32 bits count.
 shows-few : (events : List EventDef) (session thread : ℕ) (past : Past) → IsLawful events past → TallyOn events session thread past → shows session thread past < 2 ^ 32
 shows-few events session thread past lawful h =
-    let few = begins-few events past lawful in
-    let begun = writes-begins thread past in
+    let few = begins_few events past lawful in
+    let begun = writes_begun thread past in
     let some = admitted-few events (config_of session past) (opened_at session thread past) (closed_at session thread past) (writes_of thread past) in
     omega (arith, h.counted)
 
@@ -37,26 +39,14 @@ told-few events session thread past lawful h =
     let up = runs-up (told_number session thread past) (shows session thread past) h.left (pending events session thread past) h.runs in
     omega arith
 
--- One of a list that is kept and passes.
-pub any_kept : (keep test : ℕ → Bool) (n : ℕ) → keep n ≡ true → test n ≡ true → (xs : List ℕ) → list_any (λ x. eqb x n) xs ≡ true → list_any test (filter keep xs) ≡ true
-any_kept keep test n kept passes [] h = h
-any_kept keep test n kept passes (x ∷ xs) h =
-    elim (or_cases (eqb x n) (list_any (λ y. eqb y n) xs) h) [
-      | inl same ↦ rw (eqb-true x n same, kept, passes) refl
-      | inr later ↦
-          let rest = any_kept keep test n kept passes xs later in
-          elim (keep x) as (λ b. list_any test (cond b (x ∷ filter keep xs) (filter keep xs)) ≡ true)
-          [ true ↦ or_right (test x) _ rest | false ↦ rest ]
-    ]
-
 -- Nothing is due where a write can end.
 end-none : (events : List EventDef) (session thread : ℕ) (past : Past) → IsLawful events past → has_due events thread past ≡ false → TallyOn events session thread past → is_due events session thread past ≡ false
 end-none events session thread past lawful none h =
     false_from_ne_true (is_due events session thread past) (λ due.
     elim (cases_Bool (is_open session thread past)) [
       | inl open_there ↦
-          let there = open-present events session thread past lawful open_there in
-          let some : has_due events thread past ≡ true = any_kept (λ s. is_present s past) (λ s. is_due events s thread past) session there due (accepted past) (present-accepted session past there) in
+          let there = open_present events session thread past lawful open_there in
+          let some : has_due events thread past ≡ true = any_kept (λ s. is_present s past) (λ s. is_due events s thread past) session (accepted past) there due (present_accepted session past there) in
           cc
       | inr shut ↦ let none_due = (h.shut shut).0 in cc
     ])
@@ -71,7 +61,7 @@ awaits-opened events session thread (step.Close s t ∷ past) lawful h =
       | inl both ↦
           let parts = and_parts (eqb s session) (eqb t thread) both in
           let inside = not-false (is_open s t past) (none_there (objections events past (step.Close s t)) lawful.1).1.1.0 in
-          open-opened session thread past (rw (eqb-true s session parts.0, eqb-true t thread parts.1) at inside)
+          open_opened session thread past (rw (eqb-true s session parts.0, eqb-true t thread parts.1) at inside)
       | inr before ↦ awaits-opened events session thread past lawful.0 before
     ]
 awaits-opened events session thread (step.Point s stamp ∷ past) lawful h = awaits-opened events session thread past lawful.0 (and_parts _ _ h).1
@@ -81,7 +71,7 @@ awaits-opened events session thread (_ ∷ past) lawful h = awaits-opened events
 named-opened : (events : List EventDef) (session thread : ℕ) (past : Past) → IsLawful events past → is_named session thread past ≡ true → was_opened session thread past ≡ true
 named-opened events session thread past lawful h =
     elim (or_cases (is_open session thread past) (awaits_point session thread past) h)
-    [ inl inside ↦ open-opened session thread past inside | inr awaits ↦ awaits-opened events session thread past lawful awaits ]
+    [ inl inside ↦ open_opened session thread past inside | inr awaits ↦ awaits-opened events session thread past lawful awaits ]
 
 -- What is not kept is not among those that are.
 any_dropped : (keep : ℕ → Bool) (n : ℕ) → keep n ≡ false → (xs : List ℕ) → list_any (λ x. eqb x n) (filter keep xs) ≡ false
@@ -103,7 +93,7 @@ point_step events session thread stamp past lawful h =
     let few = told-few events session thread past lawful h in
     elim (cases_Bool (is_named session thread past)) [
       | inl there ↦
-          let any = any_kept (λ t. is_named session t past) (λ t. eqb t thread) thread there (eq-eqb thread thread refl) (opened session past) (named-opened events session thread past lawful there) in
+          let any = any_kept (λ t. is_named session t past) (λ t. eqb t thread) thread (opened session past) there (eq-eqb thread thread refl) (named-opened events session thread past lawful there) in
           point_tally events _ thread _ _ _ _ _ _ _ _ _ _ _ _ (point_entry session stamp past)
           (λ seen skipped later on. rw append-nil (knowns-some told thread seen skipped (named session past) later any on few))
           (λ before. rw append-nil (knowns-last told thread (named session past) before any)) h
@@ -125,8 +115,8 @@ accept_step : (events : List EventDef) (session thread s : ℕ) (config : _) (pa
 accept_step events session thread s config past lawful h =
     elim (cases_eq s session) [
       | inl same ↦
-          let unreached : was_reached session past ≡ false = rw same at (accept-unreached events s past config lawful.1) in
-          let none = unreached-none events session thread past lawful.0 unreached in
+          let unreached : was_reached session past ≡ false = rw same at (accept_unreached events past s config lawful.1) in
+          let none = unreached_none events session thread past lawful.0 unreached in
           let shut = never-open _ _ _ _ none (stands events session thread past lawful.0) in
           let before : Tally events (has_stacks session past) thread [] (refused session thread past) (was_opened session thread past) false (awaits_point session thread past) (is_due events session thread past) (in_write thread past) (last_begun thread past) (shows session thread past) (told_number session thread past) (pending events session thread past) (entries events session past) = rw (none, shut) at h in
           rw (eq-eqb s session same, none, shut) (stacks_tally events _ config.stackwalk thread _ _ _ _ _ _ _ _ _ _ before)
@@ -142,7 +132,7 @@ open_step events session thread s t past lawful h =
             | inl same_thread ↦
                 let fresh = (none_there (objections events past (step.Open s t)) lawful.1).1.1.0 in
                 let unopened : was_opened session thread past ≡ false = rw same_thread at (rw same at fresh) in
-                let none = unopened-none session thread past unopened in
+                let none = unopened_none session thread past unopened in
                 let shut = unopened-shut session thread past unopened in
                 let not_closed = never-closed _ _ _ _ none (stands events session thread past lawful.0) in
                 rw (eq-eqb s session same, inserted, eq-eqb t thread same_thread, not_closed, open-admitted events (config_of session past) (writes_of thread past))

@@ -6,7 +6,7 @@ pub mod Fold
 pub mod History
 pub mod Lawful
 pub mod Marks
+pub mod Names
 pub mod Only
 pub mod Ranges
 pub mod Schedules
-pub mod today

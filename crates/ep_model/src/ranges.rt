@@ -2,7 +2,7 @@
 ghost use Rattle.ep_model.specs.Ranges.{StepFits};
 
 use crate::step::Step;
-use ep_defs::ranges::write_fits;
+use ep_defs::ranges::{config_fits, write_fits};
 
 /// The numbers of a step fit their types.
 pub fn step_fits(step: &Step)
@@ -28,7 +28,11 @@ pub fn step_fits(step: &Step)
             let _session = *session;
             let _thread = *thread;
         }
-        Step::Accept { session, .. } | Step::Give { session } => {
+        Step::Accept { session, config } => {
+            let _session = *session;
+            config_fits(config);
+        }
+        Step::Give { session } => {
             let _session = *session;
         }
         Step::Point { session, stamp } | Step::Finish { session, stamp } => {

@@ -1,4 +1,7 @@
 //! The steps of a schedule.
+ghost use Rattle.std.specs.Prelude.{◌≡◌};
+ghost use Rattle.ep_model.specs.Names.{step_kind_name};
+
 use ep_defs::{Config, Write};
 
 /// One step of the traced program or of a tool. Sessions have numbers above 0. Threads 1 to 256 are
@@ -85,6 +88,34 @@ pub enum Kind {
     NotOpen,
     HandFull,
     StillOpen,
+}
+
+impl Kind {
+    /// How an error line says it.
+    pub fn name(self) -> &'static str
+        ensures { result.now ≡ step_kind_name self }
+    {
+        match self {
+            Kind::SessionNumber => "SessionNumber",
+            Kind::BadConfig => "BadConfig",
+            Kind::Full => "Full",
+            Kind::NoSession => "NoSession",
+            Kind::NoThread => "NoThread",
+            Kind::ThreadsFull => "ThreadsFull",
+            Kind::AlreadyOpen => "AlreadyOpen",
+            Kind::ThreadLimit => "ThreadLimit",
+            Kind::InWrite => "InWrite",
+            Kind::NotInWrite => "NotInWrite",
+            Kind::NoEvent => "NoEvent",
+            Kind::TooLarge => "TooLarge",
+            Kind::TooMany => "TooMany",
+            Kind::NotDue => "NotDue",
+            Kind::ShowsDue => "ShowsDue",
+            Kind::NotOpen => "NotOpen",
+            Kind::HandFull => "HandFull",
+            Kind::StillOpen => "StillOpen",
+        }
+    }
 }
 
 /// The first step of a schedule that can't be made.

@@ -1,12 +1,12 @@
 -- The words of a line that is written.
-use Rattle.std.proofs.Common.{◌≡◌, ℕ, ◌+◌, ◌<◌, ◌≤◌, true, false, codes, List, [], ◌∷◌, ◌++◌, length, map, take, get_or, refl, sym, ap, ◌∙◌, subst, append_assoc, Result, Ok, Err, OnOk}
-use Rattle.std.specs.List.{join_with_byte, AllByRecursion}
+use Rattle.std.proofs.Common.{◌≡◌, ℕ, ◌+◌, ◌<◌, ◌≤◌, true, false, codes, List, [], ◌∷◌, ◌++◌, length, map, take, get_or, refl, sym, ap, ◌∙◌, append_assoc, Result, Ok, Err, OnOk}
+use Rattle.std.specs.List.{join_with_byte}
 use Rattle.std.proofs.lemmas.List.{append-nil, take_more, take_all, map-append}
 use Rattle.ep_defs.specs.declared.session.Config.{Config}
 use Rattle.ep_defs.specs.declared.session.Rule.{Rule}
 use Rattle.ep_plan.specs.Words.{space, number_text, rule_text}
 use Rattle.ep_model.specs.declared.step.Step.TheVariants as step
-use Rattle.ep_plan.specs.Printing.{spaced, number_words, step_words, RuleFits}
+use Rattle.ep_plan.specs.Printing.{spaced, number_words, step_words}
 use Rattle.ep_plan.proofs.Texts.{join-push}
 
 -- ---- words behind others
@@ -70,21 +70,6 @@ rule-more start line next rules rule count within is h more =
     let item : map rule_text (take (count + 1) rules) ≡ map rule_text (take count rules) ++ rule_text rule ∷ [] =
     ap (map rule_text) (take_more rules count rule within ∙ ap (λ r. take count rules ++ r ∷ []) (sym is)) ∙ map-append rule_text (take count rules) (rule ∷ []) in
     word-more start line next (map rule_text (take count rules)) (rule_text rule) h more ∙ ap (λ words. start ++ spaced words) (sym item)
-
-fits-append : (rules : List Rule) (rule : Rule) → AllByRecursion RuleFits rules → RuleFits rule → AllByRecursion RuleFits (rules ++ rule ∷ [])
-fits-append [] rule all one = (one, tt)
-fits-append (first ∷ rules) rule all one = (all.0, fits-append rules rule all.1 one)
-
-pub fits-more : (rules : List Rule) (rule : Rule) (count : ℕ) → count < length rules → rule ≡ get_or rules count rule → AllByRecursion RuleFits (take count rules) → RuleFits rule → AllByRecursion RuleFits (take (count + 1) rules)
-fits-more rules rule count within is all one =
-    let item : take (count + 1) rules ≡ take count rules ++ rule ∷ [] = take_more rules count rule within ∙ ap (λ r. take count rules ++ r ∷ []) (sym is) in
-    let P : List Rule → Type 0 = λ rs. AllByRecursion RuleFits rs in
-    subst P (sym item) (fits-append (take count rules) rule all one)
-
-pub fits-all : (rules : List Rule) (count : ℕ) → length rules ≤ count → AllByRecursion RuleFits (take count rules) → AllByRecursion RuleFits rules
-fits-all rules count all h =
-    let P : List Rule → Type 0 = λ rs. AllByRecursion RuleFits rs in
-    subst P (take_all count rules all) h
 
 pub word-all : (start line : List ℕ) (rules : List Rule) (count : ℕ) → length rules ≤ count → line ≡ start ++ spaced (map rule_text (take count rules)) → line ≡ start ++ spaced (map rule_text rules)
 word-all start line rules count all h = h ∙ ap (λ rs. start ++ spaced (map rule_text rs)) (take_all count rules all)

@@ -1,17 +1,23 @@
 -- The line that is written for a step is read as that step.
 use Rattle.std.proofs.Common.{◌≡◌, ◌==◌, not, cond, inl, inr, option_map, ℕ, zero, suc, ◌+◌, ◌-◌, ◌^◌, ◌<◌, ◌≤◌, Bool, true, false, nat_le, List, [], ◌∷◌, length, map, codes, Some, None, IsTrue, refl, sym, ap, ◌∙◌, subst, arith}
-use Rattle.std.specs.List.{list_all, join_with_byte, AllByRecursion}
+use Rattle.std.specs.List.{list_all, join_with_byte}
 use Rattle.std.specs.Int.{is_in_range}
-use Rattle.std.proofs.lemmas.Bool.{and_parts, and_from, not-true}
+use Rattle.std.proofs.lemmas.Bool.{and_parts, and_from, not-true, cases_lt}
 use Rattle.std.proofs.lemmas.Bool.Decides.{nat_tests}
+use Rattle.std.specs.Prelude.{All, slice_index}
+use Rattle.std.proofs.lemmas.List.{get_or_past}
+use Rattle.std.proofs.lemmas.List.Elements.{All-head, All-tail}
 use Rattle.ep_defs.specs.declared.event.EventDef.{EventDef}
 use Rattle.ep_defs.specs.declared.session.Config.{Config}
 use Rattle.ep_defs.specs.declared.session.Rule.{Rule as RuleValue}
 use Rattle.ep_defs.specs.declared.session.Write.{Write}
 use Rattle.ep_defs.specs.Event.{is_same_text}
+use Rattle.ep_defs.specs.Ranges.{RuleFits, WriteFits, AreBytes}
+use Rattle.ep_model.specs.Ranges.{StepFits}
 use Rattle.ep_model.specs.declared.step.Step.{Step}
 use Rattle.ep_model.specs.declared.step.Step.TheVariants as step
 use Rattle.ep_defs.specs.declared.limits.TheConstants.{RULES}
+use Rattle.hex.specs.Hex.{IsBytes}
 use Rattle.ep_plan.specs.declared.limits.TheConstants.{LINE_BYTES}
 use Rattle.ep_plan.specs.declared.line.Line.TheVariants as line
 use Rattle.ep_plan.specs.declared.verb.Verb.{Verb}
@@ -19,7 +25,7 @@ use Rattle.ep_plan.specs.declared.verb.Verb.TheVariants as verb
 use Rattle.ep_plan.specs.declared.line.LineKind.TheVariants as kind
 use Rattle.ep_plan.specs.Words.{space, words_of, is_name, rule_in, all_in, with_first, number_text, id_text, frames_text, payload_text, rule_text}
 use Rattle.ep_plan.specs.Lines.{more_than_one, Part, Number, Flag, Stamp, Id, Frames, Payload, Rule, form_of, verb_in, unless, number_of, flag_of, stamp_of, write_of, first_bad, fault_of, spelling_fault, form_bad, step_bad, is_blank, Spells, Means, IsLine}
-use Rattle.ep_plan.specs.Printing.{step_words, step_text, can_print, has_rules, has_parts, RuleFits, WriteFits, StepFits}
+use Rattle.ep_plan.specs.Printing.{step_words, step_text, can_print, has_rules, has_parts}
 use Rattle.ep_plan.proofs.Lacks.{lacks, all_lack}
 use Rattle.ep_plan.proofs.NumberTexts.{number_in-number_text}
 use Rattle.ep_plan.proofs.ReadBack.{id_in-id_text, payload_in-payload_text, frames_in-frames_text, rule_in-rule_text}
@@ -99,63 +105,86 @@ lack-two a b is also = lack-more a (b ∷ []) is (lack-one b also)
 -- ---- rules
 
 rule-good : (rule : RuleValue) → is_name rule.name ≡ true → RuleFits rule → fault_of Rule (rule_text rule) ≡ None
-rule-good rule name fits = good-as Rule (rule_text rule) (IsWord-rule_text rule name fits.0 fits.1) (ap (λ o. unless o kind.Fields) (rule_in-rule_text rule name fits.0 fits.1))
+rule-good rule name fits = good-as Rule (rule_text rule) (IsWord-rule_text rule name fits.keywords fits.level) (ap (λ o. unless o kind.Fields) (rule_in-rule_text rule name fits.keywords fits.level))
 
-rules-good : (rules : List RuleValue) (more : ℕ) → length rules ≤ more → list_all (λ rule. is_name rule.name) rules ≡ true → AllByRecursion RuleFits rules → AreGood [] more (map rule_text rules)
+rules-good : (rules : List RuleValue) (more : ℕ) → length rules ≤ more → list_all (λ rule. is_name rule.name) rules ≡ true → All RuleFits rules → AreGood [] more (map rule_text rules)
 rules-good [] more few names fits = tt
 rules-good (rule ∷ rules) zero few names fits = absurd (omega arith)
 rules-good (rule ∷ rules) (suc more) few names fits =
     let parts = and_parts (is_name rule.name) (list_all (λ rule. is_name rule.name) rules) names in
-    (rule-good rule parts.0 fits.0, rules-good rules more (omega arith) parts.1 fits.1)
+    (rule-good rule parts.0 (All-head RuleFits rule rules fits), rules-good rules more (omega arith) parts.1 (All-tail RuleFits rule rules fits))
 
-rules-lack : (rules : List RuleValue) → list_all (λ rule. is_name rule.name) rules ≡ true → AllByRecursion RuleFits rules → all_lack space (map rule_text rules) ≡ true
+rules-lack : (rules : List RuleValue) → list_all (λ rule. is_name rule.name) rules ≡ true → All RuleFits rules → all_lack space (map rule_text rules) ≡ true
 rules-lack [] names fits = refl
 rules-lack (rule ∷ rules) names fits =
     let parts = and_parts (is_name rule.name) (list_all (λ rule. is_name rule.name) rules) names in
-    lack-more (rule_text rule) (map rule_text rules) (IsWord-rule_text rule parts.0 fits.0.0 fits.0.1) (rules-lack rules parts.1 fits.1)
+    lack-more (rule_text rule) (map rule_text rules) (IsWord-rule_text rule parts.0 (All-head RuleFits rule rules fits).keywords (All-head RuleFits rule rules fits).level) (rules-lack rules parts.1 (All-tail RuleFits rule rules fits))
 
-rules-read : (rules : List RuleValue) → list_all (λ rule. is_name rule.name) rules ≡ true → AllByRecursion RuleFits rules → all_in rule_in (map rule_text rules) ≡ Some rules
+rules-read : (rules : List RuleValue) → list_all (λ rule. is_name rule.name) rules ≡ true → All RuleFits rules → all_in rule_in (map rule_text rules) ≡ Some rules
 rules-read [] names fits = refl
 rules-read (rule ∷ rules) names fits =
     let parts = and_parts (is_name rule.name) (list_all (λ rule. is_name rule.name) rules) names in
-    let rest = rules-read rules parts.1 fits.1 in
-    ap (λ first. with_first first (all_in rule_in (map rule_text rules))) (rule_in-rule_text rule parts.0 fits.0.0 fits.0.1) ∙ ap (with_first (Some rule)) rest
+    let rest = rules-read rules parts.1 (All-tail RuleFits rule rules fits) in
+    ap (λ first. with_first first (all_in rule_in (map rule_text rules))) (rule_in-rule_text rule parts.0 (All-head RuleFits rule rules fits).keywords (All-head RuleFits rule rules fits).level) ∙ ap (with_first (Some rule)) rest
 
 -- 1 to 1,000 rules.
-accept-good : (rules : List RuleValue) → is_in_range 1 RULES (length rules) ≡ true → list_all (λ rule. is_name rule.name) rules ≡ true → AllByRecursion RuleFits rules → AreGood (Rule ∷ []) more_than_one (map rule_text rules)
+accept-good : (rules : List RuleValue) → is_in_range 1 RULES (length rules) ≡ true → list_all (λ rule. is_name rule.name) rules ≡ true → All RuleFits rules → AreGood (Rule ∷ []) more_than_one (map rule_text rules)
 accept-good [] count names fits = cc
 accept-good (rule ∷ rules) count names fits =
     let parts = and_parts (is_name rule.name) (list_all (λ rule. is_name rule.name) rules) names in
     let few : length (rule ∷ rules) ≤ RULES = grind (arith, nat_tests) in
-    (rule-good rule parts.0 fits.0, rules-good rules more_than_one (omega arith) parts.1 fits.1)
+    (rule-good rule parts.0 (All-head RuleFits rule rules fits), rules-good rules more_than_one (omega arith) parts.1 (All-tail RuleFits rule rules fits))
 
 -- ---- writes
 
+-- What is below a number at each place is so at those past the end too, where 0 stands.
+each-below : (n : ℕ) (xs : List ℕ) → 0 < n → All (λ x. x < n) xs → (i : ℕ) → slice_index xs i < n
+each-below n xs some all i = elim (cases_lt i (length xs)) [
+  | inl within ↦ all i 0 within
+  | inr past ↦ subst (λ (m : ℕ). m < n) (sym (get_or_past xs i 0 past)) some
+]
+
+bytes-below : (bytes : List ℕ) → AreBytes bytes → IsBytes bytes
+bytes-below bytes fit = each-below (2 ^ 8) bytes (omega arith) fit
+
 write-lack : (write : Write) → WriteFits write → all_lack space (number_text write.event ∷ id_text write.activity ∷ id_text write.related ∷ frames_text write.frames ∷ payload_text write.payload ∷ []) ≡ true
 write-lack write fits =
+    let a = bytes-below write.activity fits.activity.bytes in
+    let r = bytes-below write.related fits.related.bytes in
+    let f = each-below (2 ^ 64) write.frames (omega arith) fits.frames in
+    let p = bytes-below write.payload fits.payload in
     lack-more (number_text write.event) (id_text write.activity ∷ id_text write.related ∷ frames_text write.frames ∷ payload_text write.payload ∷ []) (is-word write.event fits.event)
-    (lack-more (id_text write.activity) (id_text write.related ∷ frames_text write.frames ∷ payload_text write.payload ∷ []) (IsWord-id_text write.activity fits.activity_length fits.activity)
-    (lack-more (id_text write.related) (frames_text write.frames ∷ payload_text write.payload ∷ []) (IsWord-id_text write.related fits.related_length fits.related)
-    (lack-two (frames_text write.frames) (payload_text write.payload) (IsWord-frames_text write.frames fits.frames) (IsWord-payload_text write.payload fits.payload))))
+    (lack-more (id_text write.activity) (id_text write.related ∷ frames_text write.frames ∷ payload_text write.payload ∷ []) (IsWord-id_text write.activity fits.activity.long a)
+    (lack-more (id_text write.related) (frames_text write.frames ∷ payload_text write.payload ∷ []) (IsWord-id_text write.related fits.related.long r)
+    (lack-two (frames_text write.frames) (payload_text write.payload) (IsWord-frames_text write.frames f) (IsWord-payload_text write.payload p))))
 
 write-good : (write : Write) → WriteFits write → AreGood (Number ∷ Id ∷ Id ∷ Frames ∷ Payload ∷ []) 0 (number_text write.event ∷ id_text write.activity ∷ id_text write.related ∷ frames_text write.frames ∷ payload_text write.payload ∷ [])
-write-good write fits = (
-  good-number write.event fits.event,
-  (
-    good-as Id (id_text write.activity) (IsWord-id_text write.activity fits.activity_length fits.activity) (ap (λ o. unless o kind.Hex) (id_in-id_text write.activity fits.activity_length fits.activity)),
-    (
-      good-as Id (id_text write.related) (IsWord-id_text write.related fits.related_length fits.related) (ap (λ o. unless o kind.Hex) (id_in-id_text write.related fits.related_length fits.related)),
+write-good write fits =
+    let a = bytes-below write.activity fits.activity.bytes in
+    let r = bytes-below write.related fits.related.bytes in
+    let f = each-below (2 ^ 64) write.frames (omega arith) fits.frames in
+    let p = bytes-below write.payload fits.payload in (
+      good-number write.event fits.event,
       (
-        good-as Frames (frames_text write.frames) (IsWord-frames_text write.frames fits.frames) (ap (λ o. unless o kind.Hex) (frames_in-frames_text write.frames fits.frames)),
-        (good-as Payload (payload_text write.payload) (IsWord-payload_text write.payload fits.payload) (ap (λ o. unless o kind.Hex) (payload_in-payload_text write.payload fits.payload)), tt),
+        good-as Id (id_text write.activity) (IsWord-id_text write.activity fits.activity.long a) (ap (λ o. unless o kind.Hex) (id_in-id_text write.activity fits.activity.long a)),
+        (
+          good-as Id (id_text write.related) (IsWord-id_text write.related fits.related.long r) (ap (λ o. unless o kind.Hex) (id_in-id_text write.related fits.related.long r)),
+          (
+            good-as Frames (frames_text write.frames) (IsWord-frames_text write.frames f) (ap (λ o. unless o kind.Hex) (frames_in-frames_text write.frames f)),
+            (good-as Payload (payload_text write.payload) (IsWord-payload_text write.payload p) (ap (λ o. unless o kind.Hex) (payload_in-payload_text write.payload p)), tt),
+          ),
+        ),
       ),
-    ),
-  ),
-)
+    )
 
 write-read : (write : Write) → WriteFits write → write_of (number_text write.event ∷ id_text write.activity ∷ id_text write.related ∷ frames_text write.frames ∷ payload_text write.payload ∷ []) ≡ Some write
-write-read write fits = write-is _ (number_text write.event) (id_text write.activity) (id_text write.related) (frames_text write.frames) (payload_text write.payload) write refl
-    (reads write.event fits.event) (id_in-id_text write.activity fits.activity_length fits.activity) (id_in-id_text write.related fits.related_length fits.related) (frames_in-frames_text write.frames fits.frames) (payload_in-payload_text write.payload fits.payload)
+write-read write fits =
+    let a = bytes-below write.activity fits.activity.bytes in
+    let r = bytes-below write.related fits.related.bytes in
+    let f = each-below (2 ^ 64) write.frames (omega arith) fits.frames in
+    let p = bytes-below write.payload fits.payload in
+    write-is _ (number_text write.event) (id_text write.activity) (id_text write.related) (frames_text write.frames) (payload_text write.payload) write refl
+    (reads write.event fits.event) (id_in-id_text write.activity fits.activity.long a) (id_in-id_text write.related fits.related.long r) (frames_in-frames_text write.frames f) (payload_in-payload_text write.payload p)
 
 -- ---- steps
 
@@ -170,20 +199,20 @@ accept-again events stepped session config fits can has none true walks =
     let words = number_text session ∷ number_text config.chunks ∷ map rule_text config.rules in
     let text = ap (λ b. join_with_byte space (cond b (codes "accept" ∷ words) (codes "accept3" ∷ words_of_three session config))) walks in
     line-of events stepped (step.Accept session config) (codes "accept") words verb.Accept can (rw walks refl)
-    (lack-more (number_text session) (number_text config.chunks ∷ map rule_text config.rules) (is-word session fits.0) (lack-more (number_text config.chunks) (map rule_text config.rules) (is-word config.chunks fits.1) (rules-lack config.rules rules.1 fits.2)))
+    (lack-more (number_text session) (number_text config.chunks ∷ map rule_text config.rules) (is-word session fits.0) (lack-more (number_text config.chunks) (map rule_text config.rules) (is-word config.chunks fits.1.chunks) (rules-lack config.rules rules.1 fits.1.rules)))
     (ap is_blank text) refl refl
-    (good-number session fits.0, (good-number config.chunks fits.1, accept-good config.rules rules.0 rules.1 fits.2))
-    (number_text session, number_text config.chunks, map rule_text config.rules, inl (refl, walks), reads session fits.0, reads config.chunks fits.1, rules-read config.rules rules.1 fits.2, none)
+    (good-number session fits.0, (good-number config.chunks fits.1.chunks, accept-good config.rules rules.0 rules.1 fits.1.rules))
+    (number_text session, number_text config.chunks, map rule_text config.rules, inl (refl, walks), reads session fits.0, reads config.chunks fits.1.chunks, rules-read config.rules rules.1 fits.1.rules, none)
 accept-again events stepped session config fits can has none false walks =
     let rules = and_parts (is_in_range 1 RULES (length config.rules)) (list_all (λ rule. is_name rule.name) config.rules) has in
     let words = number_text session ∷ number_text config.chunks ∷ map rule_text config.rules in
     let text = ap (λ b. join_with_byte space (cond b (codes "accept" ∷ words) (codes "accept3" ∷ words_of_three session config))) walks in
     let flag : flag_of (number_text 0) ≡ Some false = ap (option_map (λ n. n == 1)) (number_in-number_text 1 0 (omega arith) (omega arith)) in
     line-of events stepped (step.Accept session config) (codes "accept3") (words_of_three session config) verb.Accept3 can (rw walks refl)
-    (lack-more (number_text session) (number_text config.chunks ∷ number_text 0 ∷ map rule_text config.rules) (is-word session fits.0) (lack-more (number_text config.chunks) (number_text 0 ∷ map rule_text config.rules) (is-word config.chunks fits.1) (lack-more (number_text 0) (map rule_text config.rules) (is-word 0 (omega arith)) (rules-lack config.rules rules.1 fits.2))))
+    (lack-more (number_text session) (number_text config.chunks ∷ number_text 0 ∷ map rule_text config.rules) (is-word session fits.0) (lack-more (number_text config.chunks) (number_text 0 ∷ map rule_text config.rules) (is-word config.chunks fits.1.chunks) (lack-more (number_text 0) (map rule_text config.rules) (is-word 0 (omega arith)) (rules-lack config.rules rules.1 fits.1.rules))))
     (ap is_blank text) refl refl
-    (good-number session fits.0, (good-number config.chunks fits.1, (good-as Flag (number_text 0) (is-word 0 (omega arith)) (ap (λ o. unless o kind.Number) flag), accept-good config.rules rules.0 rules.1 fits.2)))
-    (number_text session, number_text config.chunks, map rule_text config.rules, inr (number_text 0, refl, flag ∙ ap Some (sym walks)), reads session fits.0, reads config.chunks fits.1, rules-read config.rules rules.1 fits.2, none)
+    (good-number session fits.0, (good-number config.chunks fits.1.chunks, (good-as Flag (number_text 0) (is-word 0 (omega arith)) (ap (λ o. unless o kind.Number) flag), accept-good config.rules rules.0 rules.1 fits.1.rules)))
+    (number_text session, number_text config.chunks, map rule_text config.rules, inr (number_text 0, refl, flag ∙ ap Some (sym walks)), reads session fits.0, reads config.chunks fits.1.chunks, rules-read config.rules rules.1 fits.1.rules, none)
 
 pub read-again : (events : List EventDef) (stepped : Bool) (made : Step) → StepFits made → IsTrue (can_print made) → IsLine events stepped (step_text made) (line.Step made)
 unfolding Spells can_print

@@ -1,11 +1,9 @@
 -- The line that is written for a step.
-use Rattle.std.specs.Prelude.{◌≡◌, ℕ, ◌^◌, ◌<◌, Bool, true, not, ◌&&◌, List, [], ◌∷◌, length, map, codes, nat_le, slice_index, if◌then◌else◌}
-use Rattle.std.specs.List.{list_all, join_with_byte, flat_map, AllByRecursion}
+use Rattle.std.specs.Prelude.{ℕ, Bool, true, not, ◌&&◌, List, [], ◌∷◌, length, map, codes, nat_le, if◌then◌else◌}
+use Rattle.std.specs.List.{list_all, join_with_byte, flat_map}
 use Rattle.std.specs.Int.{is_in_range}
-use Rattle.hex.specs.Hex.{IsBytes}
 use Rattle.ep_defs.specs.declared.limits.TheConstants.{RULES}
 use Rattle.ep_defs.specs.declared.session.Rule.{Rule}
-use Rattle.ep_defs.specs.declared.session.Write.{Write}
 use Rattle.ep_model.specs.declared.step.Step.{Step}
 use Rattle.ep_model.specs.declared.step.Step.TheVariants as step
 use Rattle.ep_plan.specs.declared.limits.TheConstants.{LINE_BYTES}
@@ -54,31 +52,3 @@ has_parts _ = true
 -- A line can hold the step.
 unfoldable pub can_print : Step → Bool
 can_print made = has_parts made && nat_le (length (step_text made)) LINE_BYTES
-
--- ---- numbers that fit their types, as those of each value do
-
-abbrev pub RuleFits : Rule → Type 0
-RuleFits rule = (rule.keywords < 2 ^ 64) × (rule.level < 2 ^ 32)
-
-pub record WriteFits (write : Write) : Type 0 where
-  pub event : write.event < 2 ^ 32
-  pub activity_length : length write.activity ≡ 16
-  pub activity : IsBytes write.activity
-  pub related_length : length write.related ≡ 16
-  pub related : IsBytes write.related
-  pub frames : (i : ℕ) → slice_index write.frames i < 2 ^ 64
-  pub payload : IsBytes write.payload
-
-abbrev pub StepFits : Step → Type 0
-StepFits (step.Accept session config) = (session < 2 ^ 32) × (config.chunks < 2 ^ 32) × AllByRecursion RuleFits config.rules
-StepFits (step.Enter thread) = thread < 2 ^ 32
-StepFits (step.Leave thread) = thread < 2 ^ 32
-StepFits (step.Open session thread) = (session < 2 ^ 32) × (thread < 2 ^ 32)
-StepFits (step.Begin thread stamp write) = (thread < 2 ^ 32) × (stamp < 2 ^ 64) × WriteFits write
-StepFits (step.Show thread session) = (thread < 2 ^ 32) × (session < 2 ^ 32)
-StepFits (step.End thread) = thread < 2 ^ 32
-StepFits (step.Steal session thread) = (session < 2 ^ 32) × (thread < 2 ^ 32)
-StepFits (step.Give session) = session < 2 ^ 32
-StepFits (step.Point session stamp) = (session < 2 ^ 32) × (stamp < 2 ^ 64)
-StepFits (step.Close session thread) = (session < 2 ^ 32) × (thread < 2 ^ 32)
-StepFits (step.Finish session stamp) = (session < 2 ^ 32) × (stamp < 2 ^ 64)

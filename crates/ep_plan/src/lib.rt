@@ -21,7 +21,7 @@ mod words;
 
 pub use line::{Line, LineFault, LineKind, a_line_means_one_thing, read_line};
 pub use print::print_step;
-pub use words::{number, rule};
+pub use words::{hexadecimal, number, provider, rule};
 
 #[cfg(test)]
 mod tests;

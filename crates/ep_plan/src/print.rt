@@ -1,18 +1,18 @@
 //! Writing the line of a step.
-ghost use Rattle.std.specs.Prelude.{◌≡◌, ◌<◌, ◌^◌, ◌++◌, ℕ, [], ◌∷◌, List, length, map, slice_index, IsTrue, IfOk, OnOk};
-ghost use Rattle.std.specs.List.{list_all, join_with_byte, AllByRecursion};
-ghost use Rattle.hex.specs.Hex.{IsBytes};
+ghost use Rattle.std.specs.Prelude.{◌≡◌, ◌++◌, ℕ, [], ◌∷◌, List, map, IsTrue, IfOk, OnOk};
+ghost use Rattle.std.specs.List.{list_all, join_with_byte};
 ghost use Rattle.ep_defs.specs.declared.event.EventDef.{EventDef};
 ghost use Rattle.ep_model.specs.declared.step.Step.TheVariants.{Accept};
 ghost use Rattle.ep_plan.specs.declared.line.Line.TheVariants.{Step as StepLine};
 ghost use Rattle.ep_plan.specs.Lines.{form_of, IsLine};
 ghost use Rattle.ep_plan.specs.Words.{space, is_name, id_text, frames_text, payload_text, rule_text};
-ghost use Rattle.ep_plan.specs.Printing.{spaced, number_words, step_text, has_parts, can_print, RuleFits, WriteFits, StepFits};
+ghost use Rattle.ep_plan.specs.Printing.{spaced, number_words, step_text, has_parts, can_print};
 
 use crate::verb::Verb;
 use crate::words::{put_frames, put_id, put_number, put_payload, put_rule};
 use ep_defs::{Config, Rule, Write};
 use ep_model::Step;
+use ep_model::ranges::step_fits;
 use std::alloc::{AllocError, Global};
 
 /// The line of a step, without its line feed. It takes a step that a line can hold: names that the text can hold, in
@@ -23,6 +23,7 @@ pub fn print_step(alloc: Global, step: &Step) -> Result<Vec<u8>, AllocError>
     // what is printed is read back as that step
     ensures read { IfOk result (λ text. (events : List EventDef) (stepped : _) → IsLine events stepped text.items (StepLine step.now)) }
 {
+    step_fits(step);
     let mut line = Vec::new(alloc);
     put_step(&mut line, step)?;
     Ok(line)
@@ -31,8 +32,7 @@ pub fn print_step(alloc: Global, step: &Step) -> Result<Vec<u8>, AllocError>
 // Appends the line of a step.
 fn put_step(line: &mut Vec<u8>, step: &Step) -> Result<(), AllocError>
     requires { IsTrue (has_parts step.now) }
-    ensures text { OnOk result (line.new.items ≡ line.old.items ++ step_text step.now) }
-    ensures fits { OnOk result (StepFits step.now) }
+    ensures { OnOk result (line.new.items ≡ line.old.items ++ step_text step.now) }
 {
     match step {
         Step::Accept { session, config } => put_accept(line, *session, config),
@@ -65,8 +65,7 @@ fn put_step(line: &mut Vec<u8>, step: &Step) -> Result<(), AllocError>
 // Appends the line of an Accept: `accept` where the session has stacks, else `accept3` with the flag 0.
 fn put_accept(line: &mut Vec<u8>, session: u32, config: &Config) -> Result<(), AllocError>
     requires { IsTrue (has_parts (Accept session config.now)) }
-    ensures text { OnOk result (line.new.items ≡ line.old.items ++ step_text (Accept session config.now)) }
-    ensures fits { OnOk result (StepFits (Accept session config.now)) }
+    ensures { OnOk result (line.new.items ≡ line.old.items ++ step_text (Accept session config.now)) }
 {
     let session = u64::from(session);
     let chunks = u64::from(config.chunks);
@@ -102,8 +101,7 @@ fn put_numbers(line: &mut Vec<u8>, verb: Verb, numbers: &[u64]) -> Result<(), Al
 // Appends each rule as a word more.
 fn put_rules(line: &mut Vec<u8>, rules: &[Rule]) -> Result<(), AllocError>
     requires { IsTrue (list_all (λ rule. is_name rule.name) rules.now) }
-    ensures text { OnOk result (line.new.items ≡ line.old.items ++ spaced (map rule_text rules.now)) }
-    ensures fits { OnOk result (AllByRecursion RuleFits rules.now) }
+    ensures { OnOk result (line.new.items ≡ line.old.items ++ spaced (map rule_text rules.now)) }
 {
     for rule in rules {
         put_rule_word(line, rule)?;
@@ -114,21 +112,16 @@ fn put_rules(line: &mut Vec<u8>, rules: &[Rule]) -> Result<(), AllocError>
 // Appends a rule as a word more.
 fn put_rule_word(line: &mut Vec<u8>, rule: &Rule) -> Result<(), AllocError>
     requires { IsTrue (is_name rule.now.name) }
-    ensures text { OnOk result (line.new.items ≡ line.old.items ++ space ∷ rule_text rule.now) }
-    ensures fits { RuleFits rule.now }
+    ensures { OnOk result (line.new.items ≡ line.old.items ++ space ∷ rule_text rule.now) }
 {
-    let _keywords = rule.keywords;
-    let _level = rule.level;
     line.extend_from_slice(b" ")?;
     put_rule(line, rule)
 }
 
 // Appends what a write has beside its event.
 fn put_write(line: &mut Vec<u8>, write: &Write) -> Result<(), AllocError>
-    ensures text { OnOk result (line.new.items ≡ line.old.items ++ spaced (id_text write.now.activity ∷ id_text write.now.related ∷ frames_text write.now.frames ∷ payload_text write.now.payload ∷ [])) }
-    ensures fits { OnOk result (WriteFits write.now) }
+    ensures { OnOk result (line.new.items ≡ line.old.items ++ spaced (id_text write.now.activity ∷ id_text write.now.related ∷ frames_text write.now.frames ∷ payload_text write.now.payload ∷ [])) }
 {
-    let _event = write.event;
     put_id_word(line, &write.activity)?;
     put_id_word(line, &write.related)?;
     put_frames_word(line, write.frames.as_slice())?;
@@ -138,9 +131,7 @@ fn put_write(line: &mut Vec<u8>, write: &Write) -> Result<(), AllocError>
 
 // Appends an id as a word more.
 fn put_id_word(line: &mut Vec<u8>, id: &[u8; 16]) -> Result<(), AllocError>
-    ensures text { OnOk result (line.new.items ≡ line.old.items ++ space ∷ id_text id.now) }
-    ensures length { length id.now ≡ 16 }
-    ensures bytes { IsBytes id.now }
+    ensures { OnOk result (line.new.items ≡ line.old.items ++ space ∷ id_text id.now) }
 {
     line.extend_from_slice(b" ")?;
     put_id(line, id)
@@ -148,8 +139,7 @@ fn put_id_word(line: &mut Vec<u8>, id: &[u8; 16]) -> Result<(), AllocError>
 
 // Appends return addresses as a word more.
 fn put_frames_word(line: &mut Vec<u8>, frames: &[u64]) -> Result<(), AllocError>
-    ensures text { OnOk result (line.new.items ≡ line.old.items ++ space ∷ frames_text frames.now) }
-    ensures fits { (i : ℕ) → slice_index frames.now i < 2 ^ 64 }
+    ensures { OnOk result (line.new.items ≡ line.old.items ++ space ∷ frames_text frames.now) }
 {
     line.extend_from_slice(b" ")?;
     put_frames(line, frames)
@@ -157,8 +147,7 @@ fn put_frames_word(line: &mut Vec<u8>, frames: &[u64]) -> Result<(), AllocError>
 
 // Appends a payload as a word more.
 fn put_payload_word(line: &mut Vec<u8>, payload: &[u8]) -> Result<(), AllocError>
-    ensures text { OnOk result (line.new.items ≡ line.old.items ++ space ∷ payload_text payload.now) }
-    ensures bytes { IsBytes payload.now }
+    ensures { OnOk result (line.new.items ≡ line.old.items ++ space ∷ payload_text payload.now) }
 {
     line.extend_from_slice(b" ")?;
     put_payload(line, payload)

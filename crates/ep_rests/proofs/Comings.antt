@@ -2,7 +2,7 @@
 use Rattle.std.proofs.Common.{◌≡◌, ℕ, true, false, inl, inr, List, [], ◌∷◌, ◌++◌, length, Some, None, refl, ap, sym, ◌∙◌, subst, if◌then◌else◌}
 use Rattle.std.specs.Prelude.{is_some, ◌==◌}
 use Rattle.std.specs.List.{list_any, AllByRecursion}
-use Rattle.std.proofs.lemmas.Bool.{eqb-true, eq-eqb, cases_eq, false≢true}
+use Rattle.std.proofs.lemmas.Bool.{eqb-true, eq-eqb, cases_eq, false≢true, false_from_ne_true}
 use Rattle.ep_defs.specs.declared.event.EventDef.{EventDef}
 use Rattle.ep_defs.specs.declared.session.Config.{Config}
 use Rattle.ep_defs.specs.declared.session.TraceInfo.{TraceInfo}
@@ -10,6 +10,7 @@ use Rattle.ep_defs.specs.declared.session.Write.{Write}
 use Rattle.ep_model.specs.declared.step.Step.TheVariants as step
 use Rattle.ep_model.specs.History.{Past, config_of, writes_of}
 use Rattle.ep_model.specs.Lawful.{IsLawful}
+use Rattle.ep_model.proofs.Lists.{has, eqb_turn}
 use Rattle.ep_row.specs.Row.{RowState, slot_of}
 use Rattle.ep_row.specs.AtRest.{RowAtRest, SlotAtRest, with_config}
 use Rattle.ep_stream.specs.Rows.{IsRow}
@@ -19,10 +20,8 @@ use Rattle.ep_judge.specs.declared.tables.Present.{Present}
 use Rattle.ep_judge.specs.declared.tables.Tables.{Tables}
 use Rattle.ep_judge.specs.Tables.{TablesFollow, has_slot, number_of}
 use Rattle.ep_judge.proofs.Found.{list_any-map}
-use Rattle.ep_judge.proofs.Lists.{has, eqb_turn}
-use Rattle.ep_judge.proofs.Slots.{is_false}
+use Rattle.ep_judge.proofs.Slots.{none_at}
 use Rattle.ep_made.specs.Made.{MakesAccept, MakesEnter, MakesBegin, MakesFinish, IsStart}
-use Rattle.ep_made.proofs.Entering.{none_at}
 use Rattle.ep_made.proofs.Follow.{each_row, own_row}
 use Rattle.ep_made.proofs.Slots.{free_slot}
 use Rattle.ep_rests.specs.Rests.{AreAtRest}
@@ -126,7 +125,7 @@ accept_anew events past session config info old new lawful h m =
     record {
       absent = sym (list_any-map (λ n. n == session) number_of old.present.items) ∙ sym (ap (has session) h.present_are) ∙ accepts_absent events session config past lawful;
       free = free;
-      off = λ r is_row. is_false (is_some (slot_of ((told_of old.rows).row r) m.now.slot)) (λ on. false≢true (sym free ∙ h.on_known r m.now.slot is_row on));
+      off = λ r is_row. false_from_ne_true (is_some (slot_of ((told_of old.rows).row r) m.now.slot)) (λ on. false≢true (sym free ∙ h.on_known r m.now.slot is_row on));
     }
 
 pub accept_rests : (events : List EventDef) (past : Past) (session : ℕ) (config : Config) (info : TraceInfo) (old new : Tables) → IsLawful events (step.Accept session config ∷ past) → TablesFollow events past old

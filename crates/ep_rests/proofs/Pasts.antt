@@ -9,11 +9,12 @@ use Rattle.ep_defs.specs.declared.session.Write.{Write}
 use Rattle.ep_model.specs.declared.step.Step.TheVariants as step
 use Rattle.ep_model.specs.History.{Past, Begun, accepted, present, is_present, writes_of, last_begun}
 use Rattle.ep_model.specs.Lawful.{objections, IsLawful, begins}
-use Rattle.ep_judge.proofs.Lists.{has, has-filter}
-use Rattle.ep_judge.proofs.Pasts.{none_there}
+use Rattle.ep_model.proofs.Lists.{has}
+use Rattle.ep_model.proofs.Objections.{none_there}
+use Rattle.ep_model.proofs.Sessions.{writes_begun, accept_new}
+use Rattle.ep_judge.proofs.Lists.{has-filter}
 use Rattle.ep_kept.specs.Kept.{IsLast}
-use Rattle.ep_kept.proofs.Pasts.{writes_begun}
-use Rattle.ep_made.proofs.Pasts.{never_came, enters_anew, accepts_anew}
+use Rattle.ep_made.proofs.Pasts.{never_came, enters_anew}
 use Rattle.ep_rests.proofs.Lists.{get_last-push}
 
 -- ---- the last write of a thread
@@ -57,4 +58,4 @@ enters_unwritten events thread past lawful = (never_came events thread past lawf
 pub accepts_absent : (events : List EventDef) (session : ℕ) (config : Config) (past : Past) → IsLawful events (step.Accept session config ∷ past) → has session (present past) ≡ false
 accepts_absent events session config past lawful =
     has-filter (λ s. is_present s past) session (accepted past)
-    ∙ and_right (is_present session past) (has session (accepted past)) (accepts_anew events session config past lawful)
+    ∙ and_right (is_present session past) (has session (accepted past)) (accept_new events past session config lawful.1)

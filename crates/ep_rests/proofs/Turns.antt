@@ -2,6 +2,7 @@
 use Rattle.std.proofs.Common.{◌≡◌, ℕ, zero, suc, List, [], ◌∷◌, Some, None, refl, ap, sym, ◌∙◌, subst}
 use Rattle.std.proofs.lemmas.List.{append-nil}
 use Rattle.std.proofs.lemmas.List.Elements.{All-nil}
+use Rattle.std.proofs.lemmas.Option.{same_Some}
 use Rattle.ep_defs.specs.declared.event.EventDef.{EventDef}
 use Rattle.ep_defs.specs.declared.session.Config.{Config}
 use Rattle.ep_defs.specs.declared.session.Write.{Write}
@@ -22,7 +23,7 @@ use Rattle.ep_judge.specs.Tables.{TablesFollow}
 use Rattle.ep_judge.proofs.Found.{All-at}
 use Rattle.ep_kept.specs.Kept.{IsLast}
 use Rattle.ep_made.specs.Made.{MakesLeave, MakesEnd, MakesOpen, MakesShow, MakesSteal, MakesGive, MakesPoint, MakesClose, Gives, Points, OpensOn, StealsOn, ClosesOn}
-use Rattle.ep_made.proofs.Follow.{each_row, own_row, some_is}
+use Rattle.ep_made.proofs.Follow.{each_row, own_row}
 use Rattle.ep_rests.specs.Rests.{AreAtRest}
 use Rattle.ep_rests.proofs.Pasts.{last_written}
 use Rattle.ep_rests.proofs.Rows.{masks_are, set_slot}
@@ -76,7 +77,7 @@ show_rests events past thread session write old new h m last rest =
     (each_row row (ShowsRow place now) before after (λ r R S. IsRow 256 r → RestsOn events rest.configs R S) m.rows.rows
     (λ shows at. record { thread = ap (λ (R : RowState). R.thread) shows.others; rest = λ writes is. shows.rest events rest.configs writes (masks_are events past old row h at) is })
     (λ r other at. rests_same events rest.configs (before.row r)))
-    (λ r s at slot. set_slot row place (Some now) before.slot after.slot At m.rows.slots r s slot (λ there. subst (At row place) (some_is now slot there) shown) (rest.slots r s at slot))
+    (λ r s at slot. set_slot row place (Some now) before.slot after.slot At m.rows.slots r s slot (λ there. subst (At row place) (same_Some now slot there) shown) (rest.slots r s at slot))
 
 -- ---- a session on a thread
 
@@ -106,7 +107,7 @@ open_rests events past session thread old new h m rest =
     })
     (λ r other at. rests_same events rest.configs (before.row r)))
     (λ r s at slot. set_slot row place (Some now) before.slot after.slot At told.slots r s slot
-    (λ there. subst (At row place) (some_is now slot there) (All-nil (IsNumbered events (rest.configs place) (writes_of (before.row row).thread past) (before.row row).index)))
+    (λ there. subst (At row place) (same_Some now slot there) (All-nil (IsNumbered events (rest.configs place) (writes_of (before.row row).thread past) (before.row row).index)))
     (rest.slots r s at slot))
 
 pub steal_rests : (events : List EventDef) (past : Past) (session thread : ℕ) (old new : Tables) → MakesSteal session thread old new → AreAtRest events past old → AreAtRest events (step.Steal session thread ∷ past) new
@@ -123,7 +124,7 @@ steal_rests events past session thread old new m rest =
     (configured_one events past (step.Steal session thread) session (StealsOn old.events.items row) old new rest (λ n. refl) one)
     (λ r at. rests_as events rest.configs (before.row r) (after.row r) (told.rows r))
     (λ r s at slot. set_slot row place (Some now) before.slot after.slot At told.slots r s slot
-    (λ there. subst (At row place) (some_is now slot there) (All-nil (IsNumbered events (rest.configs place) (writes_of (before.row row).thread past) told.buffer.from)))
+    (λ there. subst (At row place) (same_Some now slot there) (All-nil (IsNumbered events (rest.configs place) (writes_of (before.row row).thread past) told.buffer.from)))
     (rest.slots r s at slot))
 
 pub close_rests : (events : List EventDef) (past : Past) (session thread : ℕ) (old new : Tables) → TablesFollow events past old → MakesClose session thread old new → AreAtRest events past old → AreAtRest events (step.Close session thread ∷ past) new
@@ -155,7 +156,7 @@ told_same old new same =
     subst P (sym same) (record { rows = λ r. refl; slots = λ r s. refl })
 
 gives_same : (place chunks : ℕ) (old new : ToldRows) → TellsGive place chunks (Some old) (Some new) → SameRows old new
-gives_same place zero old new gives = told_same old new (some_is new old gives)
+gives_same place zero old new gives = told_same old new (same_Some new old gives)
 gives_same place (suc chunks) old new gives = record { rows = gives.rows; slots = gives.slots }
 
 pub given_same : (session : ℕ) (old new : Tables) → MakesGive session old new → SameRows (told_of old.rows) (told_of new.rows)

@@ -1,10 +1,11 @@
 -- Which write a record was made of.
-use Rattle.std.proofs.Common.{◌≡◌, ℕ, suc, ◌+◌, ◌-◌, ◌≤◌, Bool, true, false, List, [], ◌∷◌, ◌++◌, length, drop, None, Some, refl, ap, sym, ◌∙◌, subst, arith, inl, inr, append_assoc, length-append}
+use Rattle.std.proofs.Common.{◌≡◌, ℕ, suc, ◌+◌, ◌-◌, ◌≤◌, Bool, true, false, List, [], ◌∷◌, ◌++◌, length, drop, Some, refl, ap, sym, ◌∙◌, subst, arith, inl, inr, append_assoc, length-append}
 use Rattle.std.specs.Prelude.{slice_get, filter, if◌then◌else◌}
 use Rattle.std.specs.List.{All}
 use Rattle.std.proofs.lemmas.Bool.{cases_lt}
 use Rattle.std.proofs.lemmas.List.{drop-append-le, drop_all}
 use Rattle.std.proofs.lemmas.List.Elements.{filter-append, All-push}
+use Rattle.std.proofs.lemmas.Option.{same_Some, none-some}
 use Rattle.ep_defs.specs.declared.event.EventDef.{EventDef}
 use Rattle.ep_defs.specs.declared.session.Config.{Config}
 use Rattle.ep_defs.specs.declared.session.Write.{Write}
@@ -18,14 +19,8 @@ record Ended (writes : List Write) (write : Write) : Type 0 where
   is : writes ≡ front ++ write ∷ []
 
 ended : (writes : List Write) (write : Write) → slice_get writes (length writes - 1) ≡ Some write → Ended writes write
-ended [] write h = absurd (no_write write h)
-  where
-    no_write : (write : Write) → None ≡ Some write → ⊥
-    no_write write e = cc
-ended (first ∷ []) write h = record { front = []; is = ap (λ (w : Write). w ∷ []) (some_same first write h) }
-  where
-    some_same : (a b : Write) → Some a ≡ Some b → a ≡ b
-    some_same a b e = cc
+ended [] write h = absurd (none-some write h)
+ended (first ∷ []) write h = record { front = []; is = ap (λ (w : Write). w ∷ []) (same_Some first write h) }
 ended (first ∷ next ∷ writes) write h =
     let len : length (first ∷ next ∷ writes) - 1 ≡ suc (length (next ∷ writes) - 1) = omega arith in
     let later = ended (next ∷ writes) write (sym (ap (slice_get (first ∷ next ∷ writes)) len) ∙ h) in

@@ -8,6 +8,7 @@ use Rattle.std.proofs.lemmas.Nat.Bits.{bit_at-lt, bit_at-zero}
 use Rattle.std.proofs.lemmas.List.{drop-append-le, drop_all, get_or_default, get_or-set_other, get_or-replicate}
 use Rattle.std.proofs.lemmas.List.Elements.{filter-append, All-get_or}
 use Rattle.std.specs.List.{All}
+use Rattle.std.proofs.lemmas.Option.{same_Some}
 use Rattle.ep_defs.specs.declared.event.EventDef.{EventDef}
 use Rattle.ep_defs.specs.declared.session.Config.{Config}
 use Rattle.ep_defs.specs.declared.session.Write.{Write}
@@ -21,7 +22,7 @@ use Rattle.ep_row.specs.AtRest.{OpenAtRest, RowAtRest, with_config}
 abbrev gets_of : List EventDef → Config → Option Write → Bool
 gets_of events config o = option_map_or (λ write. admits_write events (Some config) write) o false
 
-one_true : (b : Bool) → one_if b ≡ 1 → b ≡ true
+pub one_true : (b : Bool) → one_if b ≡ 1 → b ≡ true
 one_true b = elim b as (λ v. one_if v ≡ 1 → v ≡ true) [ true ↦ λ e. refl | false ↦ λ e. absurd (omega arith) ]
 
 -- No slot is due outside a write.
@@ -168,7 +169,7 @@ show-rests events configs writes row slot due slots opening now within rest was 
           λ s h o here.
           elim (cases_eq s slot) [
             | inl e ↦ let z = cleared s h e in
-                let it : now ≡ o = some_same now o (sym set' ∙ ap (λ (k : ℕ). get_or slots k None) (sym e) ∙ here) in
+                let it : now ≡ o = same_Some now o (sym set' ∙ ap (λ (k : ℕ). get_or slots k None) (sym e) ∙ here) in
                 let old = rest.slots slot within opening on in
                 let P : Opening → Type 0 = λ x. OpenAtRest events (configs s) writes (bit_at due s) x in
                 let conf : configs slot ≡ configs s = ap configs (sym e) in
@@ -185,9 +186,6 @@ show-rests events configs writes row slot due slots opening now within rest was 
           ];
       left = rest.left;
     }
-  where
-    some_same : (a b : Opening) → Some a ≡ Some b → a ≡ b
-    some_same a b e = cc
 
 pub open-rests : (events : List EventDef) (configs : ℕ → Config) (writes : List Write) (row : RowState) (slot : ℕ) (config : Config) (masks : List ℕ) (slots : List (Option Opening)) (now : Opening) → slot < 64 → length events ≡ length row.masks → RowAtRest events configs writes row → row.in_write ≡ false → now.from ≡ row.index → now.shown ≡ 0 → SetsBits slot (gets events config) row.masks masks → slots ≡ slice_set row.slots slot (Some now) → get_or slots slot None ≡ Some now → RowAtRest events (with_config configs slot config) writes (record row { masks = masks; slots = slots })
 open-rests events configs writes row slot config masks slots now within count rest quiet from shown sets is set' =
@@ -217,7 +215,7 @@ open-rests events configs writes row slot config masks slots now within count re
           λ s h o here.
           let z = quiet-bit events configs writes row s rest quiet h in
           elim (cases_eq s slot) [
-            | inl e ↦ let it : now ≡ o = some_same now o (sym set' ∙ ap (λ (k : ℕ). get_or slots k None) (sym e) ∙ here) in
+            | inl e ↦ let it : now ≡ o = same_Some now o (sym set' ∙ ap (λ (k : ℕ). get_or slots k None) (sym e) ∙ here) in
                 let P : Opening → Type 0 = λ x. OpenAtRest events (with_config configs slot config s) writes (bit_at row.due s) x in
                 let at : now.from ≡ length writes = from ∙ rest.index in
                 subst P it
@@ -235,9 +233,6 @@ open-rests events configs writes row slot config masks slots now within count re
           ];
       left = rest.left;
     }
-  where
-    some_same : (a b : Opening) → Some a ≡ Some b → a ≡ b
-    some_same a b e = cc
 
 pub close-rests : (events : List EventDef) (configs : ℕ → Config) (writes : List Write) (row : RowState) (slot : ℕ) (masks : List ℕ) (slots : List (Option Opening)) → length events ≡ length row.masks → RowAtRest events configs writes row → row.in_write ≡ false → SetsBits slot (λ _. false) row.masks masks → slots ≡ slice_set row.slots slot None → get_or slots slot None ≡ None → RowAtRest events configs writes (record row { masks = masks; slots = slots })
 close-rests events configs writes row slot masks slots count rest quiet sets is set' =

@@ -1,8 +1,7 @@
 -- What is open on a row.
 use Rattle.std.proofs.Common.{◌≡◌, ◌≢◌, ℕ, zero, suc, ◌+◌, ◌-◌, ◌<◌, ◌≤◌, Bool, true, false, List, [], ◌∷◌, ◌++◌, Option, None, Some, length, cond, refl, ap, sym, ◌∙◌, arith}
-use Rattle.std.specs.Prelude.{slice_index_or, slice_set, option_map, IsSome, ◌==◌, if◌then◌else◌}
-use Rattle.std.proofs.lemmas.Bool.{eqb-true, eqb-false}
-use Rattle.std.proofs.lemmas.List.{get_or-set_same, get_or-set_other, get_or_default}
+use Rattle.std.specs.Prelude.{slice_index_or, slice_set, option_map, IsSome, if◌then◌else◌}
+use Rattle.std.proofs.lemmas.List.{get_or_default}
 use Rattle.ep_defs.specs.declared.session.Write.{Write}
 use Rattle.ep_model.specs.Budget.{Pending, needs_chunk, record_size}
 use Rattle.ep_pool.specs.Counts.{PoolCounts}
@@ -21,21 +20,6 @@ cell_at_is cells zero some = absurd (omega (arith, some))
 cell_at_is cells (suc place) some =
     let e : place ≡ suc place - 1 = omega arith in
     ap (λ (p : ℕ). slice_index_or cells p None) e
-
--- Something is put down or taken out on one row.
-pub cell_at_set : (cells : List (Option Open)) (row : ℕ) (cell : Option Open) (r : ℕ) → 0 < row → row ≤ length cells → cell_at (slice_set cells (row - 1) cell) r ≡ (if r == row then cell else cell_at cells r)
-cell_at_set cells row cell r some within =
-    elim (r == row) as (λ v. (r == row) ≡ v → cell_at (slice_set cells (row - 1) cell) r ≡ (if v then cell else cell_at cells r)) [
-      | true ↦ λ is. ap (cell_at (slice_set cells (row - 1) cell)) (eqb-true r row is)
-          ∙ cell_at_is (slice_set cells (row - 1) cell) row some
-          ∙ get_or-set_same cells (row - 1) cell None (omega (arith, some, within))
-      | false ↦ λ is. other r (eqb-false r row is)
-    ]
-    refl
-  where
-    other : (r : ℕ) → r ≢ row → cell_at (slice_set cells (row - 1) cell) r ≡ cell_at cells r
-    other zero not = refl
-    other (suc place) not = get_or-set_other cells (row - 1) place cell None (λ (e : place ≡ row - 1). not (omega (arith, e, some)))
 
 -- The chunks that are pending, where one slot changes.
 pub chunks_set : (cells : List (Option Open)) (place : ℕ) (cell : Option Open) → place < length cells → pending_chunks (slice_set cells place cell) + chunks_in (slice_index_or cells place None) ≡ pending_chunks cells + chunks_in cell

@@ -44,15 +44,6 @@ one_more P rows now count is here all (suc place) some most =
 
 -- ---- nothing is open
 
-none_longer : (columns : List (Option Column)) (s : ℕ) → slice_index_or (columns ++ None ∷ []) s None ≡ slice_index_or columns s None
-none_longer [] zero = refl
-none_longer [] (suc s) = refl
-none_longer (column ∷ columns) zero = refl
-none_longer (column ∷ columns) (suc s) = none_longer columns s
-
-pub still_none : (columns : List (Option Column)) → ((s : ℕ) → slice_index_or columns s None ≡ None) → (s : ℕ) → slice_index_or (columns ++ None ∷ []) s None ≡ None
-still_none columns all s = none_longer columns s ∙ all s
-
 is_none : (cell : Option Open) → IsNone cell → cell ≡ None
 is_none None h = refl
 is_none (Some o) h = cc

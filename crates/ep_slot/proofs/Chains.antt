@@ -7,6 +7,7 @@ use Rattle.std.proofs.lemmas.List.Concat.{flat_map-append}
 use Rattle.std.proofs.lemmas.List.Elements.{All-nil, All-cons, All-head, All-tail, All-push}
 use Rattle.std.proofs.lemmas.Bool.{true≢false, false≢true, or_parts, eqb-false, ltb-true, ltb-false, ne_eqb}
 use Rattle.ep_chunk.specs.Record.{Record, size_of, total_size}
+use Rattle.ep_chunk.proofs.Holding.{total_size-push}
 use Rattle.ep_model.specs.Budget.{Pending, needs_chunk, pending_with}
 use Rattle.ep_slot.specs.Chain.{records_of, last_size, pending_of, with_last, HasRecords}
 
@@ -32,10 +33,6 @@ last_size-is : (front : List (List Record)) (last : List Record) → last_size (
 last_size-is [] last = refl
 last_size-is (chunk ∷ []) last = refl
 last_size-is (chunk ∷ next ∷ front) last = last_size-is (next ∷ front) last
-
-total_size-more : (records : List Record) (r : Record) → total_size (records ++ r ∷ []) ≡ total_size records + size_of r
-total_size-more [] r = omega arith
-total_size-more (first ∷ records) r = let e = total_size-more records r in omega arith
 
 -- The chunk that was lent is the last one.
 pub last-is : (chain : List (List Record)) (chunk : List Record) (e : Ends chain) → chunk ≡ slice_index_or chain (length chain - 1) chunk → chunk ≡ e.last
@@ -129,7 +126,7 @@ kept-pending chain r h =
     in
     let before : last_size chain ≡ total_size e.last = ap last_size e.is ∙ last_size-is e.front e.last in
     let after : last_size (with_last chain r) ≡ total_size (e.last ++ r ∷ []) = ap last_size is ∙ last_size-is e.front (e.last ++ r ∷ []) in
-    let size : last_size (with_last chain r) ≡ last_size chain + size_of r = omega (arith, total_size-more e.last r) in
+    let size : last_size (with_last chain r) ≡ last_size chain + size_of r = omega (arith, total_size-push e.last r) in
     ap (λ (n : ℕ). counted n (last_size (with_last chain r))) len
     ∙ ap (λ (n : ℕ). counted (length chain) n) size
     ∙ ap (λ (v : Bool). if v then counted (length chain + 1) (size_of r) else counted (length chain) (last_size chain + size_of r)) (sym h)

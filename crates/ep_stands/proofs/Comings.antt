@@ -1,16 +1,19 @@
 -- Sessions stand where one comes or goes, and at the start.
-use Rattle.std.proofs.Common.{◌≡◌, ℕ, Bool, true, false, List, [], ◌∷◌, map, Some, None, refl, ap, sym, ◌∙◌, subst}
-use Rattle.std.specs.Prelude.{◌&&◌, ◌==◌, if◌then◌else◌}
+use Rattle.std.proofs.Common.{◌≡◌, ℕ, Bool, false, List, [], ◌∷◌, map, Some, None, refl, ap, sym, ◌∙◌, subst}
+use Rattle.std.specs.Prelude.{◌==◌, if◌then◌else◌}
 use Rattle.std.specs.List.{AllByRecursion}
-use Rattle.std.proofs.lemmas.Bool.{eqb-false, eq-eqb, ne_eqb, or_parts, not-false, false≢true}
+use Rattle.std.proofs.lemmas.Bool.{eqb-false, eq-eqb, ne_eqb, or_parts}
 use Rattle.ep_defs.specs.declared.event.EventDef.{EventDef}
 use Rattle.ep_defs.specs.declared.session.Config.{Config}
 use Rattle.ep_defs.specs.declared.session.TraceInfo.{TraceInfo}
 use Rattle.ep_pool.specs.Counts.{PoolCounts}
 use Rattle.ep_model.specs.declared.step.Step.TheVariants as step
 use Rattle.ep_model.specs.Entries.{entries}
-use Rattle.ep_model.specs.History.{Past, accepted, is_present}
-use Rattle.ep_model.specs.Lawful.{IsLawful, objections}
+use Rattle.ep_model.specs.History.{Past, accepted}
+use Rattle.ep_model.specs.Lawful.{IsLawful}
+use Rattle.ep_model.proofs.Lists.{has, eqb_turn}
+use Rattle.ep_model.proofs.Objections.{needs_present}
+use Rattle.ep_model.proofs.Sessions.{accept_new, absent_apart, not_accepted}
 use Rattle.ep_stream.specs.declared.session.Seat.{Seat}
 use Rattle.ep_stream.specs.Session.{new_rest}
 use Rattle.ep_stream.specs.Steps.{ToldRows}
@@ -20,12 +23,10 @@ use Rattle.ep_rows.specs.Writes.{SetsPool}
 use Rattle.ep_judge.specs.declared.tables.Present.{Present}
 use Rattle.ep_judge.specs.declared.tables.Tables.{Tables}
 use Rattle.ep_judge.specs.Tables.{number_of, has_slot}
-use Rattle.ep_judge.proofs.Lists.{has, has-filter, eqb_turn}
-use Rattle.ep_judge.proofs.Pasts.{none_there, has_present}
+use Rattle.ep_judge.proofs.Pasts.{has_present}
 use Rattle.ep_kept.specs.Kept.{PoolFollows}
 use Rattle.ep_told.specs.Kept.{RestFollows}
 use Rattle.ep_made.specs.Made.{MakesAccept, MakesFinish, IsStart}
-use Rattle.ep_made.proofs.Pasts.{accepts_anew}
 use Rattle.ep_made.proofs.Slots.{free_slot}
 use Rattle.ep_stands.specs.Stands.{SessionStands, SessionsStand, KeepsSlot, StandBefore}
 use Rattle.ep_stands.proofs.Through.{Through, telling_as}
@@ -33,32 +34,18 @@ use Rattle.ep_stands.proofs.Sessions.{Before, StandsAs, all_before, stands_now, 
 
 -- ---- a session that was not accepted
 
-accepted_once : (there known : Bool) → (there && known) ≡ there → known ≡ false → there ≡ false
-accepted_once true false is none = sym is
-accepted_once false false is none = refl
-accepted_once there true is none = absurd (false≢true (sym none))
-
-absent : (session : ℕ) (past : Past) → has session (accepted past) ≡ false → is_present session past ≡ false
-absent session past never =
-    accepted_once (is_present session past) (has session (accepted past)) (sym (has-filter (λ s. is_present s past) session (accepted past)) ∙ has_present session past) never
-
-apart_from : (s session : ℕ) (past : Past) → is_present s past ≡ true → has session (accepted past) ≡ false → (s == session) ≡ false
-apart_from s session past there never =
-    let There : ℕ → Type 0 = λ n. is_present n past ≡ true in
-    ne_eqb s session (λ same. false≢true (sym (absent session past never) ∙ subst There same there))
-
 -- Its stream has told nothing.
 untold : (events : List EventDef) (session : ℕ) (past : Past) → IsLawful events past → has session (accepted past) ≡ false → entries events session past ≡ []
 untold events session [] lawful never = refl
 untold events session (step.Accept s config ∷ past) lawful never = untold events session past lawful.0 (or_parts (s == session) (has session (accepted past)) never).1
 untold events session (step.Steal s t ∷ past) lawful never =
-    rw (apart_from s session past (not-false _ (none_there (objections events past (step.Steal s t)) lawful.1).0) never) (untold events session past lawful.0 never)
+    rw (absent_apart s session past (needs_present events past (step.Steal s t) lawful.1) never) (untold events session past lawful.0 never)
 untold events session (step.Close s t ∷ past) lawful never =
-    rw (apart_from s session past (not-false _ (none_there (objections events past (step.Close s t)) lawful.1).0) never) (untold events session past lawful.0 never)
+    rw (absent_apart s session past (needs_present events past (step.Close s t) lawful.1) never) (untold events session past lawful.0 never)
 untold events session (step.Point s stamp ∷ past) lawful never =
-    rw (apart_from s session past (not-false _ (none_there (objections events past (step.Point s stamp)) lawful.1).0) never) (untold events session past lawful.0 never)
+    rw (absent_apart s session past (needs_present events past (step.Point s stamp) lawful.1) never) (untold events session past lawful.0 never)
 untold events session (step.Finish s stamp ∷ past) lawful never =
-    rw (apart_from s session past (not-false _ (none_there (objections events past (step.Finish s stamp)) lawful.1).0) never) (untold events session past lawful.0 never)
+    rw (absent_apart s session past (needs_present events past (step.Finish s stamp) lawful.1) never) (untold events session past lawful.0 never)
 untold events session (_ ∷ past) lawful never = untold events session past lawful.0 never
 
 -- ---- a pool is set
@@ -100,10 +87,10 @@ accepted_now through pool_accepts rest_accepts events info past session config o
     let after = told_of new.rows in
     let pool : PoolCounts = record { total = config.chunks; free = config.chunks } in
     let seat : Seat = record { slot = now.slot; id = session; conn = m.rest.0 } in
-    let anew = accepts_anew events session config past h.lawful in
+    let anew = accept_new events past session config h.lawful.1 in
     let unheld : has_slot now.slot old.present.items ≡ false = sym (h.follow.held now.slot) ∙ free_slot old.table now.slot m.id m.seat in
     let unknown : has session (map number_of old.present.items) ≡ false =
-    sym (ap (has session) h.follow.present_are) ∙ has_present session past ∙ absent session past anew in
+    sym (ap (has session) h.follow.present_are) ∙ has_present session past ∙ not_accepted session past anew in
     let Now = SessionStands events info (s ∷ past) after in
     let All : List Present → Type 0 = AllByRecursion Now in
     let pool_now : after.pool now.slot ≡ pool = m.rows.pools now.slot ∙ ap (λ (b : Bool). if b then pool else before.pool now.slot) (eq-eqb now.slot now.slot refl) in

@@ -13,9 +13,10 @@ use Rattle.ep_model.specs.Chunks.{is_refused}
 use Rattle.ep_model.specs.Entries.{entries, entry_if, entry_shown, has_stacks, pending, point_entry}
 use Rattle.ep_model.specs.History.{Past, Begun, admits_write, config_of, is_due, is_open, last_begun, shows}
 use Rattle.ep_model.specs.Lawful.{IsLawful, objections, begins}
+use Rattle.ep_model.proofs.Lists.{has, eqb_turn}
+use Rattle.ep_model.proofs.Objections.{none_there}
 use Rattle.ep_stream.specs.Telling.{IsFront}
-use Rattle.ep_judge.proofs.Lists.{has, has-filter, eqb_turn}
-use Rattle.ep_judge.proofs.Pasts.{none_there}
+use Rattle.ep_judge.proofs.Lists.{has-filter}
 
 -- ---- events among entries
 

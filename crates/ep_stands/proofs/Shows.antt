@@ -1,10 +1,8 @@
 -- A session stands once a write was shown to it, and can take the write that is due to it.
-use Rattle.std.proofs.Common.{◌≡◌, ℕ, zero, suc, ◌<◌, ◌≤◌, Bool, true, false, List, [], ◌∷◌, length, Option, Some, None, refl, ap, sym, ◌∙◌, subst, arith}
-use Rattle.std.specs.Prelude.{◌==◌, if◌then◌else◌, is_none, slice_get}
+use Rattle.std.proofs.Common.{◌≡◌, ℕ, ◌<◌, ◌≤◌, Bool, true, false, List, [], ◌∷◌, length, Option, Some, refl, ap, sym, ◌∙◌, subst}
+use Rattle.std.specs.Prelude.{◌==◌, if◌then◌else◌}
 use Rattle.std.specs.Option.{option_map_or}
-use Rattle.std.proofs.lemmas.Bool.{and_right, not-false, false≢true}
-use Rattle.std.proofs.lemmas.Option.{slice_get_within}
-use Rattle.ep_defs.specs.Definitions.{definition_at}
+use Rattle.std.proofs.lemmas.Bool.{and_right, not-false}
 use Rattle.ep_defs.specs.Session.{fits}
 use Rattle.ep_defs.specs.declared.limits.TheConstants.{WRITES}
 use Rattle.ep_defs.specs.declared.event.EventDef.{EventDef}
@@ -16,6 +14,8 @@ use Rattle.ep_model.specs.Chunks.{in_hand, is_refused, turns}
 use Rattle.ep_model.specs.Fold.{budget_of}
 use Rattle.ep_model.specs.History.{Past, Begun, last_begun, is_due}
 use Rattle.ep_model.specs.Lawful.{IsLawful, objections}
+use Rattle.ep_model.proofs.Objections.{none_there}
+use Rattle.ep_model.proofs.Due.{due_within}
 use Rattle.ep_slot.specs.declared.shown.Shown.{Shown}
 use Rattle.ep_slot.specs.Slot.{SlotState, is_refused as is_shown_refused}
 use Rattle.ep_stream.specs.Session.{rest_of}
@@ -23,12 +23,10 @@ use Rattle.ep_rows.specs.Rows.{told_of}
 use Rattle.ep_rows.specs.Shows.{ShowsWrite, shown_slot}
 use Rattle.ep_judge.specs.declared.tables.Tables.{Tables}
 use Rattle.ep_judge.specs.Can.{CanMake}
-use Rattle.ep_judge.proofs.Pasts.{none_there}
 use Rattle.ep_judge.proofs.Found.{row_found, on_found}
-use Rattle.ep_judge.proofs.Makes.{can_make}
+use Rattle.ep_judge.proofs.Makes.{can_make, defined}
 use Rattle.ep_kept.specs.Kept.{IsLast, SlotFollows, PoolFollows}
 use Rattle.ep_made.specs.Made.{StandsAt, MakesShow, CanTake}
-use Rattle.ep_made.proofs.Pasts.{due_on}
 use Rattle.ep_made.proofs.Follow.{own_row, session_at}
 use Rattle.ep_stands.specs.Stands.{StandBefore}
 use Rattle.ep_stands.proofs.Through.{SlotStays, RestStays}
@@ -85,14 +83,6 @@ shown_now slot_stays slot_shows pool_refuses pool_shows rest_stays events info p
 
 -- ---- the write that was begun last
 
-within : (events : List EventDef) (place : ℕ) (found : Option EventDef) → slice_get events place ≡ found → is_none found ≡ false → place < length events
-within events place None at is = absurd (false≢true (sym is))
-within events place (Some def) at is = slice_get_within events place def at
-
-defined : (events : List EventDef) (event : ℕ) → is_none (definition_at events event) ≡ false → (0 < event) × (event ≤ length events)
-defined events zero is = absurd (false≢true (sym is))
-defined events (suc place) is = let less = within events place (slice_get events place) refl is in (omega arith, omega arith)
-
 -- A write that can be made: its event is defined, and it fits.
 pub record CanBeMade (events : List EventDef) (write : Write) : Type 0 where
   pub some : 0 < write.event
@@ -127,7 +117,7 @@ due_taken few counted events info past thread session stamp write tables h last 
     let on = can.holds in
     let o = none_there (objections events past s) h.lawful.1 in
     let due : is_due events session thread past ≡ true = not-false _ o.1.1.1.0 in
-    let shown_on = (due_on events session thread past h.lawful.0 due).0 in
+    let shown_on = (due_within events session thread past h.lawful.0 due).on in
     let stands : StandsAt session tables can.place can.present = record { first = can.first; there = can.there } in
     let here = placed events info s past tables session can.place can.present h stands in
     let found = session_at events past tables session can.place can.present h.follow stands in

@@ -3,6 +3,7 @@ use Rattle.std.proofs.Common.{◌≡◌, ◌≢◌, ℕ, zero, suc, ◌+◌, ◌
 use Rattle.std.specs.Prelude.{slice_index_or, slice_set, ◌==◌, if◌then◌else◌}
 use Rattle.std.proofs.lemmas.Bool.{eqb-true, eqb-false}
 use Rattle.std.proofs.lemmas.List.{get_or-set_same, get_or-set_other}
+use Rattle.std.proofs.lemmas.Option.{none-some}
 use Rattle.ep_slot.specs.Hand.{HandState}
 use Rattle.ep_stream.specs.Hands.{hand_at, count_some}
 
@@ -34,12 +35,6 @@ none_is_some hand e = absurd (clash e)
     clash : Some hand ≡ None → ⊥
     clash e = cc
 
-some_is_none : {A : Type 0} (hand : HandState) → None ≡ Some hand → A
-some_is_none hand e = absurd (clash e)
-  where
-    clash : None ≡ Some hand → ⊥
-    clash e = cc
-
 -- One more is put down.
 pub count_put : (hands : List (Option HandState)) (place : ℕ) (hand : HandState) → place < length hands → slice_index_or hands place None ≡ None → count_some (slice_set hands place (Some hand)) ≡ count_some hands + 1
 count_put [] place hand within none = absurd (omega (arith, within))
@@ -51,7 +46,7 @@ count_put (Some other ∷ hands) (suc place) hand within none = ap (λ (n : ℕ)
 -- One is taken out.
 pub count_taken : (hands : List (Option HandState)) (place : ℕ) (hand : HandState) → place < length hands → slice_index_or hands place None ≡ Some hand → count_some hands ≡ count_some (slice_set hands place None) + 1
 count_taken [] place hand within some = absurd (omega (arith, within))
-count_taken (None ∷ hands) zero hand within some = some_is_none hand some
+count_taken (None ∷ hands) zero hand within some = absurd (none-some hand some)
 count_taken (Some other ∷ hands) zero hand within some = refl
 count_taken (None ∷ hands) (suc place) hand within some = count_taken hands place hand (omega (arith, within)) some
 count_taken (Some other ∷ hands) (suc place) hand within some = ap (λ (n : ℕ). n + 1) (count_taken hands place hand (omega (arith, within)) some)

@@ -6,6 +6,7 @@ use Rattle.std.proofs.lemmas.Bool.{eqb-true, eqb-false}
 use Rattle.std.proofs.lemmas.List.{get_or-set_same, get_or-set_other}
 use Rattle.std.proofs.lemmas.List.Elements.{All-head, All-tail}
 use Rattle.std.proofs.lemmas.List.Sums.{sum_by-set}
+use Rattle.std.proofs.lemmas.Option.{none-some}
 use Rattle.ep_stream.specs.OneSlot.{at_slot}
 
 -- What is expected is open in the slot.
@@ -13,19 +14,9 @@ is_there : {B : Type 0} (x : Option B) (slot : ℕ) (y : B) → (if slot == 3 th
 is_there x slot y is =
     elim (slot == 3) as (λ v. (slot == 3) ≡ v → (if v then x else None) ≡ Some y → (slot ≡ 3) × (x ≡ Some y)) [
       | true ↦ λ same is. (eqb-true slot 3 same, is)
-      | false ↦ λ _ is. absurd (none-some is)
+      | false ↦ λ _ is. absurd (none-some y is)
     ]
     refl is
-  where
-    none-some : {B : Type 0} {y : B} → None ≡ Some y → ⊥
-    none-some e = cc
-
--- Nothing is something.
-pub nothing : {A B : Type 0} (x : A) → None ≡ Some x → B
-nothing x e = absurd (clash e)
-  where
-    clash : {A : Type 0} {x : A} → None ≡ Some x → ⊥
-    clash e = cc
 
 -- A function says this of what is open.
 pub said : {A B : Type 0} (f : A → B) (cell : Option A) (x : A) (y : B) → cell ≡ Some x → option_map f cell ≡ Some y → f x ≡ y

@@ -2,6 +2,7 @@
 use Rattle.std.proofs.Common.{◌≡◌, ℕ, zero, suc, ◌≤◌, List, [], ◌∷◌, None, Some, inl, inr, length, refl, ap, sym, ◌∙◌, subst, arith}
 use Rattle.std.specs.Prelude.{IsTrue, slice_get}
 use Rattle.std.specs.List.{list_all}
+use Rattle.std.proofs.lemmas.Option.{none-some}
 use Rattle.ep_defs.specs.declared.event.EventDef.{EventDef}
 use Rattle.ep_defs.specs.declared.session.Marks.{Marks}
 use Rattle.ep_defs.specs.Definitions.{AreDistinct, definition_at}
@@ -10,7 +11,6 @@ use Rattle.ep_slot.specs.Hand.{HandState}
 use Rattle.nt_write.specs.Vectors.{event_e}
 use Rattle.ep_stream.specs.declared.session.Session.{Session}
 use Rattle.ep_stream.specs.Session.{hand_on, rest_of, WasOpened}
-use Rattle.ep_stream.proofs.Listed.{nothing}
 
 pub one_is_valid : (events : List EventDef) → events ≡ event_e ∷ [] → IsTrue (list_all is_valid_event events)
 one_is_valid events is = ap (list_all is_valid_event) is
@@ -33,6 +33,6 @@ pub not_opened : {S : Type 0} (session : Session S) (row thread : ℕ) → ((r :
     → WasOpened session thread → ⊥
 not_opened session row thread numbers off unmarked is (inl (r, h, on, same)) =
     let at : row ≡ r = sym is ∙ sym same ∙ numbers r h on in
-    nothing h (sym off ∙ ap (hand_on session) at ∙ on)
+    absurd (none-some h (sym off ∙ ap (hand_on session) at ∙ on))
 not_opened session row thread numbers off unmarked is (inr (place, mark, at, same)) =
-    nothing mark (sym (ap (λ (ms : List Marks). slice_get ms place) unmarked) ∙ at)
+    absurd (none-some mark (sym (ap (λ (ms : List Marks). slice_get ms place) unmarked) ∙ at))

@@ -1,29 +1,22 @@
 -- The records of a chunk, read one after another.
-use Rattle.std.proofs.Common.{◌≡◌, ℕ, zero, suc, ◌+◌, ◌*◌, ◌<◌, ◌≤◌, Bool, List, [], ◌∷◌, ◌++◌, None, Some, length, refl, ap, sym, ◌∙◌, subst, arith, append_assoc, length-append, take, drop}
+use Rattle.std.proofs.Common.{◌≡◌, ℕ, zero, suc, ◌+◌, ◌*◌, ◌<◌, ◌≤◌, Bool, List, [], ◌∷◌, ◌++◌, Some, length, ap, sym, ◌∙◌, subst, arith, append_assoc, length-append, take, drop}
 use Rattle.std.specs.Prelude.{slice_get, slice_index_or}
-use Rattle.std.specs.List.{All, flat_map}
+use Rattle.std.specs.List.{All}
 use Rattle.std.proofs.Math.Seq.{get_or-append_seam}
 use Rattle.std.proofs.Math.ListN.{get_or-append}
 use Rattle.std.proofs.lemmas.List.{get_or-append-add}
 use Rattle.std.proofs.lemmas.Grind.{flat_map-append}
 use Rattle.std.proofs.lemmas.List.Concat.{flat_map-cons}
 use Rattle.std.proofs.lemmas.List.{append-nil}
-use Rattle.byteorder.specs.Endian.{little_bytes}
+use Rattle.std.proofs.lemmas.Option.{same_Some, none-some}
 use Rattle.ep_defs.specs.declared.event.EventDef.{EventDef}
 use Rattle.ep_defs.specs.declared.limits.TheConstants.{PAYLOAD_BYTES}
-use Rattle.ep_chunk.specs.Record.{Record, frame_bytes}
-use Rattle.ep_chunk.specs.Places.{records_at, Tells as TellsRecord}
+use Rattle.ep_chunk.specs.Record.{Record}
+use Rattle.ep_chunk.specs.Places.{Tells as TellsRecord}
 use Rattle.ep_chunk.specs.declared.rec.RecOut.{RecOut}
+use Rattle.ep_chunk.proofs.Laid.{length-frame_bytes}
 use Rattle.ep_slot.specs.Chain.{records_of}
 use Rattle.ep_stream.specs.Telling.{IsWritable, CanBeRead, entry_of, entries_of}
-
--- All records stand from the first place on.
-pub at_start : (records : List Record) → records_at records 0 ≡ Some records
-at_start [] = refl
-at_start (r ∷ records) = refl
-
-pub some_same : {A : Type 0} (a b : A) → Some a ≡ Some b → a ≡ b
-some_same a b e = cc
 
 -- The record behind those that were read can be told.
 pub writable_here : (events : List EventDef) (done : List Record) (told : Record) (others chunk : List Record) → done ++ told ∷ others ≡ chunk → All (IsWritable events) chunk → IsWritable events told
@@ -33,23 +26,10 @@ writable_here events done told others chunk split all =
     subst (IsWritable events) (get_or-append_seam done told others told)
     (subst (λ (rs : List Record). IsWritable events (slice_index_or rs (length done) told)) (sym split) (all (length done) told small))
 
--- The bytes of frames, eight each.
-pub frames_long : (frames : List ℕ) → length (frame_bytes frames) ≡ 8 * length frames
-frames_long [] = refl
-frames_long (frame ∷ frames) =
-    let rest : length (frame_bytes frames) ≡ 8 * length frames = frames_long frames in
-    let eight : length (little_bytes 8 frame) ≡ 8 = refl in
-    let both : length (little_bytes 8 frame ++ frame_bytes frames) ≡ length (little_bytes 8 frame) + length (frame_bytes frames) = length-append (little_bytes 8 frame) (frame_bytes frames) in
-    let same : frame_bytes (frame ∷ frames) ≡ little_bytes 8 frame ++ frame_bytes frames = flat_map-append (little_bytes 8) (frame ∷ []) frames ∙ ap (λ (xs : List ℕ). xs ++ frame_bytes frames) (one frame) in
-    omega (arith, rest, eight, both, ap (length {A = ℕ}) same)
-  where
-    one : (frame : ℕ) → flat_map (little_bytes 8) (frame ∷ []) ≡ little_bytes 8 frame
-    one frame = refl
-
 -- What was read of a record that can be told.
 pub readable : (events : List EventDef) (r : Record) (out : RecOut) → IsWritable events r → TellsRecord r out → CanBeRead events out
 readable events r out writable told =
-    let long : length out.frames.now ≡ 8 * length r.frames = ap (length {A = ℕ}) told.frames ∙ frames_long r.frames in
+    let long : length out.frames.now ≡ 8 * length r.frames = ap (length {A = ℕ}) told.frames ∙ length-frame_bytes r.frames in
     let few : length r.frames ≤ 100 = grind (arith, writable.fit) in
     let short : length r.payload ≤ PAYLOAD_BYTES = grind (arith, writable.fit) in
     record {
@@ -70,17 +50,11 @@ one_entry events stacks r = flat_map-cons (entry_of events stacks) r [] ∙ appe
 
 -- ---- chains
 
-none_same : {A B : Type 0} (a : A) → None ≡ Some a → B
-none_same a e = absurd (clash e)
-  where
-    clash : None ≡ Some a → ⊥
-    clash e = cc
-
 -- The records of a chain, about one of its chunks.
 pub split_chain : (chain : List (List Record)) (place : ℕ) (chunk : List Record) → slice_get chain place ≡ Some chunk → records_of chain ≡ records_of (take place chain) ++ (chunk ++ records_of (drop (place + 1) chain))
-split_chain [] place chunk is = none_same chunk is
+split_chain [] place chunk is = absurd (none-some chunk is)
 split_chain (first ∷ chain) zero chunk is =
-    flat_map-cons (λ (c : List Record). c) first chain ∙ ap (λ (c : List Record). c ++ records_of chain) (some_same first chunk is)
+    flat_map-cons (λ (c : List Record). c) first chain ∙ ap (λ (c : List Record). c ++ records_of chain) (same_Some first chunk is)
 split_chain (first ∷ chain) (suc place) chunk is =
     let e : suc place + 1 ≡ suc (place + 1) = omega arith in
     let later : records_of chain ≡ records_of (take place chain) ++ (chunk ++ records_of (drop (place + 1) chain)) = split_chain chain place chunk is in
@@ -92,9 +66,9 @@ split_chain (first ∷ chain) (suc place) chunk is =
 
 -- The records up to and with one of its chunks.
 pub take_chain : (chain : List (List Record)) (place : ℕ) (chunk : List Record) → slice_get chain place ≡ Some chunk → records_of (take (place + 1) chain) ≡ records_of (take place chain) ++ chunk
-take_chain [] place chunk is = none_same chunk is
+take_chain [] place chunk is = absurd (none-some chunk is)
 take_chain (first ∷ chain) zero chunk is =
-    flat_map-cons (λ (c : List Record). c) first (take 0 chain) ∙ append-nil first ∙ some_same first chunk is
+    flat_map-cons (λ (c : List Record). c) first (take 0 chain) ∙ append-nil first ∙ same_Some first chunk is
 take_chain (first ∷ chain) (suc place) chunk is =
     let e : suc place + 1 ≡ suc (place + 1) = omega arith in
     let later : records_of (take (place + 1) chain) ≡ records_of (take place chain) ++ chunk = take_chain chain place chunk is in

@@ -23,13 +23,13 @@ use Rattle.nt_write.specs.Writer.{fault_of, sink_of, point_of}
 use Rattle.ep_stream.specs.declared.opened.Named.{Named}
 use Rattle.ep_stream.specs.declared.session.Session.{Session}
 use Rattle.ep_stream.specs.Rows.{TestsRecordsAs, hand_after}
-use Rattle.ep_stream.specs.Named.{with_number, still_open, numbers_of}
+use Rattle.ep_stream.specs.Named.{with_number, numbers_of}
 use Rattle.ep_stream.specs.Session.{Rest, AreRowsOf, Batched, SameHands, hand_on, rest_of}
 use Rattle.ep_stream.specs.Steps.{ToldRows, TellsStep, GivesBack}
-use Rattle.ep_stream.specs.Telling.{IsFaulty, IsTelling, Tells, entries_of}
+use Rattle.ep_stream.specs.Telling.{IsFaulty, Tells, entries_of}
 use Rattle.ep_stream.proofs.Taking.{tells_fault}
 use Rattle.ep_stream.proofs.Telling.{risen_later, on_err, tells_after}
-use Rattle.ep_stream.specs.Sweep.{Taking, Taken, TellsGive, TellsTakings, MayFail, rows_of, records_in, open_rows, with_taking, hands_after, named_after, entries_in, point_after, named_behind}
+use Rattle.ep_stream.specs.Sweep.{Taking, Taken, TellsGive, TellsTakings, MayFail, rows_of, records_in, open_rows, with_taking, hands_after, named_after, entries_in, point_after}
 
 -- ---- hands
 
@@ -247,26 +247,9 @@ entries_in-one events stacks t = flat_map-cons (λ (x : Taking). entries_of even
 
 -- ---- the end
 
--- A call that failed at once has told nothing.
-pub tells_none : {S A : Type 0} (tells : S → Bool) (taken : S → List ℕ) (before : List ℕ) (defs : ℕ → Option EventDef) (info : TraceInfo) (told entries : List Entry) (fault : Fault) (writer : TraceWriter S) → IsTelling tells taken before defs info told writer → Tells {A = A} tells taken before defs info told entries (Err fault) writer
-tells_none tells taken before defs info told entries fault writer telling =
-    record {
-      done = [];
-      front = (entries, refl);
-      telling = subst (λ (es : List Entry). IsTelling tells taken before defs info es writer) (sym (append-nil told)) telling;
-      all = tt;
-    }
-
-pub point_none : (taken stamp : ℕ) (names : List Named) → taken ≡ 0 → point_after taken stamp names ≡ []
-point_none taken stamp names e = ap (λ (n : ℕ). point_after n stamp names) e
-
 pub point_some : (taken stamp : ℕ) (names : List Named) → taken ≢ 0 → point_after taken stamp names ≡ Point (point_of stamp (numbers_of names)) ∷ []
 point_some zero stamp names not = absurd (not refl)
 point_some (suc taken) stamp names not = refl
-
-pub behind_some : (taken : ℕ) (names : List Named) → taken ≢ 0 → named_behind taken names ≡ still_open names
-behind_some zero names not = absurd (not refl)
-behind_some (suc taken) names not = refl
 
 -- A call of the writer fails where it must, and what follows leaves the writer as it is.
 pub may_fail_with : {S A : Type 0} (faults : S → ℕ) (old mid new : TraceWriter S) (result : Result A Fault) → new ≡ mid → IsFaulty faults old mid result → MayFail faults old new result
@@ -310,7 +293,7 @@ faulty_ok faults old new a b f =
       later = f.later;
     }
 
-err_same : {A : Type 0} (result : Result A Fault) (a b : Fault) → result ≡ Err a → result ≡ Err b → a ≡ b
+pub err_same : {A : Type 0} (result : Result A Fault) (a b : Fault) → result ≡ Err a → result ≡ Err b → a ≡ b
 err_same result a b is also = cc
 
 pub faulty_err : {S A B : Type 0} (faults : S → ℕ) (old new : TraceWriter S) (answer : Result A Fault) (result : Result B Fault) (fault : Fault) → answer ≡ Err fault → result ≡ Err fault → IsFaulty faults old new answer → IsFaulty faults old new result

@@ -4,6 +4,7 @@ use Rattle.std.specs.Prelude.{slice_index_or, slice_set, ◌==◌, ◌&&◌, if�
 use Rattle.std.specs.List.{All}
 use Rattle.std.proofs.lemmas.Bool.{eqb-true, eq-eqb}
 use Rattle.std.proofs.lemmas.List.{set-set}
+use Rattle.std.proofs.lemmas.Option.{none-some}
 use Rattle.ep_defs.specs.declared.event.EventDef.{EventDef}
 use Rattle.ep_defs.specs.declared.session.TraceInfo.{TraceInfo}
 use Rattle.ep_defs.specs.Entry.{Entry}
@@ -31,21 +32,15 @@ batch_writable events hand records last batch k d small =
       fit = batch.fit k d small;
     }
 
-none_of : {A : Type 0} (hand : HandState) → None ≡ Some hand → A
-none_of hand e = absurd (clash e)
-  where
-    clash : None ≡ Some hand → ⊥
-    clash e = cc
-
 place_in : (hands : List (Option HandState)) (place : ℕ) (hand : HandState) → slice_index_or hands place None ≡ Some hand → place < length hands
-place_in [] zero hand is = none_of hand is
-place_in [] (suc place) hand is = none_of hand is
+place_in [] zero hand is = absurd (none-some hand is)
+place_in [] (suc place) hand is = absurd (none-some hand is)
 place_in (first ∷ hands) zero hand is = omega arith
 place_in (first ∷ hands) (suc place) hand is = let later = place_in hands place hand is in omega (arith, later)
 
 -- A row that has a hand is one of the list.
 pub row_in : (hands : List (Option HandState)) (row : ℕ) (hand : HandState) → hand_at hands row ≡ Some hand → (0 < row) × (row ≤ length hands)
-row_in hands zero hand is = none_of hand is
+row_in hands zero hand is = absurd (none-some hand is)
 row_in hands (suc place) hand is = (omega arith, (let small = place_in hands place hand is in omega (arith, small)))
 
 -- A hand is put down in place of one that was taken out.

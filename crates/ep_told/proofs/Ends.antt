@@ -6,14 +6,15 @@ use Rattle.ep_defs.specs.declared.event.EventDef.{EventDef}
 use Rattle.ep_defs.specs.declared.session.Marks.{Marks}
 use Rattle.ep_model.specs.declared.step.Step.{Step}
 use Rattle.ep_model.specs.declared.step.Step.TheVariants as step
-use Rattle.ep_model.specs.History.{Past, accepted, is_finished, opened, is_open}
+use Rattle.ep_model.specs.History.{Past, is_finished, opened, is_open}
 use Rattle.ep_model.specs.Lawful.{IsLawful, objections, is_open_somewhere}
 use Rattle.ep_model.specs.Marks.{marks_on, marks_of}
+use Rattle.ep_model.proofs.Objections.{none_there, needs_present}
+use Rattle.ep_model.proofs.Sessions.{finished_reached, finished_absent, none_absent, open_present, open_somewhere, was_reached, accept_unreached}
 use Rattle.ep_stream.specs.Session.{Rest}
 use Rattle.ep_told.specs.Kept.{RestFollows}
 use Rattle.ep_told.specs.Makers.{is_made_by}
-use Rattle.ep_told.proofs.Lists.{has, filter-all, map-same}
-use Rattle.ep_told.proofs.Pasts.{none_there, needs_present, accept_new, finished_accepted, finished_absent, none_absent, open_present, open_somewhere}
+use Rattle.ep_told.proofs.Lists.{filter-all, map-same}
 use Rattle.ep_told.proofs.Stays.{opened_stays, mark_stays}
 
 -- ---- its last marks
@@ -34,8 +35,8 @@ finish_ends session stamp past = or_left (session == session) (is_finished sessi
 pub none_made : (events : List EventDef) (session : ℕ) (past : Past) (made : Step) → IsLawful events (made ∷ past) → is_finished session past ≡ true → is_made_by session made ≡ false
 none_made events session past (step.Accept s config) lawful h =
     false_from_ne_true (s == session) (λ same. true≢false (
-    sym (finished_accepted events session past lawful.0 h)
-    ∙ subst (λ n. has n (accepted past) ≡ false) (eqb-true s session same) (accept_new events past s config lawful.1)
+    sym (finished_reached events session past lawful.0 h)
+    ∙ subst (λ n. was_reached n past ≡ false) (eqb-true s session same) (accept_unreached events past s config lawful.1)
     ))
 none_made events session past (step.Open s t) lawful h = none_absent s session past (finished_absent events session past lawful.0 h) (needs_present events past (step.Open s t) lawful.1)
 none_made events session past (step.Steal s t) lawful h = none_absent s session past (finished_absent events session past lawful.0 h) (needs_present events past (step.Steal s t) lawful.1)

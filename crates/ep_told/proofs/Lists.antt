@@ -1,15 +1,12 @@
 -- Numbers in lists that ascend, and what is kept for each of them.
 use Rattle.std.proofs.Common.{◌≡◌, ℕ, ◌<◌, Bool, true, false, List, [], ◌∷◌, map, refl, ap, sym, ◌∙◌, subst, arith, if◌then◌else◌}
 use Rattle.std.specs.Prelude.{◌||◌, filter, nat_lt, ◌==◌}
-use Rattle.std.specs.List.{list_any, AllByRecursion}
+use Rattle.std.specs.List.{AllByRecursion}
 use Rattle.std.proofs.lemmas.Bool.{eqb-true, eqb-false, eq-eqb, ne_eqb, ltb-true, ltb-false, lt-ltb, le-ltb, or_parts, or_left, or_right, false_from_ne_true, true≢false, false≢true}
 use Rattle.ep_model.specs.History.{insert_ascending}
+use Rattle.ep_model.proofs.Lists.{has}
 use Rattle.ep_stream.specs.declared.opened.Named.{Named}
 use Rattle.ep_stream.specs.Named.{insert_by, with_thread}
-
--- The number stands in the list.
-abbrev pub has : ℕ → List ℕ → Bool
-has n xs = list_any (λ x. x == n) xs
 
 -- ---- ascending numbers
 

@@ -1,5 +1,5 @@
 -- What the steps of others leave as it was.
-use Rattle.std.proofs.Common.{◌≡◌, ℕ, ◌+◌, Bool, true, false, List, [], ◌∷◌, ◌++◌, map, length, Option, Some, None, refl, ap, sym, ◌∙◌, arith, if◌then◌else◌}
+use Rattle.std.proofs.Common.{◌≡◌, ℕ, ◌+◌, Bool, true, false, List, [], ◌∷◌, ◌++◌, map, length, Option, Some, None, refl, ap, sym, ◌∙◌, if◌then◌else◌, zero-add}
 use Rattle.std.specs.Prelude.{◌&&◌, not, filter, is_some, unwrap_or, ◌==◌}
 use Rattle.std.proofs.lemmas.Bool.{not-true, false≢true}
 use Rattle.ep_defs.specs.declared.event.EventDef.{EventDef}
@@ -12,11 +12,13 @@ use Rattle.ep_model.specs.Fold.{Budget, budget_of, lacks_chunk, with_record, wit
 use Rattle.ep_model.specs.History.{Past, config_of, opened, opened_at, closed_at, to_of, is_open, shows, writes_of}
 use Rattle.ep_model.specs.Lawful.{IsLawful, was_opened}
 use Rattle.ep_model.specs.Marks.{marks_on}
+use Rattle.ep_model.proofs.Lists.{off_pair, and_more}
+use Rattle.ep_model.proofs.Due.{show_open}
 use Rattle.ep_stream.specs.Session.{Rest}
 use Rattle.ep_told.specs.Kept.{names_of, closed_marks, RestFollows}
 use Rattle.ep_told.specs.Makers.{is_made_by, is_told_by}
 use Rattle.ep_told.proofs.Lists.{filter-same, map-same_kept}
-use Rattle.ep_told.proofs.Pasts.{off_pair, closed_known, show_open}
+use Rattle.ep_told.proofs.Pasts.{closed_known}
 
 pub config_stays : (session : ℕ) (made : Step) (past : Past) → is_made_by session made ≡ false → config_of session (made ∷ past) ≡ config_of session past
 config_stays session (step.Accept s config) past off = rw off refl
@@ -103,14 +105,6 @@ known_or : (o : Option ℕ) (m n : ℕ) → is_some o ≡ true → unwrap_or o m
 known_or None m n known = absurd (false≢true known)
 known_or (Some x) m n known = refl
 
-and_three : (a b c : Bool) → (a && b) ≡ false → (a && b && c) ≡ false
-and_three true true c off = cc
-and_three true false c off = refl
-and_three false b c off = refl
-
-none_more : (n : ℕ) → 0 + n ≡ n
-none_more n = omega arith
-
 -- A thread that writes on, and a Show to a session that is open there, leave the marks of one on which it was closed.
 pub mark_stays : (events : List EventDef) (session thread : ℕ) (made : Step) (past : Past) → IsLawful events (made ∷ past) → is_made_by session made ≡ false → was_opened session thread past ≡ true → is_open session thread past ≡ false → marks_on session thread (made ∷ past) ≡ marks_on session thread past
 mark_stays events session thread (step.Begin t stamp write) past lawful off there shut =
@@ -122,10 +116,10 @@ mark_stays events session thread (step.Show t s) past lawful off there shut =
     let more : Bool → ℕ = λ v. (if v then 1 else 0) + written session thread past in
     let longer : Bool → List ℕ = λ v. if v then refused session thread past ++ (shows session thread past + 1) ∷ [] else refused session thread past in
     let writes : more ((s == session) && (t == thread) && not (is_refused session thread past)) ≡ written session thread past =
-    ap more (and_three (s == session) (t == thread) (not (is_refused session thread past)) away) ∙ none_more (written session thread past)
+    ap more (and_more (s == session) (t == thread) (not (is_refused session thread past)) away) ∙ zero-add (written session thread past)
     in
     let refuses : longer ((s == session) && (t == thread) && is_refused session thread past) ≡ refused session thread past =
-    ap longer (and_three (s == session) (t == thread) (is_refused session thread past) away)
+    ap longer (and_more (s == session) (t == thread) (is_refused session thread past) away)
     in
     ap (λ n. mark n (longer ((s == session) && (t == thread) && is_refused session thread past))) writes
     ∙ ap (mark (written session thread past)) refuses

@@ -13,14 +13,17 @@ use Rattle.ep_model.specs.Fold.{budget_of}
 use Rattle.ep_model.specs.History.{Past, insert_ascending, opened, opened_at, closed_at, to_of, is_open, shows, writes_of}
 use Rattle.ep_model.specs.Lawful.{IsLawful, objections}
 use Rattle.ep_model.specs.Marks.{marks_on}
+use Rattle.ep_model.proofs.Lists.{has}
+use Rattle.ep_model.proofs.Objections.{none_there, open_new, close_open}
+use Rattle.ep_model.proofs.Sessions.{accept_new, untouched, open_opened}
 use Rattle.nt_write.specs.Writer.{point_of}
 use Rattle.ep_stream.specs.declared.opened.Named.{Named}
 use Rattle.ep_stream.specs.declared.session.Seat.{Seat}
 use Rattle.ep_stream.specs.Named.{first_named, insert_by, with_thread, with_number, still_open, numbers_of, with_marks}
 use Rattle.ep_stream.specs.Session.{Rest, new_rest}
 use Rattle.ep_told.specs.Kept.{named_on, names_of, closed_marks, RestFollows}
-use Rattle.ep_told.proofs.Lists.{has, IsAscending, ascending-filter, has-apart, filter-insert_kept, filter-insert_dropped, filter-same, filter-both, filter-more, map-same_kept, map-mapped, filter-mapped, map-insert, map-changed}
-use Rattle.ep_told.proofs.Pasts.{none_there, accept_new, untouched, open_opened, open_new, opened_ascending, close_open, none_told}
+use Rattle.ep_told.proofs.Lists.{IsAscending, ascending-filter, has-apart, filter-insert_kept, filter-insert_dropped, filter-same, filter-both, filter-more, map-same_kept, map-mapped, filter-mapped, map-insert, map-changed}
+use Rattle.ep_told.proofs.Pasts.{opened_ascending, none_told}
 
 same_number : (n : ℕ) → nat_eq n n ≡ true
 same_number n = eq-eqb n n refl
@@ -89,12 +92,8 @@ opened_follows events past rest thread h lawful =
 
 -- ---- what a thread has is taken
 
--- Nothing was in hand, so just this is.
-none_left : (n : ℕ) → nat_lt 0 n ≡ false → n ≡ 0
-none_left n is = let most = ltb-false 0 n is in omega arith
-
 hand_taken : (n held chunks : ℕ) → nat_lt 0 n ≡ false → n ≡ held → held + chunks ≡ chunks
-hand_taken n held chunks empty counted = let none = none_left n empty in omega arith
+hand_taken n held chunks empty counted = let none = ltb-false 0 n empty in omega (arith, none, counted)
 
 and_true : (b : Bool) → (b && true) ≡ b
 and_true true = refl

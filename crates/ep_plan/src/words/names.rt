@@ -6,7 +6,7 @@ use ep_defs::{Items, Units};
 use std::alloc::{AllocError, Global};
 
 /// The name of a provider: one or more ASCII characters from `!` to `~`, none of them a colon.
-pub(crate) fn provider(alloc: Global, word: &[u8]) -> Result<Option<Units>, AllocError>
+pub fn provider(alloc: Global, word: &[u8]) -> Result<Option<Units>, AllocError>
     ensures { IfOk result (λ name. name ≡ provider_in word.now) }
 {
     if word.is_empty() || !word.iter().all(|byte| is_name_byte(*byte)) {

@@ -13,7 +13,7 @@ pub fn number(word: &[u8], most: u64) -> Option<u64>
 }
 
 /// The number of one hexadecimal digit or more, of either case.
-pub(crate) fn hexadecimal(word: &[u8]) -> Option<u64>
+pub fn hexadecimal(word: &[u8]) -> Option<u64>
     ensures { result ≡ hex_in word.now }
 {
     numeral(word, 16, HEX_DIGITS)

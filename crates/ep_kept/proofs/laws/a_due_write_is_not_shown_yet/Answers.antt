@@ -1,6 +1,8 @@
 use Rattle.std.proofs.Common.{◌≡◌, ap, arith}
 use Rattle.ep_model.specs.History.{is_due}
-use Rattle.ep_kept.proofs.Pasts.{one_if, shown_begun, writes_begun}
+use Rattle.ep_model.proofs.Sessions.{writes_begun}
+use Rattle.ep_row.specs.Bits.{one_if}
+use Rattle.ep_kept.proofs.Pasts.{shown_begun}
 use Rattle.ep_kept.proofs.laws.a_due_write_is_not_shown_yet.Goals as goal
 
 pub returns : goal.returns

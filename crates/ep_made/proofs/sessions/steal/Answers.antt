@@ -7,12 +7,14 @@ use Rattle.nt_write.specs.declared.fault.Fault.TheVariants.{TooLong}
 use Rattle.ep_stream.specs.Session.{Rest, rest_of, Writes}
 use Rattle.ep_stream.specs.Steps.{Steals}
 use Rattle.ep_stream.specs.Telling.{entries_of}
+use Rattle.ep_stream.proofs.Telling.{err_is}
+use Rattle.ep_stream.proofs.Sweep.{err_same}
 use Rattle.ep_rows.specs.Rows.{told_of}
 use Rattle.ep_judge.specs.Can.{HasRow, IsOn, HasEmptyHand}
 use Rattle.ep_judge.specs.declared.tables.Present.{Present}
 use Rattle.ep_made.specs.Made.{StealsOn, IsSpent}
 use Rattle.ep_made.specs.Tied.{IsTied}
-use Rattle.ep_made.proofs.Telling.{tells_in, spent_in, err_is, err_same}
+use Rattle.ep_made.proofs.Telling.{tells_in, spent_in}
 use Rattle.ep_made.proofs.Turning.{stands_at, one_of, holds_at, turn_made, session_tied, hand_now}
 use Rattle.ep_made.proofs.sessions.steal.Goals as goal
 

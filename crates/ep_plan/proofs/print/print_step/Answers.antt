@@ -10,6 +10,6 @@ put_step-requires c = can-parts c.args.step.now c.requires
 
 pub returns-clause-read : goal.returns-clause-read
 returns-clause-read c = λ events stepped.
-    let text = c.in_ok-put_step.ensures.text ∙ ap (λ xs. xs ++ step_text c.args.step.now) c.new-line.ensures.items in
+    let text = c.in_ok-put_step.ensures ∙ ap (λ xs. xs ++ step_text c.args.step.now) c.new-line.ensures.items in
     let is_line : List ℕ → Type 0 = λ xs. IsLine events stepped xs (StepLine c.args.step.now) in
-    subst is_line (sym text) (read-again events stepped c.args.step.now c.in_ok-put_step.ensures.fits c.requires)
+    subst is_line (sym text) (read-again events stepped c.args.step.now c.step_fits.ensures c.requires)

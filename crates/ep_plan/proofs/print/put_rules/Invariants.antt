@@ -1,11 +1,7 @@
 use Rattle.std.proofs.Common.{◌≡◌, ◌++◌, take, map}
-use Rattle.std.specs.List.{AllByRecursion}
 use Rattle.ep_plan.specs.Words.{rule_text}
-use Rattle.ep_plan.specs.Printing.{spaced, RuleFits}
+use Rattle.ep_plan.specs.Printing.{spaced}
 use Rattle.ep_plan.proofs.print.put_rules.Given as goal
 
 abbrev pub invariant-loop-rule : goal.invariant-loop-rule
-invariant-loop-rule l = record {
-  text : l.line.items ≡ l.fn.line.items ++ spaced (map rule_text (take l.rule-index l.rules));
-  fits : AllByRecursion RuleFits (take l.rule-index l.rules);
-}
+invariant-loop-rule l = l.line.items ≡ l.fn.line.items ++ spaced (map rule_text (take l.rule-index l.rules))

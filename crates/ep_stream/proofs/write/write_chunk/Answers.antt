@@ -3,12 +3,14 @@ use Rattle.std.proofs.lemmas.List.{append-nil}
 use Rattle.ep_defs.specs.Definitions.{definition_at}
 use Rattle.ep_defs.specs.Entry.{Entry}
 use Rattle.ep_chunk.specs.Record.{Record, size_of, total_size}
+use Rattle.ep_chunk.proofs.Placed.{records_at-zero}
 use Rattle.ep_stream.specs.Telling.{IsTelling, Tells, entry_of, entries_of}
 use Rattle.std.specs.Prelude.{Result, Ok, Err}
 use Rattle.std.proofs.lemmas.List.Concat.{flat_map-cons}
+use Rattle.std.proofs.lemmas.Option.{same_Some}
 use Rattle.nt_write.specs.declared.fault.Fault.{Fault}
 use Rattle.ep_stream.proofs.Telling.{told_after, tells_after, tells_all, err_is}
-use Rattle.ep_stream.proofs.Reading.{at_start, some_same, writable_here, readable, entries_of-append, one_entry}
+use Rattle.ep_stream.proofs.Reading.{writable_here, readable, entries_of-append, one_entry}
 use Rattle.ep_stream.proofs.write.write_chunk.Goals as goal
 
 pub loop-rec-init : goal.loop-rec-init
@@ -17,7 +19,7 @@ loop-rec-init g c =
       done = [];
       rest = c.args.chunk.now;
       split = refl;
-      at = at_start c.args.chunk.now;
+      at = records_at-zero c.args.chunk.now;
       size = omega arith;
       sound = c.requires.sound;
       later = omega arith;
@@ -28,7 +30,7 @@ pub write_record-requires-clause-record : goal.write_record-requires-clause-reco
 write_record-requires-clause-record g c =
     let inv = c.loop-rec.invariant in
     let t = c.in-Some.ensures.told in
-    let rest_is : inv.rest ≡ t.told ∷ t.others = some_same inv.rest (t.told ∷ t.others) (sym inv.at ∙ t.here) in
+    let rest_is : inv.rest ≡ t.told ∷ t.others = same_Some inv.rest (t.told ∷ t.others) (sym inv.at ∙ t.here) in
     let split : inv.done ++ t.told ∷ t.others ≡ c.args.chunk.now = ap (λ (rs : List Record). inv.done ++ rs) (sym rest_is) ∙ inv.split in
     readable c.args.events.now t.told c.in-Some.rec (writable_here c.args.events.now inv.done t.told t.others c.args.chunk.now split c.requires.records) t.parts
 
@@ -38,7 +40,7 @@ loop-rec-preserved g c =
     let t = c.in-Some.ensures.told in
     let events = c.args.events.now in
     let stacks = c.args.stacks in
-    let rest_is : inv.rest ≡ t.told ∷ t.others = some_same inv.rest (t.told ∷ t.others) (sym inv.at ∙ t.here) in
+    let rest_is : inv.rest ≡ t.told ∷ t.others = same_Some inv.rest (t.told ∷ t.others) (sym inv.at ∙ t.here) in
     let total : total_size inv.rest ≡ size_of t.told + total_size t.others = ap total_size rest_is in
     let next = t.next in
     record {
@@ -63,7 +65,7 @@ returns-in_err-write_record-clause-writes g c before info told now =
     let events = c.args.events.now in
     let stacks = c.args.stacks in
     let fault : Fault = c.in_err-write_record.field-0.0 in
-    let rest_is : inv.rest ≡ t.told ∷ t.others = some_same inv.rest (t.told ∷ t.others) (sym inv.at ∙ t.here) in
+    let rest_is : inv.rest ≡ t.told ∷ t.others = same_Some inv.rest (t.told ∷ t.others) (sym inv.at ∙ t.here) in
     let split : inv.done ++ t.told ∷ t.others ≡ c.args.chunk.now = ap (λ (rs : List Record). inv.done ++ rs) (sym rest_is) ∙ inv.split in
     let chunk_is : entries_of events stacks c.args.chunk.now ≡ entries_of events stacks inv.done ++ (entry_of events stacks t.told ++ entries_of events stacks t.others) =
     ap (λ (rs : List Record). entries_of events stacks rs) (sym split)
@@ -80,7 +82,7 @@ returns-clause-writes g c before info told now =
     let inv = c.loop-rec.invariant in
     let events = c.args.events.now in
     let stacks = c.args.stacks in
-    let rest_is : inv.rest ≡ [] = some_same inv.rest [] (sym inv.at ∙ c.in_default.ensures.over) in
+    let rest_is : inv.rest ≡ [] = same_Some inv.rest [] (sym inv.at ∙ c.in_default.ensures.over) in
     let done_is : inv.done ≡ c.args.chunk.now = sym (append-nil inv.done) ∙ ap (λ (rs : List Record). inv.done ++ rs) (sym rest_is) ∙ inv.split in
     subst (λ (rs : List Record). Tells {A = Unit {0}} g.S.Sink.tells_taken g.S.Sink.taken before (definition_at events) info told (entries_of events stacks rs) (Ok tt) c.loop-rec.writer) done_is
     (tells_all g.S.Sink.tells_taken g.S.Sink.taken before (definition_at events) info told (entries_of events stacks inv.done) tt c.loop-rec.writer (inv.telling before info told now))

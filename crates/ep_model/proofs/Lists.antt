@@ -1,0 +1,100 @@
+-- Tests, and numbers that stand in lists.
+use Rattle.std.proofs.Common.{◌≡◌, ℕ, ◌+◌, Bool, true, false, inl, inr, List, ◌∷◌, length, filter, refl, ap, sym, ◌∙◌, subst, arith, []}
+use Rattle.std.specs.Prelude.{◌&&◌, ◌||◌, nat_lt, nat_le, ◌==◌, if◌then◌else◌}
+use Rattle.std.specs.List.{list_any}
+use Rattle.std.proofs.lemmas.Bool.{eqb-true, eqb-false, ne_eqb, le-leb, and_parts, or_cases, or_parts, or_left, or_right, false_from_ne_true, true≢false}
+use Rattle.ep_model.specs.History.{insert_ascending}
+
+-- ---- tests
+
+-- Two tests that follow from each other.
+pub same_bools : (a b : Bool) → (a ≡ true → b ≡ true) → (b ≡ true → a ≡ true) → a ≡ b
+same_bools true true f g = refl
+same_bools false false f g = refl
+same_bools true false f g = sym (f refl)
+same_bools false true f g = g refl
+
+-- One of two tests passes, and another in the place of the second.
+pub or_more : (a b c : Bool) → (b ≡ true → c ≡ true) → (a || b) ≡ true → (a || c) ≡ true
+or_more true b c more h = refl
+or_more false b c more h = more h
+
+-- Of three tests the first two can change places.
+pub or_swap : (a b c : Bool) → (a || (b || c)) ≡ (b || (a || c))
+or_swap true true c = refl
+or_swap true false c = refl
+or_swap false true c = refl
+or_swap false false c = refl
+
+-- Where two of three fail together, so do all three.
+pub and_more : (a b c : Bool) → (a && b) ≡ false → (a && b && c) ≡ false
+and_more false b c off = refl
+and_more true false c off = refl
+and_more true true c off = cc
+
+-- Numbers that differ differ either way round.
+pub eqb_turn : (a b : ℕ) → (a == b) ≡ false → (b == a) ≡ false
+eqb_turn a b off = ne_eqb b a (λ same. eqb-false a b off (sym same))
+
+-- What holds of two numbers holds of two that are the same.
+pub at_pair : (P : ℕ → ℕ → Type 0) (s t session thread : ℕ) → P s t → ((s == session) && (t == thread)) ≡ true → P session thread
+at_pair P s t session thread holds both =
+    let parts = and_parts (s == session) (t == thread) both in
+    subst (λ n. P n thread) (eqb-true s session parts.0) (subst (λ m. P s m) (eqb-true t thread parts.1) holds)
+
+-- A test that two numbers pass and two others fail.
+pub off_pair : (P : ℕ → ℕ → Bool) (s t session thread : ℕ) → P s t ≡ true → P session thread ≡ false → ((s == session) && (t == thread)) ≡ false
+off_pair P s t session thread is none =
+    false_from_ne_true ((s == session) && (t == thread)) (λ both. true≢false (sym (at_pair (λ n m. P n m ≡ true) s t session thread is both) ∙ none))
+
+-- ---- lists
+
+-- The number stands in the list.
+abbrev pub has : ℕ → List ℕ → Bool
+has n xs = list_any (λ x. x == n) xs
+
+-- What passes a test passes a weaker one.
+pub any_more : {A : Type 0} (p q : A → Bool) → ((x : A) → p x ≡ true → q x ≡ true) → (xs : List A) → list_any p xs ≡ true → list_any q xs ≡ true
+any_more p q more [] h = h
+any_more p q more (x ∷ xs) h =
+    elim (or_cases (p x) (list_any p xs) h) [ inl first ↦ or_left (q x) (list_any q xs) (more x first) | inr later ↦ or_right (q x) (list_any q xs) (any_more p q more xs later) ]
+
+-- A number of the list passes.
+pub any_of : (p : ℕ → Bool) (n : ℕ) (xs : List ℕ) → p n ≡ true → has n xs ≡ true → list_any p xs ≡ true
+any_of p n xs passes is = any_more (λ x. x == n) p (λ x same. ap p (eqb-true x n same) ∙ passes) xs is
+
+-- A number of the list is kept and passes.
+pub any_kept : (keep test : ℕ → Bool) (n : ℕ) (xs : List ℕ) → keep n ≡ true → test n ≡ true → has n xs ≡ true → list_any test (filter keep xs) ≡ true
+any_kept keep test n [] kept passes is = is
+any_kept keep test n (x ∷ xs) kept passes is =
+    elim (or_cases (x == n) (has n xs) is) [
+      | inl same ↦ rw (eqb-true x n same, kept, passes) refl
+      | inr later ↦
+          let rest = any_kept keep test n xs kept passes later in
+          elim (keep x) as (λ v. list_any test (if v then x ∷ filter keep xs else filter keep xs) ≡ true)
+          [ true ↦ or_right (test x) _ rest | false ↦ rest ]
+    ]
+
+-- A number above all others is none of them.
+pub above_none : (n : ℕ) (xs : List ℕ) → list_any (λ x. nat_le n x) xs ≡ false → has n xs ≡ false
+above_none n [] none = refl
+above_none n (x ∷ xs) none =
+    let off = or_parts (nat_le n x) (list_any (λ y. nat_le n y) xs) none in
+    let apart : (x == n) ≡ false = ne_eqb x n (λ same. true≢false (sym (le-leb n x (omega arith)) ∙ off.0)) in
+    ap (λ v. v || has n xs) apart ∙ above_none n xs off.1
+
+-- ---- a number that is inserted
+
+-- It is one more of the list.
+pub any_inserted : (p : ℕ → Bool) (n : ℕ) (ms : List ℕ) → list_any p (insert_ascending n ms) ≡ (p n || list_any p ms)
+any_inserted p n [] = refl
+any_inserted p n (m ∷ ms) =
+    elim (nat_lt n m) as (λ b. list_any p (if b then n ∷ m ∷ ms else m ∷ insert_ascending n ms) ≡ (p n || (p m || list_any p ms)))
+    [ true ↦ refl | false ↦ ap (λ t. p m || t) (any_inserted p n ms) ∙ or_swap (p m) (p n) (list_any p ms) ]
+
+-- The list is longer by it.
+pub length_inserted : (n : ℕ) (ms : List ℕ) → length (insert_ascending n ms) ≡ length ms + 1
+length_inserted n [] = refl
+length_inserted n (m ∷ ms) =
+    let more = length_inserted n ms in
+    elim (nat_lt n m) as (λ b. length (if b then n ∷ m ∷ ms else m ∷ insert_ascending n ms) ≡ length (m ∷ ms) + 1) [ true ↦ omega arith | false ↦ omega arith ]
