@@ -1,18 +1,6 @@
-pub mod Answered
-pub mod Ending
-pub mod Finishes
-pub mod Found
-pub mod Judged
-pub mod Lists
-pub mod Made
-pub mod OnThreads
-pub mod Pasts
-pub mod Remains
-pub mod Run
-pub mod Shows
-pub mod Stays
-pub mod Tables
-pub mod Told
-pub mod Turns
-pub mod Threads
-pub mod Beginnings
+mod Ending
+mod Machines
+mod Once
+mod Run
+mod Taking
+mod Working

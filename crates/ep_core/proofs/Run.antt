@@ -7,7 +7,7 @@ use Rattle.ep_defs.specs.declared.session.TraceInfo.{TraceInfo}
 use Rattle.ep_model.specs.declared.step.Step.{Step}
 use Rattle.ep_model.specs.declared.step.Unlawful.{Unlawful}
 use Rattle.ep_model.specs.History.{Past}
-use Rattle.ep_model.specs.today.Lawful.{first_unlawful, unlawful, kind_of}
+use Rattle.ep_model.specs.Lawful.{first_unlawful, unlawful, objection_to}
 use Rattle.ep_core.specs.declared.machine.Machine.{Machine}
 use Rattle.ep_core.specs.Machine.{Follows, steps_of, has_failed}
 
@@ -34,7 +34,7 @@ reverse_more made s past = ap (λ xs. xs ++ past) (reverse-append made (s ∷ []
 
 -- It makes one more.
 pub ran_more : (old new next : Machine) (made : List Step) (s : Step) → Ran old made new
-    → ((events : List EventDef) (info : TraceInfo) (past : Past) → Follows events info past new → (kind_of events past s ≡ None) × Follows events info (s ∷ past) next)
+    → ((events : List EventDef) (info : TraceInfo) (past : Past) → Follows events info past new → (objection_to events past s ≡ None) × Follows events info (s ∷ past) next)
     → steps_of next ≡ steps_of new + 1 → has_failed next ≡ false → Ran old (made ++ s ∷ []) next
 ran_more old new next made s ran makes count working =
     record {
@@ -56,7 +56,7 @@ ran_more old new next made s ran makes count working =
 -- It can't make the next one.
 pub ran_refused : (old new after : Machine) (made : List Step) (s : Step) (more steps : List Step) (events : List EventDef) (info : TraceInfo) (past : Past) (why : Unlawful) → Ran old made new
     → steps ≡ made ++ s ∷ more → Follows events info past old
-    → (Follows events info (reverse made ++ past) new → (kind_of events (reverse made ++ past) s ≡ Some why.kind) × (why.step ≡ length (reverse made ++ past) + 1)) → after ≡ new
+    → (Follows events info (reverse made ++ past) new → (objection_to events (reverse made ++ past) s ≡ Some why.kind) × (why.step ≡ length (reverse made ++ past) + 1)) → after ≡ new
     → (first_unlawful events (length past + 1) past steps ≡ Some why) × Follows events info (reverse (take (why.step - length past - 1) steps) ++ past) after
 ran_refused old new after made s more steps events info past why ran all h refused unchanged =
     let follows = ran.follows events info past h in

@@ -1,5 +1,5 @@
 -- A stream that tells of each thread the writes that were admitted, less those that were refused.
-use Rattle.std.specs.Prelude.{◌≡◌, ℕ, true, false, List, ◌∷◌, ◌++◌, []}
+use Rattle.std.specs.Prelude.{◌≡◌, true, false, List, ◌∷◌}
 use Rattle.std.specs.List.{AllByRecursion}
 use Rattle.ep_defs.specs.declared.session.TraceInfo.{TraceInfo}
 use Rattle.ep_defs.specs.declared.item.Item.{Item}
@@ -8,7 +8,7 @@ use Rattle.ep_defs.specs.declared.item.ItemKind.TheVariants as item
 use Rattle.ep_defs.specs.Entry.{Entry}
 use Rattle.nt_blocks.specs.Ordered.{kinds_of, Tell}
 use Rattle.nt_write.specs.Canonical.{is_trace, is_plain}
-use Rattle.ep_model.specs.today.Faithful.{Share, totals, AreFaithful}
+use Rattle.ep_model.specs.Faithful.{Share, AreFaithful}
 
 -- A stream's items tell the shares of the threads.
 pub record Faithful (shares : List Share) (items : List Item) : Type 0 where
@@ -22,7 +22,3 @@ pub record Faithful (shares : List Share) (items : List Item) : Type 0 where
   pub told : Tell items entries
   pub plain : AllByRecursion (λ kind. is_plain kind ≡ true) others
   pub faithful : AreFaithful shares entries
-  -- the last item is a point with the totals
-  pub front : List ItemKind
-  pub stamp : ℕ
-  pub last : kinds_of items ≡ front ++ item.Point stamp (totals shares) ∷ []

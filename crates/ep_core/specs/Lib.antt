@@ -1,5 +1,4 @@
-pub mod Bounds
 pub mod Faithful
-pub mod Judge
 pub mod Machine
 pub mod Streams
+pub mod state

@@ -5,15 +5,16 @@ use Rattle.ep_defs.specs.declared.session.TraceInfo.{TraceInfo}
 use Rattle.nt_blocks.specs.Ordered.{AreOrdered}
 use Rattle.nt_blocks.specs.Verdict.{Good, verdict}
 use Rattle.nt_write.specs.Canonical.{IsCanonical}
+use Rattle.ep_model.specs.Entries.{entries}
+use Rattle.ep_model.specs.Faithful.{shares_of}
 use Rattle.ep_model.specs.History.{Past}
-use Rattle.ep_model.specs.today.Entries.{entries}
-use Rattle.ep_model.specs.today.Faithful.{shares_of, no_refusals}
 use Rattle.ep_core.specs.Faithful.{Faithful}
 
 -- The bytes are the one stream of the session's entries. They are found to be a whole stream, in whose items each name is
--- defined before its use, and the items tell of each thread exactly the writes that the session admitted, none refused.
+-- defined before its use, and the items tell of each thread exactly the writes that the session admitted, less those that
+-- were refused.
 pub record IsStreamOf (events : List EventDef) (info : TraceInfo) (session : ℕ) (past : Past) (bytes : List ℕ) : Type 0 where
   pub canonical : IsCanonical info (entries events session past) bytes
   pub found : verdict bytes ≡ Good canonical.items
   pub ordered : AreOrdered canonical.items
-  pub faithful : Faithful (shares_of events session past no_refusals) canonical.items
+  pub faithful : Faithful (shares_of events session past) canonical.items

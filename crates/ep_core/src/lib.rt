@@ -1,23 +1,18 @@
 //! The machine that makes the steps of a schedule, one after another.
 //!
-//! `judge` says what stands against a step, and changes nothing; `machine` makes it, on the piece that it concerns: a
-//! `thread`, a session that is present (`live`) and its `buffer` of a thread. `ended` is what is left of a finished
-//! session. What they stand for is defined in `specs/`: `Machine`, `Streams` and `Faithful`. It stands on ep_model, for the
-//! steps, nt_write, for the streams, nt_whole, for how they are read, pt_io, for their sinks, and ep_defs, for the types.
+//! `work` makes a step in the tables of sessions, threads and rows, and `machine` asks first what stands against it and
+//! keeps what is left of finished sessions (`ended`). It stands on ep_made, for the steps, ep_judge, for what stands
+//! against them, and on the laws of ep_stands, ep_rests, ep_told and nt_whole. `specs/Machine` says what the machine has
+//! come to, `specs/Streams` and `specs/Faithful` what the stream of a finished session is.
 //!
 //! Its one contract: after every lawful list of steps the stream of a finished session is the canonical one of its
 //! entries, and faithful; a step that can't be made is refused with its first kind and changes nothing.
 #![tactic(auto)]
 
-mod buffer;
 mod ended;
-mod events;
-mod judge;
-mod live;
 mod machine;
-mod thread;
-
-pub use machine::{Machine, StepFault};
-
 #[cfg(test)]
 mod tests;
+mod work;
+
+pub use machine::{Machine, StepFault};

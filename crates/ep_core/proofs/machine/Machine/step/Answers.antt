@@ -1,21 +1,31 @@
-use Rattle.std.proofs.Common.{◌≡◌, ◌+◌, ◌∷◌, length, Some, arith, ap, sym, ◌∙◌}
-use Rattle.ep_model.specs.declared.step.Unlawful.{Unlawful}
-use Rattle.ep_core.specs.Machine.{Stands}
-use Rattle.ep_core.proofs.Judged.{stands_counted, well_at}
+use Rattle.std.proofs.Common.{◌≡◌, ◌∷◌, sym, ◌∙◌}
+use Rattle.std.proofs.Math.Logic.{∥∥₁_map}
+use Rattle.ep_model.specs.Lawful.{IsLawful}
+use Rattle.ep_core.proofs.Machines.{can_found, went_well}
 use Rattle.ep_core.proofs.machine.Machine.step.Goals as goal
 
-pub returns-in-Some-clause-unlawful : goal.returns-in-Some-clause-unlawful
-returns-in-Some-clause-unlawful c events info past why follows is =
-    let at : Unlawful = record { step = c.args.self.now.steps + 1; kind = c.in-Some.kind } in
-    let same : at ≡ why = cc is in (
-      sym (c.objection.ensures.is events info past follows.stands) ∙ c.in-Some.is ∙ ap (λ (w : Unlawful). Some w.kind) same,
-      ap (λ (w : Unlawful). w.step) (sym same) ∙ ap (λ n. n + 1) follows.count,
-    )
+pub make-requires-clause-can : goal.make-requires-clause-can
+make-requires-clause-can c =
+    can_found c.args.step c.args.self.now.work.tables (∥∥₁_map (c.args.self.now.stands c.if-self.false) (λ h. c.in_default.ensures.can h.events h.past h.works.follow))
 
-pub returns-clause-made : goal.returns-clause-made
-returns-clause-made c events info past follows =
-    let lawful = sym (c.objection.ensures.is events info past follows.stands) ∙ c.in_default.is in
-    let well = sym c.is_err.ensures.value ∙ c.if-is_err.false in
-    let stands = well_at (Stands events info (c.args.step ∷ past) c.make.new.self) c.make.result well (c.make.ensures.ok events info past (follows.stands.lawful, lawful) follows.stands) in
-    let count : c.make.new.self.steps ≡ length past = c.make.ensures.kept.0 ∙ follows.count in
-    (lawful, record { count = omega (arith, count); stands = stands_counted events info (c.args.step ∷ past) c.make.new.self (c.make.new.self.steps + 1) stands })
+pub make-requires-clause-goes : goal.make-requires-clause-goes
+make-requires-clause-goes c =
+    ∥∥₁_map (c.args.self.now.stands c.if-self.false) (λ h. record {
+      events = h.events;
+      info = c.args.self.now.info;
+      past = h.past;
+      lawful = (h.works.lawful, sym (c.objection.ensures.is h.events h.past h.works.follow) ∙ c.in_default.is);
+      works = h.works;
+    })
+
+pub invariant_of-self-2 : goal.invariant_of-self-2
+invariant_of-self-2 c =
+    record {
+      stands = λ _. ∥∥₁_map (c.args.self.now.stands c.if-self.false) (λ h.
+          let lawful : IsLawful h.events (c.args.step ∷ h.past) = (h.works.lawful, sym (c.objection.ensures.is h.events h.past h.works.follow) ∙ c.in_default.is) in
+          record {
+            events = h.events;
+            past = c.args.step ∷ h.past;
+            works = went_well c.make.result (sym c.is_err.ensures.value ∙ c.if-is_err.false) (c.make.ensures.works h.events h.past lawful h.works);
+          });
+    }

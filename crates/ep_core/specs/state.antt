@@ -1,0 +1,2 @@
+-- What the private fields of the machine stand for.
+pub mod Works
