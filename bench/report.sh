@@ -1,8 +1,9 @@
 #!/bin/sh
 # Prints the time and the peak memory of `tracepipe report` on a trace of 10 MB and one of 100 MB, of plain events and of
 # events with 16 bytes of payload, as ratios to `wc -c` and `sha256sum` of the same bytes measured in one run, with the
-# events a second. Then the instructions an event, counted by callgrind (valgrind, a Debian package). Times are processor
-# times, the least of some runs. It needs python3 and GNU time.
+# events a second. Then the instructions an event, counted by callgrind (valgrind, a Debian package), which counts each
+# byte of a string instruction's copy as one. Times are processor times, the least of some runs. It needs python3 and GNU
+# time.
 here=$(cd "$(dirname "$0")/.." && pwd) || exit 1
 runs=${1:-5}
 work=$(mktemp -d) || exit 1
@@ -64,11 +65,13 @@ def measure(words):
     """The least processor time in seconds of some runs, and the peak memory in KiB of one."""
     least = float("inf")
     for _ in range(runs):
-        with open(f"{work}/trace", "rb") as given:
-            child = subprocess.Popen(words, stdin=given, stdout=subprocess.DEVNULL)
-            _, status, used = os.wait4(child.pid, 0)
-            child.returncode = os.waitstatus_to_exitcode(status)
-        assert child.returncode == 0
+        # by a pipe, since of a file `wc -c` reads no byte
+        given = subprocess.Popen(["cat", f"{work}/trace"], stdout=subprocess.PIPE)
+        child = subprocess.Popen(words, stdin=given.stdout, stdout=subprocess.DEVNULL)
+        given.stdout.close()
+        _, status, used = os.wait4(child.pid, 0)
+        child.returncode = os.waitstatus_to_exitcode(status)
+        assert child.returncode == 0 and given.wait() == 0
         least = min(least, used.ru_utime + used.ru_stime)
     return least, int(run(["/usr/bin/time", "-f", "%M", *words]).stderr)
 

@@ -20,23 +20,6 @@ use Rattle.nt_read.proofs.Steps.{verdict-starts, waits}
 
 -- ---- part of a piece
 
-pub reads-none : (reader : TraceReader) (bytes : List ℕ) (items : List Item) → Reads reader bytes reader bytes items items
-reads-none reader bytes items = record {
-  found = [];
-  given = sym (append-nil items);
-  goes = λ told more. rw (append-nil told) refl;
-}
-
-pub reads-then : (a b c : TraceReader) (bytes mid rest : List ℕ) (old between new : List Item) → Reads a bytes b mid old between → Reads b mid c rest between new → Reads a bytes c rest old new
-reads-then a b c bytes mid rest old between new first later = record {
-  found = first.found ++ later.found;
-  given = later.given ∙ ap (λ (l : List Item). l ++ later.found) first.given ∙ append_assoc old first.found later.found;
-  goes = λ told more.
-      first.goes told more
-      ∙ later.goes (told ++ first.found) more
-      ∙ ap (λ (l : List Item). from c l (rest ++ more)) (append_assoc told first.found later.found);
-}
-
 pub stops-then : (a b : TraceReader) (bytes mid : List ℕ) (old between new : List Item) (refused : ReadFault) → Reads a bytes b mid old between → StopsAt b mid between new refused → StopsAt a bytes old new refused
 stops-then a b bytes mid old between new (fault.Bad at kind) first later = record {
   why = later.why;
@@ -78,14 +61,6 @@ runs-out reader bytes items = record {
 -- Memory ran out behind part of the bytes.
 pub reads-out : (a b : TraceReader) (bytes rest : List ℕ) (old new : List Item) → Reads a bytes b rest old new → RunsOut a bytes old new
 reads-out a b bytes rest old new reads = stops-then a b bytes rest old new new fault.OutOfMemory reads (runs-out b rest new)
-
--- What is left of a piece is kept.
-pub reads-kept : (a b c : TraceReader) (bytes rest : List ℕ) (old new : List Item) → Reads a bytes b rest old new → c.stage ≡ b.stage → c.at ≡ b.at → c.pending.items ≡ b.pending.items → c.kept.items ≡ b.kept.items ++ rest → Reads a bytes c [] old new
-reads-kept a b c bytes rest old new first stage at pending kept = record {
-  found = first.found;
-  given = first.given;
-  goes = λ told more. first.goes told more ∙ rw (stage, at, pending, kept, append_assoc b.kept.items rest more) refl;
-}
 
 -- The unit whose last bytes are these, before what follows it.
 unit-front : (kept bytes more : List ℕ) (lacking : ℕ) → kept ++ (bytes ++ more) ≡ (kept ++ take lacking bytes) ++ (drop lacking bytes ++ more)

@@ -3,7 +3,7 @@ ghost use Rattle.std.specs.Prelude.{◌≡◌, ℕ, ◌+◌, ◌<◌, ◌≤◌,
 ghost use Rattle.std.specs.Cmp.Lexicographic.{pointwise};
 ghost use Rattle.byteorder.specs.Endian.{little_number};
 ghost use Rattle.ep_defs.specs.declared.item.Item.{Item};
-ghost use Rattle.pt_num.specs.Texts.{units_in};
+ghost use Rattle.ep_defs.specs.Text.{units_in};
 ghost use Rattle.nt_object.specs.Reading.{is_name_length, kind_named, number_in, version_of};
 ghost use Rattle.nt_object.specs.Object.{to_multiple_of_4};
 ghost use Rattle.nt_object.specs.Stream.{stream_head};

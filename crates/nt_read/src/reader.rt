@@ -7,6 +7,7 @@ use crate::judge::judge;
 use crate::stage::Stage;
 use ep_defs::Item;
 use std::alloc::{AllocError, Global};
+use std::mem::swap;
 
 /// Reads a stream that comes in any pieces. A reader stands for the bytes that it was fed.
 ///
@@ -183,6 +184,11 @@ impl TraceReader {
         ensures fault { self.new.fault ≡ self.old.fault }
     {
         if self.stage != Stage::Close {
+            return Ok(());
+        }
+        if items.is_empty() {
+            // the usual case: no item is copied
+            swap(items, &mut self.pending);
             return Ok(());
         }
         items.append(&mut self.pending)

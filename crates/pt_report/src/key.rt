@@ -153,9 +153,10 @@ impl Ord for EventKey {
     ghost matches_eq = { Prim.search (comparing, rules) };
 
     fn cmp(&self, other: &Self) -> Ordering {
-        let names = self.name.cmp(&other.name);
-        let versions = self.version.cmp(&other.version).then(names);
-        let ids = self.id.cmp(&other.id).then(versions);
-        self.provider.cmp(&other.provider).then(ids)
+        self.provider
+            .cmp(&other.provider)
+            .then_with(|| self.id.cmp(&other.id))
+            .then_with(|| self.version.cmp(&other.version))
+            .then_with(|| self.name.cmp(&other.name))
     }
 }

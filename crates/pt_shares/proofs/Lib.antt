@@ -1,0 +1,5 @@
+mod Ascending
+mod Balance
+mod Lines
+mod Numbers
+mod Sessions
