@@ -2,3 +2,6 @@ mod Walks
 mod Read
 mod SessionWalk
 mod SessionWords
+mod TraceRows
+mod TraceWalk
+mod TraceWords

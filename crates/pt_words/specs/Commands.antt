@@ -33,3 +33,10 @@ session_rule = record (new_rule (codes "session")) { long = Some (codes "session
 
 abbrev pub session_app : App
 session_app = with_rule plain_command session_rule
+
+abbrev pub option_rule : Text → Rule
+option_rule name = record (new_rule name) { long = Some name }
+
+abbrev pub trace_app : App
+trace_app =
+    with_rule (with_rule (with_rule two_app (position_rule (codes "three"))) (option_rule (codes "seed"))) (option_rule (codes "mb"))

@@ -1,5 +1,7 @@
 -- What words are as texts, and what `clap` is asked.
 pub mod Words
 pub mod Session
+pub mod Trace
+pub mod TraceTexts
 pub mod Commands
 pub mod Matches

@@ -1,7 +1,7 @@
 //! The commands that `clap` is given. None has help, a version or a name before its words.
 ghost use Rattle.std.specs.Prelude.{◌≡◌, IfOk, false};
 ghost use Rattle.clap.specs.Words.{app_of, rule_of};
-ghost use Rattle.pt_words.specs.Commands.{plain_command, position_rule, several_rule, one_app, two_app, several_app, session_app};
+ghost use Rattle.pt_words.specs.Commands.{plain_command, position_rule, several_rule, one_app, two_app, several_app, session_app, trace_app};
 
 use clap::{Arg, ArgAction, Command};
 use std::alloc::{AllocError, Global};
@@ -32,6 +32,16 @@ pub(crate) fn session_option<'a>(alloc: Global) -> Result<Command<'a>, AllocErro
     ensures { IfOk result (λ command. app_of command ≡ session_app) }
 {
     plain_command(alloc).arg(Arg::new(alloc, "session").long("session"))
+}
+
+/// Three positions, and the options `--seed` and `--mb`, each of which has one text.
+pub(crate) fn trace_words<'a>(alloc: Global) -> Result<Command<'a>, AllocError>
+    ensures { IfOk result (λ command. app_of command ≡ trace_app) }
+{
+    two_positions(alloc)?
+        .arg(position(alloc, "three"))?
+        .arg(Arg::new(alloc, "seed").long("seed"))?
+        .arg(Arg::new(alloc, "mb").long("mb"))
 }
 
 // No positions.

@@ -2,16 +2,18 @@
 //!
 //! It stands on clap alone. What a text means, a number or a rule, is for those above to say.
 //!
-//! Its one contract: which words have which texts is a function of the words (`specs/Words`, `specs/Session`), whatever the words are.
+//! Its one contract: which words have which texts is a function of the words (`specs/Words`, `specs/Session`, `specs/Trace`), whatever the words are.
 #![tactic(auto)]
 
 mod commands;
 mod matches;
 mod positions;
 mod session;
+mod trace;
 
 pub use positions::{Several, one_text, several_texts, two_texts};
 pub use session::session_text;
+pub use trace::{Trace, trace_texts};
 
 #[cfg(test)]
 mod tests;

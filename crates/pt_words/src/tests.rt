@@ -1,4 +1,4 @@
-use crate::{one_text, session_text, several_texts, two_texts};
+use crate::{one_text, session_text, several_texts, trace_texts, two_texts};
 use std::alloc::Global;
 use std::test::Fail;
 
@@ -20,6 +20,36 @@ const OTHERS: [&str; 16] = [
     "--sess 7",
     "-session=7",
     "--sessions=7",
+];
+
+// Words with the texts of `--seed` and `--mb` in them, where the positions are `2 8 P`.
+const TRACES: [(&str, Option<&str>, Option<&str>); 8] = [
+    ("2 8 P", None, None),
+    ("2 8 P --seed 7", Some("7"), None),
+    ("--seed 7 2 8 P", Some("7"), None),
+    ("2 --mb=1 8 P", None, Some("1")),
+    ("--mb 1 2 8 --seed=7 P", Some("7"), Some("1")),
+    ("2 --seed 7 --mb 1 8 P", Some("7"), Some("1")),
+    ("--seed= 2 8 P --mb==", Some(""), Some("=")),
+    ("2 8 --mb 1 P --seed=--mb", Some("--mb"), Some("1")),
+];
+
+// Words that are no three positions with each option once at most.
+const NO_TRACES: [&str; 14] = [
+    "",
+    "2 8",
+    "2 8 P Q",
+    "2 8 --seed 7",
+    "2 8 P --seed",
+    "2 8 P --seed --mb",
+    "2 8 P --mb -1",
+    "--seed 7 --seed 7 2 8 P",
+    "--seed=7 2 8 P --seed=7",
+    "--mb=1 2 8 --mb 1 P",
+    "2 8 P --seeds=7",
+    "2 8 P -",
+    "-- 2 8 P",
+    "2 8 -P",
 ];
 
 fn owned(alloc: Global, words: &str) -> Result<Vec<String>, Fail> {
@@ -84,6 +114,30 @@ fn other_words_than_the_option_are_refused(rt: HostRuntime) -> Result<(), Fail> 
     for words in OTHERS {
         let words = owned(alloc, words)?;
         assert!(rt; session_text(alloc, &words)?.is_none());
+    }
+    Ok(())
+}
+
+#[test]
+fn the_options_of_a_trace_are_anywhere(rt: HostRuntime) -> Result<(), Fail> {
+    let alloc = rt.alloc();
+    for (words, seed, megabytes) in TRACES {
+        let words = owned(alloc, words)?;
+        let Some(trace) = trace_texts(alloc, &words)? else {
+            return Err("good words are refused")?;
+        };
+        assert_eq!(rt; (trace.threads, trace.writes, trace.text), ("2", "8", "P"));
+        assert_eq!(rt; (trace.seed, trace.megabytes), (seed, megabytes));
+    }
+    Ok(())
+}
+
+#[test]
+fn other_words_than_a_trace_are_refused(rt: HostRuntime) -> Result<(), Fail> {
+    let alloc = rt.alloc();
+    for words in NO_TRACES {
+        let words = owned(alloc, words)?;
+        assert!(rt; trace_texts(alloc, &words)?.is_none());
     }
     Ok(())
 }

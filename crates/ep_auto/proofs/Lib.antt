@@ -1,0 +1,4 @@
+mod Wrong
+mod Parts
+mod Turns
+mod Rules

@@ -1,0 +1,3 @@
+-- What a start-up text means.
+pub mod Fields
+pub mod StartUp
