@@ -53,7 +53,7 @@ impl Draft {
     {
         let mut shapes = Vec::with_capacity(alloc, SAMPLES as usize)?;
         for index in 0..SAMPLES {
-            shapes.push(write_of(alloc, event_at(plan, thread, index), thread, index)?)?;
+            shapes.push(nth_write(alloc, plan, thread, index)?)?;
         }
         Ok(Draft {
             plan: *plan,
@@ -73,7 +73,15 @@ impl Draft {
     }
 }
 
-fn event_at(plan: &Plan, thread: u32, index: u32) -> u32
+/// The write of a thread, from 1, after so many others, in memory of its own.
+pub fn nth_write(alloc: Global, plan: &Plan, thread: u32, index: u32) -> Result<Write, AllocError>
+    ensures { IfOk result (λ write. write ≡ nth plan.now thread index) }
+{
+    write_of(alloc, event_at(plan, thread, index), thread, index)
+}
+
+/// The event that the thread writes then, by its number.
+pub fn event_at(plan: &Plan, thread: u32, index: u32) -> u32
     ensures { result ≡ event_at plan.now thread index }
 {
     let turn = plan.seed % u64::from(SAMPLES) + u64::from(thread) + u64::from(index);
@@ -115,8 +123,9 @@ fn write_of(alloc: Global, event: u32, thread: u32, index: u32) -> Result<Write,
 fn frames_of(alloc: Global, index: u32) -> Result<Frames, AllocError>
     ensures { IfOk result (λ frames. frames ≡ frames_of index) }
 {
-    let mut frames = Vec::with_capacity(alloc, FRAME_COUNTS as usize)?;
-    for place in 0..index % FRAME_COUNTS {
+    let count = index % FRAME_COUNTS;
+    let mut frames = Vec::with_capacity(alloc, count as usize)?;
+    for place in 0..count {
         frames.push(frame_of(index, place))?;
     }
     Ok(Items::new(frames))

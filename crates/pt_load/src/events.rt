@@ -18,16 +18,19 @@ pub(crate) const REQUEST_STOP: u32 = 2;
 pub(crate) const LAST_REQUEST: u32 = 3;
 
 /// The number of the event `StoreOpened`, which has no payload.
-pub(crate) const STORE_OPENED: u32 = 6;
+pub const STORE_OPENED: u32 = 6;
 
 /// How many events there are.
 pub(crate) const SAMPLES: u32 = 8;
 
-const WEB: &str = "Sample-Web";
+/// The provider of requests.
+pub const WEB: &str = "Sample-Web";
 
-const STORE: &str = "Sample-Store";
+/// The provider of the store.
+pub const STORE: &str = "Sample-Store";
 
-const JOBS: &str = "Sample-Jobs";
+/// The provider of jobs.
+pub const JOBS: &str = "Sample-Jobs";
 
 const INDEX: (&str, u8) = ("index", INDEX_CODE);
 
@@ -93,8 +96,8 @@ fn event(
     })
 }
 
-// The units of an ASCII text.
-fn units(alloc: Global, text: &str) -> Result<Units, AllocError>
+/// The units of an ASCII text.
+pub fn units(alloc: Global, text: &str) -> Result<Units, AllocError>
     ensures { IfOk result (λ units. units ≡ text.now) }
 {
     let mut units = Vec::with_capacity(alloc, text.len())?;

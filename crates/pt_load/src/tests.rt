@@ -49,6 +49,32 @@ fn a_write_has_its_thread_and_its_index(rt: HostRuntime) -> Result<(), Fail> {
 }
 
 #[test]
+fn a_write_of_its_own_is_the_lent_one(rt: HostRuntime) -> Result<(), Fail> {
+    let plan = Plan {
+        seed: 7,
+        threads: 4,
+        writes: 100,
+    };
+    let mut draft = Draft::new(rt.alloc(), &plan, 3)?;
+    for index in 0..16 {
+        let write = nth_write(rt.alloc(), &plan, 3, index)?;
+        assert_eq!(rt; write.event, event_at(&plan, 3, index));
+        assert!(rt; write == *draft.nth(index));
+    }
+    Ok(())
+}
+
+#[test]
+fn a_provider_has_a_unit_for_each_letter(rt: HostRuntime) -> Result<(), Fail> {
+    let name = units(rt.alloc(), JOBS)?;
+    assert_eq!(rt;
+        name.as_slice(),
+        [83, 97, 109, 112, 108, 101, 45, 74, 111, 98, 115].as_slice()
+    );
+    Ok(())
+}
+
+#[test]
 fn there_are_eight_events(rt: HostRuntime) -> Result<(), Fail> {
     let events = sample_events(rt.alloc())?;
     assert!(rt; events.len() == 8 && events.iter().all(|event| event.is_valid()));

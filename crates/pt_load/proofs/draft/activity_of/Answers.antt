@@ -1,4 +1,4 @@
-use Rattle.std.proofs.Common.{◌≤◌, ◌<◌, arith, ap, ◌∙◌}
+use Rattle.std.proofs.Common.{arith, ap, ◌∙◌}
 use Rattle.std.specs.Int.{w64, to_le_bytes}
 use Rattle.pt_load.proofs.Writes.{activity_request, activity_none}
 use Rattle.pt_load.proofs.draft.activity_of.Goals as goal

@@ -1,4 +1,4 @@
-use Rattle.std.proofs.Common.{◌≡◌, ◌≤◌, ◌<◌, ℕ, arith, ap, ◌∙◌}
+use Rattle.std.proofs.Common.{arith, ◌∙◌}
 use Rattle.pt_load.proofs.Writes.{frames_are}
 use Rattle.pt_load.proofs.draft.frames_of.Goals as goal
 

@@ -1,4 +1,4 @@
-use Rattle.std.proofs.Common.{◌≤◌, ◌++◌, List, ℕ, length, arith, ap, sym, ◌∙◌}
+use Rattle.std.proofs.Common.{◌++◌, List, ℕ, length, arith, ap, sym, ◌∙◌}
 use Rattle.std.specs.Int.{w32, to_le_bytes}
 use Rattle.pt_load.proofs.Writes.{renumbered, payload_indexed, payload_none, no_length}
 use Rattle.pt_load.proofs.draft.renumber.Goals as goal

@@ -1,4 +1,4 @@
-use Rattle.std.proofs.Common.{◌≤◌, ◌<◌, ℕ, arith}
+use Rattle.std.proofs.Common.{arith}
 use Rattle.pt_load.proofs.Writes.{frames_are}
 use Rattle.pt_load.proofs.draft.set_frames.Goals as goal
 

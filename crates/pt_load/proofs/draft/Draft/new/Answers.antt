@@ -1,4 +1,4 @@
-use Rattle.std.proofs.Common.{◌≡◌, ◌≤◌, length, arith}
+use Rattle.std.proofs.Common.{arith}
 use Rattle.pt_load.proofs.Writes.{shapes_made}
 use Rattle.pt_load.proofs.draft.Draft.new.Goals as goal
 

@@ -1,8 +1,7 @@
-use Rattle.std.proofs.Common.{◌≡◌, ◌≤◌, ◌<◌, ◌%◌, ℕ, length, Some, refl, sym, ap, ◌∙◌, arith, get_or-set_same}
-use Rattle.std.specs.Prelude.{slice_get}
+use Rattle.std.proofs.Common.{◌<◌, ◌%◌, ℕ, length, refl, sym, ap, ◌∙◌, arith, get_or-set_same}
 use Rattle.std.proofs.lemmas.Option.{slice_get_read}
 use Rattle.pt_load.specs.Sample.{event_at, write_of, nth}
-use Rattle.pt_load.specs.Shape.{Drafted, IsShape}
+use Rattle.pt_load.specs.Shape.{Drafted}
 use Rattle.pt_load.proofs.Writes.{event_low, event_high, event_again, shape_turns, shapes_set}
 use Rattle.pt_load.proofs.draft.Draft.nth.Goals as goal
 

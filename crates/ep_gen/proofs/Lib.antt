@@ -1,0 +1,4 @@
+pub mod Made
+pub mod Stages
+pub mod Turns
+pub mod Whole

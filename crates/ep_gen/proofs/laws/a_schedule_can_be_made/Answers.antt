@@ -1,0 +1,12 @@
+use Rattle.ep_gen.proofs.Whole.{all_are_lawful, each_can_be_made, narrow_is_finished, whole, wide_is_finished}
+use Rattle.ep_gen.proofs.laws.a_schedule_can_be_made.Goals as goal
+
+pub returns : goal.returns
+returns c =
+    let counted = c.a_budget_can_be_counted.ensures.in_hand in
+    record {
+      lawful = λ seed rounds few. all_are_lawful (whole counted seed rounds few);
+      made = λ seed rounds past step later few is. each_can_be_made past step later (whole counted seed rounds few) is;
+      wide = λ seed rounds few. wide_is_finished (whole counted seed rounds few);
+      narrow = λ seed rounds few. narrow_is_finished (whole counted seed rounds few);
+    }

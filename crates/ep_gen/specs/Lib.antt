@@ -1,0 +1,4 @@
+-- to be believed
+pub mod Schedule
+-- what private fields stand for
+pub mod state
