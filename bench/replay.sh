@@ -1,28 +1,36 @@
 #!/bin/sh
-# Prints the time and the peak memory of `tracepipe replay` beside `cat` of the same input and output, as ratios
-# measured in one run, on two schedules with as many writes as are taken today, 963: one session on one thread, and 60
-# sessions on 15 threads over 1,000 definitions. It needs python3 and GNU time.
+# Prints what `tracepipe replay` costs on two schedules. In the one a session with a budget of one chunk is open on one
+# thread, whose writes have payload and two frames, one of sixteen stacks; every 600th write is refused, and points
+# follow. In the other 60 sessions are open on 15 threads, over 1,000 definitions. For each it prints the instructions
+# for a line more, as callgrind counts them (valgrind, a Debian package), the lines a second, and time and peak memory
+# beside `cat` of the same input, as ratios measured in one run; and the memory for a schedule of twice the length. The
+# report on the first stream, which it prints too, counts what was refused. It needs python3, valgrind and GNU time.
 here=$(cd "$(dirname "$0")/.." && pwd) || exit 1
 runs=${1:-20}
 work=$(mktemp -d) || exit 1
 trap 'rm -rf "$work"' EXIT
 "$here/tracepipe" replay <"$here/examples/one_event.schedule" >"$work/warm" || exit 1
 python3 - "$here/crates/tracepipe/out/tracepipe" "$work" "$runs" <<'MEASURE'
-import subprocess, sys, time
+import re, subprocess, sys, time
 
 program, work, runs = sys.argv[1], sys.argv[2], int(sys.argv[3])
-WRITES = 963
 
 
-def one_session():
-    """One session on one thread, stolen from after each write."""
-    yield from ("event 1 P 1 0 4 1 E -", "accept 1 16 P:1:4", "open 1 1")
-    for stamp in range(WRITES):
-        yield from (f"begin 1 {stamp} 1 - - - -", "show 1 1", "end 1", "steal 1 1", "give 1")
-    yield from ("close 1 1", "finish 1 2000")
+def one_session(rounds):
+    """Rounds of 600 writes. 599 records of 109 bytes leave 245 bytes of the chunk, too few for the 600th write."""
+    yield from ("event 1 P 1 0 4 1 E -", "accept 1 1 P:1:4", "open 1 1")
+    for write in range(600 * rounds):
+        frames = f"7f0000{4096 + write % 16:x},7f0000{8192 + write % 16:x}"
+        payload = "2a" * (161 + 25 if write % 600 == 599 else 25)
+        yield from (f"begin 1 {1000 * write} 1 - - {frames} {payload}", "show 1 1", "end 1")
+        if write % 600 == 599:
+            yield from ("steal 1 1", "give 1")
+            if write % 6000 == 5999:
+                yield f"point 1 {1000 * write}"
+    yield from ("close 1 1", f"finish 1 {600000 * rounds}")
 
 
-def many_sessions():
+def many_sessions(rounds):
     """Sixty sessions, each of which wants one keyword, on fifteen threads, over a thousand definitions."""
     sessions, threads, events = 60, 15, 1000
     wanted = {session: session % 8 for session in range(1, sessions + 1)}
@@ -31,15 +39,19 @@ def many_sessions():
     for session in wanted:
         yield f"accept {session} 16 P:{1 << wanted[session]:x}:5"
         yield from (f"open {session} {thread}" for thread in range(1, threads + 1))
-    for stamp in range(WRITES):
-        thread, event = 1 + stamp % threads, 1 + stamp % events
-        yield f"begin {thread} {stamp} {event} - - - -"
+    for write in range(600 * rounds):
+        thread, event = 1 + write % threads, 1 + write % events
+        yield f"begin {thread} {write} {event} - - - -"
         yield from (f"show {thread} {session}" for session in wanted if wanted[session] == event % 8)
         yield f"end {thread}"
+        if write % 600 == 599:
+            for session in wanted:
+                for stolen in range(1, threads + 1):
+                    yield from (f"steal {session} {stolen}", f"give {session}")
     for session in wanted:
         for thread in range(1, threads + 1):
             yield from (f"close {session} {thread}", f"give {session}")
-        yield f"finish {session} 2000"
+        yield f"finish {session} {600 * rounds}"
 
 
 def run(words, source):
@@ -47,28 +59,47 @@ def run(words, source):
         return subprocess.run(words, stdin=given, stdout=subprocess.PIPE, stderr=subprocess.PIPE, check=True)
 
 
-def measure(words, source):
-    """The least wall time in seconds of some runs, and the peak memory in KiB of one."""
+def put(schedule, rounds, name):
+    """The number of the schedule's lines."""
+    lines = list(schedule(rounds))
+    with open(f"{work}/{name}", "w") as out:
+        out.writelines(line + "\n" for line in lines)
+    return len(lines)
+
+
+def instructions_of(source):
+    """The instructions of a whole run, as callgrind counts them."""
+    words = ["valgrind", "--tool=callgrind", f"--callgrind-out-file={work}/callgrind", program, "replay"]
+    return int(re.search(r"Collected : (\d+)", run(words, source).stderr.decode()).group(1))
+
+
+def memory_of(words, source):
+    """The peak memory of a run, in KiB."""
+    return int(run(["/usr/bin/time", "-f", "%M", *words], source).stderr)
+
+
+def seconds_of(words, source):
+    """The least wall time of some runs."""
     least = float("inf")
     for _ in range(runs):
         begun = time.monotonic()
         run(words, source)
         least = min(least, time.monotonic() - begun)
-    return least, int(run(["/usr/bin/time", "-f", "%M", *words], source).stderr)
+    return least
 
 
-for title, lines in ("one session", one_session()), ("many sessions", many_sessions()):
-    with open(f"{work}/schedule", "w") as schedule:
-        schedule.writelines(line + "\n" for line in lines)
-    with open(f"{work}/stream", "wb") as stream:
-        stream.write(run([program, "replay"], "schedule").stdout)
-    rows = [
-        ("cat of the schedule", measure(["cat"], "schedule")),
-        ("cat of the stream", measure(["cat"], "stream")),
-        ("replay", measure([program, "replay"], "schedule")),
-    ]
-    time_of_cat, memory_of_cat = rows[0][1]
-    print(title)
-    for name, (seconds, memory) in rows:
-        print(f"  {name:20} {seconds * 1000:8.2f} ms {seconds / time_of_cat:6.2f} x   {memory:8d} KiB {memory / memory_of_cat:6.2f} x")
+for title, schedule, rounds in (("one session, one chunk", one_session, 20), ("60 sessions, 15 threads", many_sessions, 10)):
+    few, many = put(schedule, rounds, "few"), put(schedule, 2 * rounds, "many")
+    more = (instructions_of("many") - instructions_of("few")) / (many - few)
+    most = put(schedule, 10 * rounds, "most")
+    seconds, seconds_of_cat = seconds_of([program, "replay"], "most"), seconds_of(["cat"], "most")
+    stream = run([program, "replay"], "many").stdout
+    print(f"{title}: schedules of {few}, {many} and {most} lines")
+    print(f"  {more:.0f} instructions for a line more")
+    print(f"  {most / seconds:.0f} lines a second; {seconds * 1000:.1f} ms, {seconds / seconds_of_cat:.2f} x cat of the schedule")
+    print(f"  {memory_of([program, 'replay'], 'few')} and {memory_of([program, 'replay'], 'many')} KiB for the first two, cat {memory_of(['cat'], 'many')} KiB, stream {len(stream) // 1024} KiB")
+    if schedule is one_session:
+        with open(f"{work}/stream", "wb") as out:
+            out.write(stream)
+        print("  " + run([program, "report"], "stream").stdout.decode().splitlines()[-17])
 MEASURE

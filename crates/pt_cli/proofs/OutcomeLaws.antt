@@ -1,15 +1,15 @@
 -- What lines come to is determined, since a line means one thing.
-use Rattle.std.proofs.Common.{◌≡◌, ℕ, Bool, true, false, List, [], ◌∷◌, Some, refl, sym, ap, ◌∙◌, subst, inl, inr}
+use Rattle.std.proofs.Common.{◌≡◌, ℕ, Bool, List, [], ◌∷◌, Some, sym, ap, ◌∙◌, subst, inl, inr}
 use Rattle.ep_defs.specs.declared.event.EventDef.{EventDef}
 use Rattle.ep_model.specs.declared.step.Step.{Step}
-use Rattle.ep_model.specs.today.Lawful.{kind_of}
+use Rattle.ep_model.specs.Lawful.{objection_to}
 use Rattle.ep_plan.specs.Lines.{Bad, IsLine}
 use Rattle.ep_plan.specs.declared.line.Line.{Line}
 use Rattle.ep_plan.specs.declared.line.Line.TheVariants as line
 use Rattle.pt_cli.specs.declared.errors.Reason.{Reason}
 use Rattle.pt_cli.specs.declared.errors.Reason.TheVariants as reason
 use Rattle.pt_cli.specs.declared.errors.Refusal.{Refusal}
-use Rattle.pt_cli.specs.Schedule.{definitions_of, past_of, is_beyond, bad_after, Says, CanBeMade, Takes, IsWhy, Refuses, AreGood, HaveRefused}
+use Rattle.pt_cli.specs.Schedule.{definitions_of, past_of, bad_after, Says, CanBeMade, Takes, IsWhy, Refuses, AreGood, HaveRefused}
 
 -- A line means one thing.
 abbrev pub OneMeaning : Type 0
@@ -38,26 +38,16 @@ module _ (law : OneMeaning) where
       let good = says.good in
       cc
 
-  beyond-good : (before : List Line) (text : List ℕ) (a b : Step) → Says before text (line.Step a) → Says before text (line.Step b) → is_beyond (past_of before) a ≡ true → is_beyond (past_of before) b ≡ false → ⊥
-  beyond-good before text a b one other beyond taken =
-      let same = ap (λ s. is_beyond (past_of before) s) (step-one before text a b one other) in
-      cc
-
   -- The line is refused in one way.
   why-one : (before : List Line) (text : List ℕ) (column column' : ℕ) (a b : Reason) → IsWhy before text column a → IsWhy before text column' b → (column ≡ column') × (a ≡ b)
   why-one before text column column' (reason.Line k) (reason.Line k') one other =
       let same = bad-same (record { column = column; kind = k }) (record { column = column'; kind = k' }) (sym one ∙ other) in
       (ap (λ bad. bad.column) same, ap (λ bad. reason.Line bad.kind) same)
-  why-one before text column column' (reason.Line k) reason.Form one other = absurd (says-good before text (line.Step other.1.0) (record { column = column; kind = k }) other.1.1 one)
   why-one before text column column' (reason.Line k) (reason.Step k') one other = absurd (says-good before text (line.Step other.1.0) (record { column = column; kind = k }) other.1.1 one)
-  why-one before text column column' reason.Form (reason.Line k') one other = absurd (says-good before text (line.Step one.1.0) (record { column = column'; kind = k' }) one.1.1 other)
-  why-one before text column column' reason.Form reason.Form one other = (one.0 ∙ sym other.0, refl)
-  why-one before text column column' reason.Form (reason.Step k') one other = absurd (beyond-good before text one.1.0 other.1.0 one.1.1 other.1.1 one.1.2 other.1.2)
   why-one before text column column' (reason.Step k) (reason.Line k') one other = absurd (says-good before text (line.Step one.1.0) (record { column = column'; kind = k' }) one.1.1 other)
-  why-one before text column column' (reason.Step k) reason.Form one other = absurd (beyond-good before text other.1.0 one.1.0 other.1.1 one.1.1 other.1.2 one.1.2)
   why-one before text column column' (reason.Step k) (reason.Step k') one other =
-      let same = ap (λ s. kind_of (definitions_of before) (past_of before) s) (step-one before text one.1.0 other.1.0 one.1.1 other.1.1) in
-      let kinds : Some k ≡ Some k' = sym one.1.3 ∙ same ∙ other.1.3 in
+      let same = ap (λ s. objection_to (definitions_of before) (past_of before) s) (step-one before text one.1.0 other.1.0 one.1.1 other.1.1) in
+      let kinds : Some k ≡ Some k' = sym one.1.2 ∙ same ∙ other.1.2 in
       (one.0 ∙ sym other.0, cc)
 
   refuses-one : (before : List Line) (text : List ℕ) (a b : Refusal) → Refuses before text a → Refuses before text b → a ≡ b
@@ -69,17 +59,10 @@ module _ (law : OneMeaning) where
   -- A line that is taken is not refused.
   takes-not : (before : List Line) (text : List ℕ) (a : Line) (column : ℕ) (why : Reason) → Takes before text a → IsWhy before text column why → ⊥
   takes-not before text a column (reason.Line k) takes is = says-good before text a (record { column = column; kind = k }) takes.says is
-  takes-not before text a column reason.Form takes is =
-      let same = says-one before text a (line.Step is.1.0) takes.says is.1.1 in
-      let made = subst (λ l. CanBeMade before l) same takes.made in
-      let beyond = is.1.2 in
-      let taken = made.0 in
-      cc
   takes-not before text a column (reason.Step k) takes is =
       let same = says-one before text a (line.Step is.1.0) takes.says is.1.1 in
-      let made = subst (λ l. CanBeMade before l) same takes.made in
-      let kind = is.1.3 in
-      let lawful = made.1 in
+      let lawful = subst (λ l. CanBeMade before l) same takes.made in
+      let kind = is.1.2 in
       cc
 
   pub good-one : (before : List Line) (texts : List (List ℕ)) (a b : List Line) → AreGood before texts a → AreGood before texts b → a ≡ b

@@ -31,6 +31,11 @@ pub good-judged : (bytes : List ℕ) (schedule : Schedule) (refusal : Option Ref
 good-judged bytes schedule None none lines is stands = (lines, is, stands)
 good-judged bytes schedule (Some refusal) none lines is stands = cc
 
+-- And back.
+pub judged-good : (bytes : List ℕ) (schedule : Schedule) (refusal : Option Refusal) → refusal ≡ None → IsJudgedAs bytes schedule refusal → (lines : List Line) × IsSchedule bytes lines × Stands lines schedule
+judged-good bytes schedule None none judged = judged
+judged-good bytes schedule (Some refusal) none judged = cc
+
 -- At the end what was refused stays so.
 pub refused-judged : (bytes : List ℕ) (schedule : Schedule) (part : List ℕ) (refusal : Option Refusal) → is_some refusal ≡ true → IsSoFar bytes schedule part refusal → IsJudgedAs bytes schedule refusal
 refused-judged bytes schedule part None some so_far = cc

@@ -1,24 +1,19 @@
 -- What a schedule stands for, with a line more.
-use Rattle.std.proofs.Common.{◌≡◌, ℕ, ◌+◌, ◌≤◌, Bool, false, List, [], ◌∷◌, length, Option, Some, None, refl, sym, ap, ◌∙◌, subst, arith}
+use Rattle.std.proofs.Common.{◌≡◌, ℕ, ◌+◌, Bool, false, List, [], ◌∷◌, length, Option, Some, None, refl, sym, ap, ◌∙◌, subst}
 use Rattle.ep_defs.specs.declared.event.EventDef.{EventDef}
 use Rattle.ep_model.specs.History.{Past}
-use Rattle.ep_model.specs.today.Lawful.{IsLawful}
+use Rattle.ep_model.specs.Lawful.{IsLawful}
 use Rattle.ep_core.specs.declared.machine.Machine.{Machine}
-use Rattle.std.specs.Prelude.{◌||◌, nat_lt, is_some}
-use Rattle.std.proofs.lemmas.Bool.{ltb-false, or_parts}
+use Rattle.std.specs.Prelude.{is_some}
 use Rattle.ep_plan.specs.Lines.{IsLine}
 use Rattle.pt_cli.specs.declared.schedule.Schedule.{Schedule}
 use Rattle.pt_cli.specs.Reading.{Stands}
-use Rattle.ep_model.specs.today.Sizes.{sizes, size_of}
 use Rattle.ep_model.specs.declared.step.Step.{Step}
-use Rattle.ep_model.specs.declared.step.Step.TheVariants as step
-use Rattle.ep_core.specs.Bounds.{IsWithoutFrames}
 use Rattle.ep_plan.specs.declared.line.Line.{Line}
 use Rattle.ep_plan.specs.declared.line.Line.TheVariants as line
 use Rattle.pt_cli.specs.declared.errors.Refusal.{Refusal}
-use Rattle.pt_cli.specs.Schedule.{definitions_of, past_of, has_stepped, is_beyond, Says, Refuses}
+use Rattle.pt_cli.specs.Schedule.{definitions_of, past_of, has_stepped, Says, Refuses}
 use Rattle.pt_cli.specs.Machines.{IsMachineOf, IsUnlawful}
-use Rattle.pt_cli.specs.declared.limits.TheConstants.{LAST_THREAD, RECORDS_BYTES}
 
 -- Without a step there is no machine, whatever the definitions are.
 pub machine-unused : (events more : List EventDef) (past : Past) (lines lines' : ℕ) (machine : Option Machine) → has_stepped past ≡ false → IsMachineOf events past lines machine → IsMachineOf more past lines' machine
@@ -30,52 +25,11 @@ pub lawful-unused : (events : List EventDef) (past : Past) → has_stepped past 
 lawful-unused events [] unused = tt
 lawful-unused events (step ∷ past) unused = cc
 
--- ---- a step that is taken
-
--- Its write has no stack.
-pub beyond-frames : (past : Past) (step : Step) → is_beyond past step ≡ false → IsWithoutFrames step
-beyond-frames past (step.Begin thread stamp write) taken =
-    no-frames write.frames (or_parts (nat_lt LAST_THREAD thread) (nat_lt 0 (length write.frames)) (or_parts (nat_lt LAST_THREAD thread || nat_lt 0 (length write.frames)) (nat_lt RECORDS_BYTES (sizes past + size_of write)) taken).0).1
-  where
-    no-frames : (frames : List ℕ) → nat_lt 0 (length frames) ≡ false → frames ≡ []
-    no-frames [] none = refl
-    no-frames (frame ∷ frames) none =
-        let few : length (frame ∷ frames) ≤ 0 = ltb-false 0 (length (frame ∷ frames)) none in
-        let not : ⊥ = omega arith in
-        absurd not
-beyond-frames past (step.Accept s config) taken = tt
-beyond-frames past (step.Enter t) taken = tt
-beyond-frames past (step.Leave t) taken = tt
-beyond-frames past (step.Open s t) taken = tt
-beyond-frames past (step.Show t s) taken = tt
-beyond-frames past (step.End t) taken = tt
-beyond-frames past (step.Steal s t) taken = tt
-beyond-frames past (step.Give s) taken = tt
-beyond-frames past (step.Point s stamp) taken = tt
-beyond-frames past (step.Close s t) taken = tt
-beyond-frames past (step.Finish s stamp) taken = tt
-
--- The writes with its own take few bytes.
-pub beyond-few : (past : Past) (step : Step) → is_beyond past step ≡ false → sizes past ≤ RECORDS_BYTES → sizes (step ∷ past) ≤ RECORDS_BYTES
-beyond-few past (step.Begin thread stamp write) taken few =
-    ltb-false RECORDS_BYTES (sizes past + size_of write) (or_parts (nat_lt LAST_THREAD thread || nat_lt 0 (length write.frames)) (nat_lt RECORDS_BYTES (sizes past + size_of write)) taken).1
-beyond-few past (step.Accept s config) taken few = few
-beyond-few past (step.Enter t) taken few = few
-beyond-few past (step.Leave t) taken few = few
-beyond-few past (step.Open s t) taken few = few
-beyond-few past (step.Show t s) taken few = few
-beyond-few past (step.End t) taken few = few
-beyond-few past (step.Steal s t) taken few = few
-beyond-few past (step.Give s) taken few = few
-beyond-few past (step.Point s stamp) taken few = few
-beyond-few past (step.Close s t) taken few = few
-beyond-few past (step.Finish s stamp) taken few = few
-
 -- A step that can't be made refuses its line.
-pub unlawful-refuses : (lines : List Line) (text : List ℕ) (s : Step) (count : ℕ) (refusal : Refusal) → count ≡ length lines → is_beyond (past_of lines) s ≡ false → Says lines text (line.Step s) → IsUnlawful (definitions_of lines) (past_of lines) s (count + 1) refusal → Refuses lines text refusal
-unlawful-refuses lines text s count refusal count_is taken says why =
+pub unlawful-refuses : (lines : List Line) (text : List ℕ) (s : Step) (count : ℕ) (refusal : Refusal) → count ≡ length lines → Says lines text (line.Step s) → IsUnlawful (definitions_of lines) (past_of lines) s (count + 1) refusal → Refuses lines text refusal
+unlawful-refuses lines text s count refusal count_is says why =
     let P : Refusal → Type 0 = λ r. Refuses lines text r in
-    subst P (sym why.2) (record { number = ap (λ n. n + 1) count_is; why = (refl, (s, says, taken, why.1)) })
+    subst P (sym why.2) (record { number = ap (λ n. n + 1) count_is; why = (refl, (s, says, why.1)) })
 
 -- ---- what a line says
 

@@ -5,7 +5,7 @@ use Rattle.ep_defs.specs.Session.{standard_info_of}
 use Rattle.ep_model.specs.declared.step.Step.{Step}
 use Rattle.ep_model.specs.declared.step.Kind.{Kind}
 use Rattle.ep_model.specs.History.{Past}
-use Rattle.ep_model.specs.today.Lawful.{kind_of}
+use Rattle.ep_model.specs.Lawful.{objection_to}
 use Rattle.ep_core.specs.Machine.{Follows, steps_of}
 use Rattle.ep_core.specs.declared.machine.Machine.{Machine}
 use Rattle.pt_cli.specs.declared.errors.Refusal.{Refusal}
@@ -21,4 +21,4 @@ IsMachineOf events past lines (Some machine) =
 -- The step of the line with this number can't be made, and the line is refused for that.
 abbrev pub IsUnlawful : List EventDef → Past → Step → ℕ → Refusal → Type 0
 IsUnlawful events past step number refusal =
-    (kind : Kind) × (kind_of events past step ≡ Some kind) × (refusal ≡ record { line = number; column = 1; reason = reason.Step kind })
+    (kind : Kind) × (objection_to events past step ≡ Some kind) × (refusal ≡ record { line = number; column = 1; reason = reason.Step kind })

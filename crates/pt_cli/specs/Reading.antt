@@ -2,13 +2,11 @@
 use Rattle.std.specs.Prelude.{◌≡◌, ℕ, ◌+◌, ◌≤◌, not, ◌==◌, List, ◌++◌, length, Option, Some, None, IsTrue}
 use Rattle.std.specs.List.{list_all}
 use Rattle.ep_defs.specs.Event.{is_valid_event}
-use Rattle.ep_model.specs.today.Lawful.{IsLawful}
-use Rattle.ep_model.specs.today.Sizes.{sizes}
+use Rattle.ep_model.specs.Lawful.{IsLawful}
 use Rattle.ep_defs.specs.Definitions.{AreDistinct}
 use Rattle.ep_defs.specs.declared.limits.TheConstants.{EVENTS}
 use Rattle.ep_model.specs.History.{event_at}
 use Rattle.ep_plan.specs.declared.limits.TheConstants.{LINE_BYTES}
-use Rattle.pt_cli.specs.declared.limits.TheConstants.{RECORDS_BYTES}
 use Rattle.ep_plan.specs.declared.line.Line.{Line}
 use Rattle.pt_cli.specs.declared.errors.Refusal.{Refusal}
 use Rattle.pt_cli.specs.declared.schedule.Schedule.{Schedule}
@@ -21,8 +19,6 @@ use Rattle.pt_cli.specs.Schedule.{definitions_of, past_of, AreGood, HaveRefused,
 pub record Stands (lines : List Line) (schedule : Schedule) : Type 0 where
   pub count : schedule.lines ≡ length lines
   pub events_are : schedule.events.items ≡ definitions_of lines
-  pub sizes_are : schedule.sizes ≡ sizes (past_of lines)
-  pub are_few : schedule.sizes ≤ RECORDS_BYTES
   pub machine_is : IsMachineOf (definitions_of lines) (past_of lines) schedule.lines schedule.machine
   -- what a machine wants of definitions
   pub few : length (definitions_of lines) ≤ EVENTS

@@ -2,23 +2,31 @@
 use Rattle.std.specs.Prelude.{◌≡◌, ℕ, ◌⊎◌, true, false, List}
 use Rattle.ep_defs.specs.Session.{standard_info_of}
 use Rattle.ep_model.specs.History.{is_finished}
-use Rattle.ep_model.specs.today.Lawful.{IsLawful}
+use Rattle.ep_model.specs.Lawful.{IsLawful}
 use Rattle.ep_core.specs.Streams.{IsStreamOf}
 use Rattle.ep_plan.specs.declared.line.Line.{Line}
 use Rattle.pt_reading.specs.Answers as reading
+use Rattle.pt_reading.specs.Found.{IsWhole, IsReported}
+use Rattle.pt_shares.specs.Shares.{session_lines, ReportsThreads}
 use Rattle.pt_cli.specs.declared.errors.Refusal.{Refusal}
 use Rattle.pt_cli.specs.Errors.{words_error, refusal_error, unfinished_error}
 use Rattle.pt_cli.specs.Schedule.{definitions_of, past_of, IsSchedule, IsRefused}
 use Rattle.pt_cli.specs.Words.{IsReplay, IsReport, AreReading}
 
 -- The stream is what replaying the bytes for a session gives: they are a schedule, each of its steps could be made, the
--- session is finished, and the stream is the one of its entries and faithful.
+-- session is finished, and the stream is the one of its entries and faithful. `report` takes the stream, and prints of each
+-- thread how many of its events were written, the last number and how many were refused.
 pub record IsReplayed (session : ℕ) (bytes stream : List ℕ) : Type 0 where
   pub lines : List Line
   pub schedule : IsSchedule bytes lines
   pub lawful : IsLawful (definitions_of lines) (past_of lines)
   pub finished : is_finished session (past_of lines) ≡ true
   pub told : IsStreamOf (definitions_of lines) (standard_info_of 1 1) session (past_of lines) stream
+  -- `report` takes it
+  pub whole : IsWhole stream
+  -- each report of it has these lines of threads
+  pub threads : (text : List ℕ) → IsReported stream text
+      → ReportsThreads stream (session_lines (definitions_of lines) session (past_of lines)) text
 
 -- The bytes are a schedule that does not finish the session.
 abbrev pub IsUnfinished : ℕ → List ℕ → Type 0

@@ -1,18 +1,15 @@
 -- Which texts are schedules, and where others are refused.
-use Rattle.std.specs.Prelude.{◌≡◌, ℕ, ◌+◌, Bool, true, false, ◌||◌, ◌⊎◌, List, [], ◌∷◌, ◌++◌, length, Option, Some, None, nat_lt}
+use Rattle.std.specs.Prelude.{◌≡◌, ℕ, ◌+◌, Bool, true, false, ◌⊎◌, List, [], ◌∷◌, ◌++◌, length, Option, Some, None}
 use Rattle.ep_defs.specs.declared.event.EventDef.{EventDef}
 use Rattle.ep_model.specs.declared.step.Step.{Step}
-use Rattle.ep_model.specs.declared.step.Step.TheVariants as step
 use Rattle.ep_model.specs.History.{Past}
-use Rattle.ep_model.specs.today.Lawful.{kind_of}
-use Rattle.ep_model.specs.today.Sizes.{size_of, sizes}
+use Rattle.ep_model.specs.Lawful.{objection_to}
 use Rattle.ep_plan.specs.Lines.{Bad, bad_of, IsLine}
 use Rattle.ep_plan.specs.declared.line.Line.{Line}
 use Rattle.ep_plan.specs.declared.line.Line.TheVariants as line
 use Rattle.pt_cli.specs.declared.errors.Reason.{Reason}
 use Rattle.pt_cli.specs.declared.errors.Reason.TheVariants as reason
 use Rattle.pt_cli.specs.declared.errors.Refusal.{Refusal}
-use Rattle.pt_cli.specs.declared.limits.TheConstants.{FEWEST_CHUNKS, LAST_THREAD, RECORDS_BYTES}
 use Rattle.pt_cli.specs.Text.{lines_of}
 
 -- ---- what the lines so far, the newest first, have come to
@@ -34,25 +31,6 @@ abbrev pub has_stepped : Past → Bool
 has_stepped [] = false
 has_stepped (step ∷ past) = true
 
--- ---- what the program does not take yet
-
--- A point, a stack, a thread that comes or goes, a thread or a record beyond the bounds of the program as it is, and a
--- session of too few chunks (this project's profile). The bounds are chosen so that no session can spend its budget.
-abbrev pub is_beyond : Past → Step → Bool
-is_beyond past (step.Accept session config) = nat_lt config.chunks FEWEST_CHUNKS
-is_beyond past (step.Enter thread) = true
-is_beyond past (step.Leave thread) = true
-is_beyond past (step.Open session thread) = nat_lt LAST_THREAD thread
-is_beyond past (step.Begin thread stamp write) =
-    nat_lt LAST_THREAD thread || nat_lt 0 (length write.frames) || nat_lt RECORDS_BYTES (sizes past + size_of write)
-is_beyond past (step.Show thread session) = nat_lt LAST_THREAD thread
-is_beyond past (step.End thread) = nat_lt LAST_THREAD thread
-is_beyond past (step.Steal session thread) = nat_lt LAST_THREAD thread
-is_beyond past (step.Give session) = false
-is_beyond past (step.Point session stamp) = true
-is_beyond past (step.Close session thread) = nat_lt LAST_THREAD thread
-is_beyond past (step.Finish session stamp) = false
-
 -- ---- a line
 
 -- What is wrong with the line behind these.
@@ -63,9 +41,9 @@ bad_after before text = bad_of (definitions_of before) (has_stepped (past_of bef
 abbrev pub Says : List Line → List ℕ → Line → Type 0
 Says before text line = IsLine (definitions_of before) (has_stepped (past_of before)) text line
 
--- A step is one that the program takes, and can be made behind those before it.
+-- A step can be made behind those before it.
 abbrev pub CanBeMade : List Line → Line → Type 0
-CanBeMade before (line.Step step) = (is_beyond (past_of before) step ≡ false) × (kind_of (definitions_of before) (past_of before) step ≡ None)
+CanBeMade before (line.Step step) = objection_to (definitions_of before) (past_of before) step ≡ None
 CanBeMade before (line.Event index def) = Unit {0}
 CanBeMade before line.Blank = Unit {0}
 
@@ -77,11 +55,8 @@ pub record Takes (before : List Line) (text : List ℕ) (line : Line) : Type 0 w
 -- Why a line behind these is refused, and at which column.
 abbrev pub IsWhy : List Line → List ℕ → ℕ → Reason → Type 0
 IsWhy before text column (reason.Line kind) = bad_after before text ≡ Some (record { column = column; kind = kind })
-IsWhy before text column reason.Form =
-    (column ≡ 1) × ((step : Step) × Says before text (line.Step step) × (is_beyond (past_of before) step ≡ true))
 IsWhy before text column (reason.Step kind) =
-    (column ≡ 1) × ((step : Step) × Says before text (line.Step step) × (is_beyond (past_of before) step ≡ false)
-    × (kind_of (definitions_of before) (past_of before) step ≡ Some kind))
+    (column ≡ 1) × ((step : Step) × Says before text (line.Step step) × (objection_to (definitions_of before) (past_of before) step ≡ Some kind))
 
 -- The line behind these is refused so. Lines are numbered from 1.
 pub record Refuses (before : List Line) (text : List ℕ) (refusal : Refusal) : Type 0 where

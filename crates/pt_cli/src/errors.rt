@@ -1,7 +1,7 @@
 //! Why an input is refused, and the lines that say so.
 ghost use Rattle.std.specs.Prelude.{◌≡◌, IfOk};
 ghost use Rattle.std.specs.String.{string_bytes};
-ghost use Rattle.pt_cli.specs.Errors.{step_kind_name, reason_name, refusal_error, unfinished_error};
+ghost use Rattle.pt_cli.specs.Errors.{reason_name, refusal_error, unfinished_error};
 
 use ep_model::Kind;
 use ep_plan::LineKind;
@@ -12,8 +12,6 @@ use std::alloc::{AllocError, Global};
 pub enum Reason {
     /// The line is none of the schedule text.
     Line(LineKind),
-    /// Its step is one that the program does not take yet.
-    Form,
     /// Its step can't be made after those before it.
     Step(Kind),
 }
@@ -34,34 +32,8 @@ impl Reason {
     {
         match self {
             Reason::Line(kind) => kind.name(),
-            Reason::Form => "Form",
-            Reason::Step(kind) => step_kind_text(kind),
+            Reason::Step(kind) => kind.name(),
         }
-    }
-}
-
-fn step_kind_text(kind: Kind) -> &'static str
-    ensures { result.now ≡ step_kind_name kind }
-{
-    match kind {
-        Kind::SessionNumber => "SessionNumber",
-        Kind::BadConfig => "BadConfig",
-        Kind::Full => "Full",
-        Kind::NoSession => "NoSession",
-        Kind::NoThread => "NoThread",
-        Kind::ThreadsFull => "ThreadsFull",
-        Kind::AlreadyOpen => "AlreadyOpen",
-        Kind::ThreadLimit => "ThreadLimit",
-        Kind::InWrite => "InWrite",
-        Kind::NotInWrite => "NotInWrite",
-        Kind::NoEvent => "NoEvent",
-        Kind::TooLarge => "TooLarge",
-        Kind::TooMany => "TooMany",
-        Kind::NotDue => "NotDue",
-        Kind::ShowsDue => "ShowsDue",
-        Kind::NotOpen => "NotOpen",
-        Kind::HandFull => "HandFull",
-        Kind::StillOpen => "StillOpen",
     }
 }
 

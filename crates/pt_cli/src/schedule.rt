@@ -3,28 +3,23 @@ ghost use Rattle.std.specs.Prelude.{◌≡◌, ◌≤◌, ◌<◌, ◌+◌, ◌^
 ghost use Rattle.std.specs.List.{list_all};
 ghost use Rattle.ep_defs.specs.Event.{is_valid_event};
 ghost use Rattle.ep_defs.specs.Definitions.{AreDistinct};
-ghost use Rattle.ep_defs.specs.declared.limits.TheConstants.{EVENTS, RECORD_BYTES};
-ghost use Rattle.ep_core.specs.Bounds.{IsWithoutFrames};
-ghost use Rattle.pt_cli.specs.declared.limits.TheConstants.{RECORDS_BYTES};
+ghost use Rattle.ep_defs.specs.declared.limits.TheConstants.{EVENTS};
 ghost use Rattle.ep_core.specs.Machine.{Follows, steps_of};
-ghost use Rattle.ep_model.specs.today.Lawful.{kind_of};
+ghost use Rattle.ep_model.specs.Lawful.{objection_to};
 ghost use Rattle.ep_plan.specs.Lines.{IsLine};
 ghost use Rattle.ep_defs.specs.declared.event.EventDef.{EventDef};
 ghost use Rattle.ep_defs.specs.Session.{standard_info_of};
 ghost use Rattle.ep_model.specs.declared.step.Step.{Step};
 ghost use Rattle.ep_model.specs.History.{Past, event_at};
-ghost use Rattle.ep_model.specs.today.Sizes.{sizes as sizes_of};
 ghost use Rattle.ep_plan.specs.declared.line.Line.{Line};
 ghost use Rattle.ep_plan.specs.declared.line.Line.TheVariants.{Event, Step as StepLine};
 ghost use Rattle.pt_cli.specs.declared.errors.Refusal.{Refusal};
 ghost use Rattle.pt_cli.specs.declared.schedule.Fault.TheVariants.{Refused, OutOfMemory};
-ghost use Rattle.pt_cli.specs.Schedule.{definitions_of, past_of, has_stepped, is_beyond, CanBeMade, Takes, Says, Refuses};
+ghost use Rattle.pt_cli.specs.Schedule.{definitions_of, past_of, has_stepped, CanBeMade, Takes, Says, Refuses};
 ghost use Rattle.pt_cli.specs.Machines.{IsMachineOf, IsUnlawful};
 
 use crate::errors::{Reason, Refusal};
-use crate::limits::{FEWEST_CHUNKS, LAST_THREAD, RECORDS_BYTES};
 use ep_core::{Machine, StepFault};
-use ep_defs::limits::RECORD_BYTES;
 use ep_defs::{EventDef, copies, standard_info};
 use ep_model::Step;
 use ep_plan::{Line, LineFault, a_line_means_one_thing, read_line};
@@ -60,8 +55,6 @@ pub(crate) struct Schedule {
     /// From the first step on.
     machine: Option<Machine>,
     lines: u64,
-    /// How many bytes the writes so far take where they are kept.
-    sizes: u64,
 }
 
 impl Schedule {
@@ -78,7 +71,6 @@ impl Schedule {
             events: Vec::new(alloc),
             machine: None,
             lines: 0,
-            sizes: 0,
         }
     }
 
@@ -138,16 +130,7 @@ impl Schedule {
             → Says lines text (StepLine step) → Refuses lines text refusal }
         ensures counted { lines_in self.new ≤ lines_in self.old + 1 }
     {
-        if is_beyond(&step, self.sizes) {
-            return Err(Fault::Refused(Refusal {
-                line: self.lines + 1,
-                column: 1,
-                reason: Reason::Form,
-            }));
-        }
-        let size = size_of(&step);
         make(alloc, &mut self.machine, &self.events, step, self.lines)?;
-        self.sizes += size;
         self.lines += 1;
         Ok(())
     }
@@ -165,39 +148,6 @@ impl Schedule {
     }
 }
 
-// Whether the step is one that is not taken yet, where the records of the writes before it take this many bytes.
-fn is_beyond(step: &Step, sizes: u64) -> bool
-    requires { sizes ≤ RECORDS_BYTES }
-    ensures { (past : Past) → sizes_of past ≡ sizes → result ≡ is_beyond past step.now }
-{
-    match step {
-        Step::Accept { config, .. } => config.chunks < FEWEST_CHUNKS,
-        Step::Begin { thread, write, .. } => {
-            *thread > LAST_THREAD
-                || !write.frames.as_slice().is_empty()
-                || sizes + size_of(step) > RECORDS_BYTES as u64
-        }
-        Step::Open { thread, .. }
-        | Step::Show { thread, .. }
-        | Step::End { thread }
-        | Step::Steal { thread, .. }
-        | Step::Close { thread, .. } => *thread > LAST_THREAD,
-        Step::Enter { .. } | Step::Leave { .. } | Step::Point { .. } => true,
-        Step::Give { .. } | Step::Finish { .. } => false,
-    }
-}
-
-// How many bytes the write of a step takes that begins one without a stack.
-fn size_of(step: &Step) -> u64
-    ensures sum { (past : Past) → IsWithoutFrames step.now → sizes_of (step.now ∷ past) ≡ sizes_of past + result }
-    ensures few { result < 2 ^ 63 + RECORD_BYTES }
-{
-    match step {
-        Step::Begin { write, .. } => (RECORD_BYTES + write.payload.as_slice().len()) as u64,
-        _ => 0,
-    }
-}
-
 // Makes a step after this many lines, on a new machine where there is none.
 fn make(
     alloc: Global,
@@ -211,9 +161,8 @@ fn make(
     requires few { length events.now ≤ EVENTS }
     requires valid { IsTrue (list_all is_valid_event events.now) }
     requires distinct { AreDistinct (event_at events.now) }
-    requires without_frames { IsWithoutFrames step }
     ensures made { (past : Past) → IsMachineOf events.now past lines machine.old
-        → OnOk result ((kind_of events.now past step ≡ None) × IsMachineOf events.now (step ∷ past) (lines + 1) machine.new) }
+        → OnOk result ((objection_to events.now past step ≡ None) × IsMachineOf events.now (step ∷ past) (lines + 1) machine.new) }
     ensures refused { (past : Past) (refusal : Refusal) → IsMachineOf events.now past lines machine.old → result ≡ Err (Refused refusal)
         → IsUnlawful events.now past step (lines + 1) refusal }
 {
@@ -243,9 +192,8 @@ fn new_machine(alloc: Global, events: &[EventDef]) -> Result<Machine, Fault>
 // Makes a step of the line with this number.
 fn make_on(alloc: Global, machine: &mut Machine, step: Step, number: u64) -> Result<(), Fault>
     requires few { steps_of machine.old < 2 ^ 63 }
-    requires without_frames { IsWithoutFrames step }
     ensures made { (events : List EventDef) (past : Past) → Follows events (standard_info_of 1 1) past machine.old
-        → OnOk result ((kind_of events past step ≡ None) × Follows events (standard_info_of 1 1) (step ∷ past) machine.new) }
+        → OnOk result ((objection_to events past step ≡ None) × Follows events (standard_info_of 1 1) (step ∷ past) machine.new) }
     ensures refused { (events : List EventDef) (past : Past) (refusal : Refusal) → Follows events (standard_info_of 1 1) past machine.old
         → result ≡ Err (Refused refusal) → IsUnlawful events past step number refusal }
     ensures counted { OnOk result (steps_of machine.new ≡ steps_of machine.old + 1) }

@@ -5,6 +5,7 @@ use crate::errors::{Reason, Refusal};
 use crate::schedule::{Fault, Schedule};
 use ep_plan::LineKind;
 use ep_plan::limits::LINE_BYTES;
+use pt_shares::a_stream_of_a_session_is_reported;
 use std::alloc::{AllocError, Global};
 
 /// A schedule that is read piece by piece.
@@ -119,6 +120,7 @@ impl Reader {
     pub(crate) fn outcome(&self, session: u32) -> Outcome<'_>
         ensures { (bytes : List ℕ) → IsJudged bytes self.now → IsOutcome session bytes result }
     {
+        a_stream_of_a_session_is_reported();
         if let Some(refusal) = self.refusal {
             return Outcome::Refused(refusal);
         }

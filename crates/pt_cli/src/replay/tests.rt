@@ -5,6 +5,8 @@ use pt_io::{MemSink, MemSource};
 use std::alloc::Global;
 use std::test::Fail;
 
+mod streams;
+
 const ONE_EVENT: &str =
     "event 1 P 1 0 4 1 E -\naccept 1 16 P:1:4\nopen 1 1\nbegin 1 100 1 - - - -\nshow 1 1\nend 1\nsteal 1 1\ngive 1\nclose 1 1\nfinish 1 200\n";
 
@@ -187,7 +189,7 @@ fn the_order_of_the_sessions_does_not_show(rt: HostRuntime) -> Result<(), Fail> 
 const OPENING: &str = "event 1 P 1 0 4 1 E -\naccept 1 16 P:1:4\nopen 1 1\n";
 
 /// Texts that are refused behind the opening, on lines 4 and further.
-const REFUSED: [(&str, &str); 16] = [
+const REFUSED: [(&str, &str); 9] = [
     ("open 1 1\n", "error: line 4 column 1: AlreadyOpen\n"),
     ("open 1 1", "error: line 4 column 1: AlreadyOpen\n"),
     ("\n#\nopne 1 1\n", "error: line 6 column 1: Word\n"),
@@ -201,16 +203,51 @@ const REFUSED: [(&str, &str); 16] = [
         "error: line 4 column 1: LateEvent\n",
     ),
     ("close 1 1\n", "error: end: NotFinished 1\n"),
-    // What is not taken yet, before the step's own kind.
-    ("point 1 5\n", "error: line 4 column 1: Form\n"),
-    ("begin 1 5 1 - - ff -\n", "error: line 4 column 1: Form\n"),
-    ("open 1 16\n", "error: line 4 column 1: Form\n"),
-    ("begin 16 5 1 - - - -\n", "error: line 4 column 1: Form\n"),
-    ("show 16 1\n", "error: line 4 column 1: Form\n"),
-    ("end 300\n", "error: line 4 column 1: Form\n"),
-    ("steal 9 16\n", "error: line 4 column 1: Form\n"),
-    ("close 1 16\n", "error: line 4 column 1: Form\n"),
-    ("accept 1 15 P:1:4\n", "error: line 4 column 1: Form\n"),
+    ("begin 1 5 1 x - - -\n", "error: line 4 column 13: Hex\n"),
+    (
+        "accept3 2 16 2 P:1:4\n",
+        "error: line 4 column 14: Number\n",
+    ),
+];
+
+/// Lines behind the opening, the last of which is a step that can't be made, and the kind that stands against it.
+const UNLAWFUL: [(&str, u64, &str); 26] = [
+    ("accept 1 16 P:1:4", 4, "SessionNumber"),
+    ("accept 2 0 P:1:4", 4, "BadConfig"),
+    ("open 2 1", 4, "NoSession"),
+    ("point 2 5", 4, "NoSession"),
+    ("open 1 257", 4, "NoThread"),
+    ("enter 256", 4, "NoThread"),
+    ("enter 300", 4, "ThreadsFull"),
+    ("leave 300", 4, "NoThread"),
+    ("leave 1\nleave 1", 5, "NoThread"),
+    ("leave 1\nbegin 1 5 1 - - - -", 5, "NoThread"),
+    ("leave 2\nenter 300\nenter 301", 6, "ThreadsFull"),
+    ("leave 2\nenter 300\nenter 300", 6, "NoThread"),
+    // The thread's row is taken while the session is open on it.
+    ("leave 1\nenter 300", 5, "ThreadsFull"),
+    ("leave 1\nclose 1 1\nenter 300\nopen 1 1", 7, "NoThread"),
+    ("open 1 1", 4, "AlreadyOpen"),
+    ("begin 1 5 1 - - - -\nbegin 1 5 1 - - - -", 5, "InWrite"),
+    ("begin 1 5 1 - - - -\nleave 1", 5, "InWrite"),
+    ("show 1 1", 4, "NotInWrite"),
+    ("begin 1 5 2 - - - -", 4, "NoEvent"),
+    ("begin 1 5 1 - - - -\nshow 1 1\nshow 1 1", 6, "NotDue"),
+    ("begin 1 5 1 - - - -\nend 1", 5, "ShowsDue"),
+    ("steal 1 2", 4, "NotOpen"),
+    ("steal 1 300", 4, "NoThread"),
+    (
+        "begin 1 5 1 - - - -\nshow 1 1\nsteal 1 1\nsteal 1 1",
+        7,
+        "HandFull",
+    ),
+    // What a steal inside a write took is in hand too.
+    (
+        "begin 1 5 1 - - - -\nshow 1 1\nsteal 1 1\nend 1\nclose 1 1",
+        8,
+        "HandFull",
+    ),
+    ("finish 1 9", 4, "StillOpen"),
 ];
 
 #[test]
@@ -222,6 +259,34 @@ fn the_first_bad_line_is_named(rt: HostRuntime) -> Result<(), Fail> {
         assert_eq!(rt; run.status, 3);
         assert_eq!(rt; run.taken.as_slice(), error.as_bytes(), "at {lines}");
     }
+    Ok(())
+}
+
+#[test]
+fn a_step_that_cannot_be_made_is_named_by_its_kind(rt: HostRuntime) -> Result<(), Fail> {
+    let alloc = rt.alloc();
+    for (lines, line, kind) in UNLAWFUL {
+        let text = format!(in alloc; "{OPENING}{lines}\n")?;
+        let error = format!(in alloc; "error: line {line} column 1: {kind}\n")?;
+        let run = run_on(alloc, &["replay"], text.as_str())?;
+        assert_eq!(rt; run.status, 3);
+        assert_eq!(rt; run.taken.as_slice(), error.as_bytes(), "at {lines}");
+    }
+    Ok(())
+}
+
+#[test]
+fn a_65th_session_is_refused(rt: HostRuntime) -> Result<(), Fail> {
+    let alloc = rt.alloc();
+    let mut text = String::new(alloc);
+    for session in 1..66 {
+        let accept = format!(in alloc; "accept {session} 1 P:1:4\n")?;
+        text.push_str(accept.as_str())?;
+    }
+    let run = run_on(alloc, &["replay"], text.as_str())?;
+    assert_eq!(rt; run.status, 3);
+    let want = b"error: line 65 column 1: Full\n".as_slice();
+    assert_eq!(rt; run.taken.as_slice(), want);
     Ok(())
 }
 
@@ -239,6 +304,20 @@ fn texts_without_a_step_are_refused(rt: HostRuntime) -> Result<(), Fail> {
             "event 1 P 1 0 4 1 E -\naccept 1 16 P:1:4\nopne 1 1\n",
             "error: line 3 column 1: Word\n",
         ),
+        (
+            "event 2 P 1 0 4 1 E -\n",
+            "error: line 1 column 7: EventOrder\n",
+        ),
+        (
+            "event 1 P 1 0 4 1 E x\n",
+            "error: line 1 column 21: Fields\n",
+        ),
+        (
+            "accept3 1 16 2 P:1:4\n",
+            "error: line 1 column 14: Number\n",
+        ),
+        ("enter 256\n", "error: line 1 column 1: NoThread\n"),
+        ("enter 300\n", "error: line 1 column 1: ThreadsFull\n"),
     ];
     for (text, error) in texts {
         let run = run_on(alloc, &["replay"], text)?;
@@ -267,44 +346,39 @@ fn a_session_that_is_not_finished_is_named(rt: HostRuntime) -> Result<(), Fail> 
     Ok(())
 }
 
-/// A schedule with a write of each of these sizes, in hexadecimal digits of its payload.
-fn with_payloads(alloc: Global, payloads: &[usize]) -> Result<String, Fail> {
-    let mut text = String::from_str(alloc, OPENING)?;
-    for payload in payloads {
-        text.push_str("begin 1 5 1 - - - ")?;
-        for _ in 0..*payload {
-            text.push_str("00")?;
-        }
-        text.push_str("\nshow 1 1\nend 1\n")?;
+/// The text, so many times.
+fn times(alloc: Global, text: &str, count: usize) -> Result<String, Fail> {
+    let mut all = String::new(alloc);
+    for _ in 0..count {
+        all.push_str(text)?;
     }
-    text.push_str("close 1 1\ngive 1\nfinish 1 9\n")?;
-    Ok(text)
+    Ok(all)
 }
 
 #[test]
-fn all_writes_take_at_most_65536_bytes(rt: HostRuntime) -> Result<(), Fail> {
+fn a_write_has_at_most_100_frames_and_60000_bytes(rt: HostRuntime) -> Result<(), Fail> {
     let alloc = rt.alloc();
-    // A write takes 68 bytes and its payload: 60,068 and 5,468 are 65,536.
-    let most = with_payloads(alloc, &[60_000, 5_400])?;
-    assert_eq!(rt; run_on(alloc, &["replay"], most.as_str())?.status, 0);
-    let above = with_payloads(alloc, &[60_000, 5_401])?;
-    let run = run_on(alloc, &["replay"], above.as_str())?;
-    assert_eq!(rt; run.status, 3);
-    assert_eq!(rt;
-        run.taken.as_slice(),
-        b"error: line 7 column 1: Form\n".as_slice()
-    );
+    let cases = [
+        (100, 59_999, "error: line 5 column 1: ShowsDue\n"),
+        (101, 0, "error: line 4 column 1: TooLarge\n"),
+        (1, 60_000, "error: line 4 column 1: TooLarge\n"),
+    ];
+    for (frames, payload, error) in cases {
+        let frames = times(alloc, ",1", frames)?;
+        let frames = frames.strip_prefix(",").unwrap_or("");
+        let payload = times(alloc, "00", payload)?;
+        let text = format!(in alloc; "{OPENING}begin 1 5 1 - - {frames} ff{payload}\nend 1\n")?;
+        let run = run_on(alloc, &["replay"], text.as_str())?;
+        assert_eq!(rt; run.status, 3);
+        assert_eq!(rt; run.taken.as_slice(), error.as_bytes());
+    }
     Ok(())
 }
 
 /// A comment of so many bytes behind two lines, and a bad line behind it.
 fn with_comment(alloc: Global, length: usize) -> Result<String, Fail> {
-    let mut text = String::from_str(alloc, "\n\n")?;
-    for _ in 0..length {
-        text.push_str("#")?;
-    }
-    text.push_str("\nopne\n")?;
-    Ok(text)
+    let comment = times(alloc, "#", length)?;
+    Ok(format!(in alloc; "\n\n{comment}\nopne\n")?)
 }
 
 #[test]

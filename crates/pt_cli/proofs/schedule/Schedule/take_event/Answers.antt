@@ -12,8 +12,6 @@ returns-clause-taken c = λ lines text index stands is_line.
     record {
       count = omega (arith, stands.count);
       events_are = pushed ∙ ap (λ events. events ++ c.args.def ∷ []) stands.events_are;
-      sizes_are = stands.sizes_are;
-      are_few = stands.are_few;
       machine_is = machine-unused (definitions_of lines) (definitions_of lines ++ c.args.def ∷ []) (past_of lines) c.args.self.now.lines (c.args.self.now.lines + 1) c.args.self.now.machine law.0 stands.machine_is;
       few = omega (arith, length-append (definitions_of lines) (c.args.def ∷ []), law.1, law.2);
       valid = all-more (definitions_of lines) c.args.def stands.valid law.3;
