@@ -1,4 +1,5 @@
 pub mod Made
+pub mod Short
 pub mod Stages
 pub mod Turns
 pub mod Whole

@@ -441,6 +441,8 @@ pub record Whole (steps : List Step) : Type 0 where
   pub leads : Leads [] steps after
   pub wide : is_finished WIDE after ≡ true
   pub narrow : is_finished NARROW after ≡ true
+  pub wide_opened : opened WIDE after ≡ threads
+  pub narrow_opened : opened NARROW after ≡ threads
 
 pub whole : HandsCounted → (seed rounds : ℕ) → rounds ≤ SCHEDULE_WRITES → Whole (generated seed rounds)
 unfolding generated after_closing
@@ -452,6 +454,8 @@ whole counted seed rounds few =
       leads = joined all.leads (closing_leads counted rounds all.after all.between);
       wide = refl;
       narrow = refl;
+      wide_opened = all.between.opened_are WIDE (omega arith) (omega arith);
+      narrow_opened = all.between.opened_are NARROW (omega arith) (omega arith);
     }
 
 -- They stand in the past in their order.
@@ -463,6 +467,12 @@ wide_is_finished w = subst (λ past. is_finished WIDE past ≡ true) (past_is w)
 
 pub narrow_is_finished : {steps : List Step} → Whole steps → is_finished NARROW (reverse steps) ≡ true
 narrow_is_finished w = subst (λ past. is_finished NARROW past ≡ true) (past_is w) w.narrow
+
+pub wide_is_opened : {steps : List Step} → Whole steps → opened WIDE (reverse steps) ≡ threads
+wide_is_opened w = subst (λ past. opened WIDE past ≡ threads) (past_is w) w.wide_opened
+
+pub narrow_is_opened : {steps : List Step} → Whole steps → opened NARROW (reverse steps) ≡ threads
+narrow_is_opened w = subst (λ past. opened NARROW past ≡ threads) (past_is w) w.narrow_opened
 
 pub all_are_lawful : {steps : List Step} → Whole steps → IsLawful sample (reverse steps)
 all_are_lawful w = subst (IsLawful sample) (past_is w) (lawful_after tt w.leads)

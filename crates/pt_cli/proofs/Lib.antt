@@ -5,3 +5,4 @@ pub mod ReadSoFar
 pub mod ReplayWords
 pub mod Standing
 pub mod TextLines
+pub mod GenWords

@@ -2,6 +2,7 @@
 use Rattle.std.specs.Prelude.{◌≡◌, ℕ, ◌-◌, ◌^◌, ◌<◌, ◌⊎◌, List, [], ◌∷◌, ◌++◌, None, Some, codes}
 use Rattle.ep_plan.specs.Words.{number_in}
 use Rattle.pt_client.specs.Words.{command_in}
+use Rattle.pt_gen.specs.Words.{asked_in}
 
 -- The digits spell the number of a session: from 1 to 4,294,967,295.
 abbrev pub IsSession : List ℕ → ℕ → Type 0
@@ -25,3 +26,11 @@ IsReport words = words ≡ codes "report" ∷ []
 -- The words ask for what reads the input.
 abbrev pub AreReading : List (List ℕ) → Type 0
 AreReading words = ((session : ℕ) × IsReplay words session) ⊎ IsReport words
+
+-- The words are `gen`, with this seed and so many writes.
+abbrev pub IsGen : List (List ℕ) → ℕ → ℕ → Type 0
+IsGen words seed writes = asked_in words ≡ Some (record { seed = seed; writes = writes })
+
+-- The words ask for a schedule that is made from a seed.
+abbrev pub AreGen : List (List ℕ) → Type 0
+AreGen words = (seed : ℕ) × (writes : ℕ) × IsGen words seed writes

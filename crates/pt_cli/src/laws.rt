@@ -3,7 +3,7 @@ ghost use Rattle.std.specs.Prelude.{◌≡◌, ◌∷◌, ℕ, List, codes};
 ghost use Rattle.ep_plan.specs.declared.line.Line.{Line};
 ghost use Rattle.pt_cli.specs.declared.errors.Refusal.{Refusal};
 ghost use Rattle.pt_cli.specs.Schedule.{IsSchedule, IsRefused};
-ghost use Rattle.pt_cli.specs.Words.{IsReplay, AsksNobody};
+ghost use Rattle.pt_cli.specs.Words.{IsReplay, AreGen, AreReading, AsksNobody};
 
 use ep_plan::a_line_means_one_thing;
 
@@ -20,4 +20,10 @@ pub fn a_text_has_one_outcome()
 pub fn replay_asks_nobody()
     ensures first { (words : List (List ℕ)) → AsksNobody (codes "replay" ∷ words) }
     ensures each { (words : List (List ℕ)) (session : ℕ) → IsReplay words session → AsksNobody words }
+{}
+
+/// Words that ask for a schedule ask nobody, and for nothing that reads the input.
+pub fn gen_asks_nobody()
+    ensures nobody { (words : List (List ℕ)) → AreGen words → AsksNobody words }
+    ensures nothing { (words : List (List ℕ)) → AreGen words → AreReading words → ⊥ }
 {}

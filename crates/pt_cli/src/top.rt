@@ -2,7 +2,8 @@
 ghost use Rattle.std.specs.Prelude.{◌≡◌, ◌≢◌, ◌⊎◌, ◌+◌, ◌<◌, ◌++◌, ℕ, List, map, IsTrue, IfSome, IfNone};
 ghost use Rattle.std.specs.String.{string_bytes};
 ghost use Rattle.pt_io.specs.Faults.{HasRisen};
-ghost use Rattle.pt_io.specs.Taken.{TookAll, TookPartOf, IsPrefix};
+ghost use Rattle.pt_io.specs.Taken.{TookAll, TookPart, TookPartOf, IsPrefix};
+ghost use Rattle.pt_gen.specs.Summary.{gen_text};
 ghost use Rattle.pt_client.specs.declared.words.Command.{Command};
 ghost use Rattle.pt_client.specs.Words.{command_in};
 ghost use Rattle.pt_client.specs.Lines.{peer_error, reply_error};
@@ -13,15 +14,17 @@ ghost use Rattle.pt_cli.specs.Schedule.{IsRefused};
 ghost use Rattle.pt_reading.specs.Answers as reading;
 ghost use Rattle.pt_reading.specs.Found.{IsWhole, IsReported};
 ghost use Rattle.pt_reading.specs.Input.{ReadWhole};
-ghost use Rattle.pt_cli.specs.Words.{IsReplay, IsReport, AreReading, AsksNobody};
+ghost use Rattle.pt_cli.specs.Words.{IsReplay, IsReport, IsGen, AreReading, AreGen, AsksNobody};
 ghost use Rattle.pt_cli.specs.Replay.{IsReplayed, IsUnfinished, Finishes, IsError, IsAnswer};
 ghost use Rattle.pt_cli.specs.Finished.{end_of};
 
 use crate::ends::{Finished, Plain};
-use crate::laws::replay_asks_nobody;
+use crate::generated::generated;
+use crate::laws::{gen_asks_nobody, replay_asks_nobody};
 use crate::replay::plain;
 use pt_client::status::OUT_OF_MEMORY;
 use pt_client::{Called, client, command_of};
+use pt_gen::asked_of;
 use pt_io::{Caller, Sink, Source};
 use std::alloc::{AllocError, Global};
 
@@ -31,6 +34,9 @@ use std::alloc::{AllocError, Global};
 /// stream of session N, by default 1, to `output` in one write. With `report` it reads a stream from `input` to its end and
 /// writes the report of what the stream holds. With status 2 or 3 the output took one error line. Nothing is written before
 /// the input was read.
+///
+/// With `gen SEED N` it makes a schedule of N writes, which the seed determines, and writes how many of them each session
+/// admitted, wrote and refused, in one write. It reads no input then.
 ///
 /// With `collect TARGET MB RULE..`, `stop TARGET ID` or `ps TARGET` it calls the program whose socket is at the path TARGET
 /// and asks it for a session of MB megabytes, for the end of the session ID, or what it is. It writes the session's stream
@@ -50,10 +56,20 @@ pub fn tracepipe<I: Source, O: Sink, K: Caller>(
         × ReadWhole I.tells_given I.given I.left I.may_give input.old input.new bytes
         × IsReported bytes text × TookAll O.tells_taken O.taken output.old output.new text }
 
-    // Words that are neither a client's nor ask for what reads the input.
-    ensures words { AsksNobody (map string_bytes words.now) → result.status ≡ 2 → (AreReading (map string_bytes words.now) → ⊥)
+    // A schedule that is made from a seed is made whole before anything is written, and the input is left alone.
+    ensures generated { (seed writes : ℕ) → IsGen (map string_bytes words.now) seed writes → result.status ≡ 0
+        → TookAll O.tells_taken O.taken output.old output.new (gen_text seed writes) }
+    ensures generated_part { (seed writes : ℕ) → IsGen (map string_bytes words.now) seed writes → result.status ≡ 5
+        → TookPart O.tells_taken O.taken output.old output.new (gen_text seed writes) }
+    ensures generated_alone { AreGen (map string_bytes words.now) → (input.new ≡ input.old) × (result.peer ≡ None) × (caller.new ≡ caller.old) }
+    ensures generated_statuses { AreGen (map string_bytes words.now) → (result.status ≡ 0) ⊎ (result.status ≡ 5) ⊎ (result.status ≡ 9) }
+
+    // Words that are neither a client's nor ask for a schedule, nor for what reads the input.
+    ensures words { AsksNobody (map string_bytes words.now) → result.status ≡ 2
+        → (AreReading (map string_bytes words.now) → ⊥) × (AreGen (map string_bytes words.now) → ⊥)
         × TookAll O.tells_taken O.taken output.old output.new words_error × (input.new ≡ input.old) }
-    ensures words_refused { AsksNobody (map string_bytes words.now) → (AreReading (map string_bytes words.now) → ⊥)
+    ensures words_refused { AsksNobody (map string_bytes words.now)
+        → (AreReading (map string_bytes words.now) → ⊥) → (AreGen (map string_bytes words.now) → ⊥)
         → (result.status ≡ 2) ⊎ (result.status ≡ 5) ⊎ (result.status ≡ 9) }
 
     // An input that is no schedule, or does not finish the session.
@@ -85,7 +101,8 @@ pub fn tracepipe<I: Source, O: Sink, K: Caller>(
         × HasRisen (I.read_faults input.old) (I.read_faults input.new) × (output.new ≡ output.old) }
     ensures all_read { result.status ≢ 4 → I.read_faults input.new ≡ I.read_faults input.old }
     ensures write_fault { result.status ≡ 5 → HasRisen (O.write_faults output.old) (O.write_faults output.new) }
-    ensures written_part { AsksNobody (map string_bytes words.now) → result.status ≡ 5 → (bytes : List ℕ) × (text : List ℕ)
+    ensures written_part { AsksNobody (map string_bytes words.now) → (AreGen (map string_bytes words.now) → ⊥)
+        → result.status ≡ 5 → (bytes : List ℕ) × (text : List ℕ)
         × (AreReading (map string_bytes words.now) → ReadWhole I.tells_given I.given I.left I.may_give input.old input.new bytes)
         × IsAnswer (map string_bytes words.now) bytes text
         × (IsTrue (O.tells_taken output.old) → TookPartOf text (O.taken output.old) (O.taken output.new)) }
@@ -133,13 +150,15 @@ pub fn tracepipe<I: Source, O: Sink, K: Caller>(
         × IfSome result.peer (λ link. (K.Link.read_faults link ≡ 0) × (K.Link.write_faults link ≡ 0)) }
 {
     replay_asks_nobody();
+    gen_asks_nobody();
     match command_of(alloc, words) {
         Ok(Some(command)) => with_peer(client(alloc, &command, output, caller)),
-        Ok(None) => without_peer(plain(alloc, words, input, output)),
-        Err(AllocError) => without_peer(Plain {
-            status: OUT_OF_MEMORY,
-            at: 0,
-        }),
+        Ok(None) => match asked_of(alloc, words) {
+            Ok(Some(asked)) => without_peer(generated(alloc, asked, output)),
+            Ok(None) => without_peer(plain(alloc, words, input, output)),
+            Err(AllocError) => without_memory(),
+        },
+        Err(AllocError) => without_memory(),
     }
 }
 
@@ -166,6 +185,16 @@ fn without_peer<L>(plain: Plain) -> Finished<L>
         at: plain.at,
         peer: None,
     }
+}
+
+// The end of words for which there was no memory.
+fn without_memory<L>() -> Finished<L>
+    ensures { result ≡ record { status = 9; code = 0; at = 0; peer = None } }
+{
+    without_peer(Plain {
+        status: OUT_OF_MEMORY,
+        at: 0,
+    })
 }
 
 #[cfg(test)]

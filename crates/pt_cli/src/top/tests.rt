@@ -37,3 +37,21 @@ fn a_peer_is_called_for_a_clients_words_alone(rt: HostRuntime) -> Result<(), Fai
     assert_eq!(rt; third.status, 2);
     Ok(())
 }
+
+#[test]
+fn a_schedule_is_made_from_its_seed_without_input(rt: HostRuntime) -> Result<(), Fail> {
+    let alloc = rt.alloc();
+    let mut caller = MemCaller::new(VecDeque::new(alloc), Vec::new(alloc));
+    let mut input = MemSource::new(b"not read".to_vec(alloc)?, 1, Vec::new(alloc));
+    let mut output = MemSink::new(Vec::new(alloc));
+    let mut words = Vec::new(alloc);
+    for word in ["gen", "0", "16"] {
+        words.push(String::from_str(alloc, word)?)?;
+    }
+    let end = tracepipe(alloc, &words, &mut input, &mut output, &mut caller);
+    assert_eq!(rt; end.status, 0);
+    let want =
+        b"gen          0         16\nsession          1         16         16          0\nsession          2          3          1          2\n".as_slice();
+    assert_eq!(rt; output.taken(), want);
+    Ok(())
+}
