@@ -3,7 +3,7 @@ use std::marker::Brand;
 
 /// Names one set of ties, so that types can say that their halves are of the same set. A call picks the set where it
 /// passes `Brand`.
-pub trait Named: Send + Sync {
+pub trait Named {
     ghost use Rattle.ep_tie.specs.Tied.{TieSet};
 
     ghost ties: { TieSet };

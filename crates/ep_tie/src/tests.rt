@@ -56,7 +56,7 @@ fn raise_often<N: Named, R: Wait>(
     }
 }
 
-fn raised_by_four<N: Named, R: Threads + Wait + Sync>(
+fn raised_by_four<N: Named + Send + Sync, R: Threads + Wait + Sync>(
     rt: &R,
     blank: Blank<u64>,
 ) -> (u32, u32, u64, u64)

@@ -21,7 +21,9 @@ both-are a b xs ys zs p q r s t = subst AreLeft (sym same) both-left
     same : zs ≡ both
     same = rw (t, s, r, p, q) refl
 
-pub finish-requires-clause-roles : goal.finish-requires-clause-roles
-finish-requires-clause-roles g c =
-    λ _ _. both-are c.args.first c.args.second c.new-roles.result.items c.push.new.self.items c.push-2.new.self.items c.requires.first c.requires.second
-    c.new-roles.ensures.items c.in_ok-push.ensures.items c.in_ok-push-2.ensures.items
+pub finish-requires : goal.finish-requires
+finish-requires g c =
+    record {
+      roles = both-are c.args.first c.args.second c.new-roles.result.items c.push.new.self.items c.push-2.new.self.items c.requires.first c.requires.second
+          c.new-roles.ensures.items c.in_ok-push.ensures.items c.in_ok-push-2.ensures.items;
+    }

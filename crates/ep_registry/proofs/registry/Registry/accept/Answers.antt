@@ -11,7 +11,7 @@ use Rattle.ep_registry.proofs.Written.{accepted-ended}
 use Rattle.ep_registry.proofs.registry.Registry.accept.Goals as goal
 
 pub hand_out-requires-clause-slot : goal.hand_out-requires-clause-slot
-hand_out-requires-clause-slot g c κs within =
+hand_out-requires-clause-slot g c =
     let answer = sym c.accept-answer.ensures.answer ∙ c.in-Seat.is in
     rw c.begun-hold.ensures (seat-within c.self.inside.journal c.in-Seat.slot c.in-Seat.id c.decided-conn.ensures.kept answer)
 

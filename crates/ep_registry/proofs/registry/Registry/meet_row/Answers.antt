@@ -14,7 +14,7 @@ prove-unreachable-requires g c =
     let q : false ≡ true = sym c.if-prove.true ∙ c.has_ended-ended.ensures.value ∙ yes in cc
 
 pub meet-requires-2-clause-ended : goal.meet-requires-2-clause-ended
-meet-requires-2-clause-ended g c κs within =
+meet-requires-2-clause-ended g c =
     let d : Desk = record { recorded = c.self.inside.journal; book = c.self.inside.book; holds = c.self.inside.holds; spare = c.self.inside.spare.items; marks = c.self.inside.marks; roles = c.self.inside.roles; closed = c.self.inside.closed; early = c.self.inside.early } in
     let hold = c.args.holder.now in
     let known = held-known d hold c.self.invariant.tied c.meet.ensures.known.0 c.meet.ensures.known.1 c.meet.ensures.equal in

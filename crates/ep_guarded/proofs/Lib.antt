@@ -1,0 +1,5 @@
+pub mod Rows
+pub mod Showing
+pub mod Halves
+pub mod Resting
+pub mod Openings

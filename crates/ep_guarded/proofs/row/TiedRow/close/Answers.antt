@@ -1,0 +1,50 @@
+use Rattle.std.proofs.Common.{◌≡◌, ◌∙◌, Some, refl, ap, sym, arith}
+use Rattle.std.proofs.lemmas.Option.{slice_get_read}
+use Rattle.ep_slot.specs.Hand.{HandState, hand_of}
+use Rattle.ep_row.specs.declared.row.Opening.{Opening}
+use Rattle.ep_guarded.specs.declared.grant.Grant.{Grant}
+use Rattle.ep_guarded.specs.declared.kept.Kept.{Kept}
+use Rattle.ep_guarded.specs.Tied.{TiedRowState, grant_in}
+use Rattle.ep_guarded.proofs.Openings.{hand-kept, grant-kept, told-slot, told-thread, told-config, row-closed, are-counted}
+use Rattle.ep_guarded.proofs.row.TiedRow.close.Goals as goal
+
+pub close-requires-clause-open : goal.close-requires-clause-open
+close-requires-clause-open g c =
+    let at = slice_get_read c.self.inside.buffers.items _ c.args.slot c.index_mut.result.now refl (omega (arith, c.self.invariant.count, c.requires.within)) c.index_mut.ensures.value in
+    let told = c.self.invariant.told c.args.slot c.index_mut.result.now at in
+    let kept = c.take-kept.ensures in (
+      told-slot _ _ _ _ _ kept.told told ∙ ap (λ (o : Opening). Some o) kept.rests.opening,
+      sym kept.rests.thread ∙ told-thread _ _ _ _ _ kept.told told,
+    )
+
+pub close-requires-clause-seat : goal.close-requires-clause-seat
+close-requires-clause-seat g c = c.requires.seat _ (ap grant_in c.take-kept.ensures.held)
+
+pub invariant_of-self : goal.invariant_of-self
+invariant_of-self g c =
+    let at = slice_get_read c.self.inside.buffers.items _ c.args.slot c.index_mut.result.now refl (omega (arith, c.self.invariant.count, c.requires.within)) c.index_mut.ensures.value in
+    row-closed _ _ _ c.self.inside.row c.close.new.row _ _ c.index_mut.result.now c.take-kept.new.half c.args.slot c.self.invariant at c.take-kept.ensures.places.1 c.take-kept.ensures.nothing.0 c.close.ensures.row
+
+pub returns-clause-counted : goal.returns-clause-counted
+returns-clause-counted g c grant is =
+    let at = slice_get_read c.self.inside.buffers.items _ c.args.slot c.index_mut.result.now refl (omega (arith, c.self.invariant.count, c.requires.within)) c.index_mut.ensures.value in
+    let told = c.self.invariant.told c.args.slot c.index_mut.result.now at in
+    let kept = c.take-kept.ensures in
+    let one : Kept = c.take-kept.result in
+    let hand : c.args.hand ≡ hand_of one.slot = hand-kept _ one _ kept.held c.requires.hand in
+    are-counted _ c.self.invariant.configs _ c.self.inside.row c.args.slot one.told.opening grant.config c.args.hand _ _ c.close.result.1 c.self.invariant.over c.requires.within
+    (ap (λ (r : TiedRowState). r.row.in_write) c.self.view_is ∙ c.requires.quiet)
+    (told-slot _ _ _ _ _ kept.told told)
+    (sym (told-config _ _ _ _ _ kept.told told) ∙ ap (λ (g : Grant). g.config) (grant-kept _ one _ kept.held is))
+    (ap (λ (h : HandState). h.thread) hand ∙ sym kept.rests.thread ∙ told-thread _ _ _ _ _ kept.told told)
+    (ap (λ (h : HandState). h.from) hand ∙ ap (λ (o : Opening). o.from) (sym kept.rests.opening))
+    (c.close.ensures.last ∙ ap (λ (o : Opening). o.shown) (sym kept.rests.opening)) c.close.ensures.marks
+
+pub returns-clause-thread : goal.returns-clause-thread
+returns-clause-thread g c =
+    let at = slice_get_read c.self.inside.buffers.items _ c.args.slot c.index_mut.result.now refl (omega (arith, c.self.invariant.count, c.requires.within)) c.index_mut.ensures.value in
+    let told = c.self.invariant.told c.args.slot c.index_mut.result.now at in
+    let kept = c.take-kept.ensures in
+    let one : Kept = c.take-kept.result in
+    let hand : c.args.hand ≡ hand_of one.slot = hand-kept _ one _ kept.held c.requires.hand in
+    ap (λ (h : HandState). h.thread) hand ∙ sym kept.rests.thread ∙ told-thread _ _ _ _ _ kept.told told ∙ ap (λ (r : TiedRowState). r.row.thread) c.self.view_is

@@ -1,0 +1,52 @@
+use Rattle.std.proofs.Common.{◌∙◌, ◌*◌, ◌+◌, ◌<◌, List, Option, refl, ap, sym, subst, arith, length}
+use Rattle.std.specs.Prelude.{IsNone, option_map, slice_set}
+use Rattle.std.proofs.Math.ListN.{length-set}
+use Rattle.std.proofs.lemmas.Option.{slice_get_read}
+use Rattle.ep_row.specs.declared.row.Opening.{Opening}
+use Rattle.ep_tie.specs.Tied.{Tied}
+use Rattle.ep_guarded.specs.declared.agreed.Told.{Told}
+use Rattle.ep_guarded.specs.declared.agreed.Agreed.{Agreed}
+use Rattle.ep_guarded.specs.Tied.{TiedRowState, BufferState}
+use Rattle.ep_defs.specs.declared.event.EventDef.{EventDef}
+use Rattle.ep_guarded.specs.declared.grant.Grant.{Grant}
+use Rattle.ep_guarded.specs.Resting.{RowRests}
+use Rattle.ep_guarded.specs.Calls.{OpensRow}
+use Rattle.ep_guarded.proofs.Resting.{get-set-same}
+use Rattle.ep_guarded.proofs.Openings.{set-twice, row-opened}
+use Rattle.ep_guarded.proofs.row.TiedRow.open.Goals as goal
+
+pub open-requires-clause-off : goal.open-requires-clause-off
+open-requires-clause-off g c =
+    let at = slice_get_read c.self.inside.buffers.items _ c.args.slot c.index_mut.result.now refl (omega (arith, c.self.invariant.count, c.requires.within)) c.index_mut.ensures.value in
+    let told = c.self.invariant.told c.args.slot c.index_mut.result.now at in
+    subst (λ (o : Option Opening). IsNone o) (sym (told.slot_is ∙ ap (λ (t : Option Told). option_map (λ t. t.opening) t) c.meet.ensures.off)) refl
+
+pub put-requires-clause-place : goal.put-requires-clause-place
+put-requires-clause-place g c =
+    let buffers : List (Tied Agreed) = c.self.inside.buffers.items in
+    let small : c.args.slot < length buffers = omega (arith, c.self.invariant.count, c.requires.within) in
+    let at = slice_get_read buffers _ c.args.slot c.index_mut.result.now refl small c.index_mut.ensures.value in
+    let met : List (Tied Agreed) = slice_set buffers c.args.slot c.meet.new.half in
+    let at2 = slice_get_read met _ c.args.slot c.index_mut-2.result.now refl (omega (arith, small, length-set buffers c.args.slot c.meet.new.half)) c.index_mut-2.ensures.value in
+    let same = get-set-same buffers c.args.slot c.index_mut-2.result.now c.meet.new.half at2 in
+    ap (λ (t : Tied Agreed). t.place) (same ∙ c.meet.ensures.same.1)
+    ∙ c.self.invariant.places c.args.slot c.index_mut.result.now at
+    ∙ ap (λ (r : TiedRowState). g.P.Program.rows + 2 * (r.number * 64 + c.args.slot)) c.self.view_is
+    ∙ sym c.requires.place
+    ∙ ap (λ (b : BufferState). b.place) (sym c.meet.ensures.same.0)
+
+pub invariant_of-self-2 : goal.invariant_of-self-2
+invariant_of-self-2 g c =
+    let buffers : List (Tied Agreed) = c.self.inside.buffers.items in
+    let small : c.args.slot < length buffers = omega (arith, c.self.invariant.count, c.requires.within) in
+    let at = slice_get_read buffers _ c.args.slot c.index_mut.result.now refl small c.index_mut.ensures.value in
+    let met : List (Tied Agreed) = slice_set buffers c.args.slot c.meet.new.half in
+    let at2 = slice_get_read met _ c.args.slot c.index_mut-2.result.now refl (omega (arith, small, length-set buffers c.args.slot c.meet.new.half)) c.index_mut-2.ensures.value in
+    let same = get-set-same buffers c.args.slot c.index_mut-2.result.now c.meet.new.half at2 in
+    let opened = c.in_ok-kept.ensures.opened in
+    subst (λ (bs : List (Tied Agreed)). RowRests g.P.Program.rows g.P.Program.events g.P.Program.writes c.open.new.row bs c.self.inside.writer) (sym (set-twice buffers c.args.slot c.meet.new.half c.put.new.half))
+    (row-opened _ _ _ c.self.inside.row c.open.new.row buffers _ c.index_mut.result.now c.put.new.half c.args.slot c.in_ok-kept.kept.told c.self.invariant at
+    (c.put.ensures.places.1 ∙ ap (λ (t : Tied Agreed). t.place) (same ∙ c.meet.ensures.same.1))
+    c.put.ensures.told opened.thread
+    (subst (λ (g' : Grant). OpensRow g.P.Program.events c.args.slot g'.config c.in_ok-kept.kept.told.opening c.self.inside.row c.open.new.row) (sym opened.grant_is)
+    (subst (λ (es : List EventDef). OpensRow es c.args.slot c.args.grant.now.config c.in_ok-kept.kept.told.opening c.self.inside.row c.open.new.row) c.requires.events opened.row_is)))

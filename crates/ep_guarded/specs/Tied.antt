@@ -1,0 +1,91 @@
+-- What contracts see of rows and buffers with their halves of ties. All of it is this project's own.
+use Rattle.std.specs.Prelude.{ℕ, ◌+◌, ◌*◌, ◌≤◌, List, length, take, Option, None, Some}
+use Rattle.std.specs.List.{All}
+use Rattle.std.specs.Prelude.{◌≡◌, IsTrue}
+use Rattle.ep_defs.specs.declared.limits.TheConstants.{SESSIONS}
+use Rattle.ep_defs.specs.declared.event.EventDef.{EventDef}
+use Rattle.ep_defs.specs.declared.session.Config.{Config}
+use Rattle.ep_defs.specs.declared.session.Marks.{Marks}
+use Rattle.ep_defs.specs.declared.session.Write.{Write}
+use Rattle.ep_model.specs.History.{admitted_from}
+use Rattle.ep_defs.specs.Session.{fits}
+use Rattle.ep_chunk.specs.Record.{Record}
+use Rattle.ep_slot.specs.Slot.{AreRising}
+use Rattle.ep_slot.specs.Hand.{HandState}
+use Rattle.ep_row.specs.AtRest.{write_of}
+use Rattle.ep_row.specs.Row.{RowState}
+use Rattle.ep_guarded.specs.declared.agreed.Told.{Told}
+use Rattle.ep_guarded.specs.declared.agreed.Stand.{Stand}
+use Rattle.ep_guarded.specs.declared.agreed.Agreed.{Agreed}
+use Rattle.ep_guarded.specs.declared.agreed.Agreed.TheVariants as agreed
+use Rattle.ep_guarded.specs.declared.grant.Grant.{Grant}
+
+-- ---- what halves show
+
+-- What a row and a buffer agree on, if a session is open there.
+abbrev pub told_in : Option Agreed → Option Told
+told_in (Some (agreed.Told told)) = Some told
+told_in _ = None
+
+-- The hand that a buffer agrees with, if a session is open there.
+abbrev pub hand_in : Option Agreed → Option HandState
+hand_in (Some (agreed.Held held)) = Some held.numbers
+hand_in _ = None
+
+-- What the session of this hand was granted.
+abbrev pub grant_in : Option Agreed → Option Grant
+grant_in (Some (agreed.Held held)) = Some held.grant.now
+grant_in _ = None
+
+-- How far the thread of a row has come.
+abbrev pub stand_in : Option Agreed → Option Stand
+stand_in (Some (agreed.Stand stand)) = Some stand
+stand_in _ = None
+
+-- ---- numbers and places
+
+-- The number of a buffer, by its row, from 0, and its slot.
+abbrev pub buffer_number : ℕ → ℕ → ℕ
+buffer_number row slot = row * SESSIONS + slot
+
+-- Where a buffer's tie to its row stands, behind those of so many rows to their threads. The tie to its hand is the next.
+abbrev pub buffer_place : ℕ → ℕ → ℕ
+buffer_place rows number = rows + 2 * number
+
+-- A row: its number, from 0, and itself.
+pub record TiedRowState : Type 0 where
+  pub number : ℕ
+  pub row : RowState
+
+-- A buffer: where its tie to its row stands.
+pub record BufferState : Type 0 where
+  pub place : ℕ
+
+-- ---- what is taken with a hand
+
+-- The hand after a batch of so many records and chunks.
+abbrev pub hand_after : HandState → ℕ → ℕ → ℕ → HandState
+hand_after hand records last chunks =
+    record hand { taken = hand.taken + records; last = last; stolen = hand.stolen + chunks }
+
+-- The records are the hand's thread's, their numbers lie above its last one and at most at this one, and each is of a
+-- write that a thread can make.
+pub record AreTaken (hand : HandState) (records : List Record) (last : ℕ) : Type 0 where
+  pub of_thread : All (λ r. r.thread ≡ hand.thread) records
+  pub rising : AreRising hand.last last records
+  pub fit : All (λ r. IsTrue (fits (write_of r))) records
+
+-- What the session had of the hand's thread once these records are taken with it, and the thread had made so many writes.
+pub record AreMarks (hand : HandState) (records : List Record) (last to : ℕ) (marks : Marks) : Type 0 where
+  pub thread : marks.thread ≡ hand.thread
+  pub from : marks.from ≡ hand.from
+  pub to_is : marks.to ≡ to
+  pub taken : marks.taken ≡ hand.taken + length records
+  -- the other numbers that were used are those of refused writes
+  pub refused : marks.taken + marks.refused ≡ last
+
+-- What was taken and what was refused is what the session gets of the thread's writes from the opening up to the closing.
+pub record AreCounted (events : List EventDef) (writes : ℕ → List Write) (config : Config) (marks : Marks) : Type 0 where
+  pub ordered : marks.from ≤ marks.to
+  pub within : marks.to ≤ length (writes marks.thread)
+  pub counted : marks.taken + marks.refused ≡ length (admitted_from events (Some config) marks.from (take marks.to (writes marks.thread)))

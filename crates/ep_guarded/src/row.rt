@@ -1,0 +1,234 @@
+//! A row with its halves of ties.
+ghost use Rattle.std.specs.Prelude.{◌≡◌, ◌+◌, ◌-◌, ◌^◌, ◌<◌, ◌≤◌, ◌↔◌, ℕ, false, true, length, take, slice_get, vec_len, All, Some, None, IsNone, IfSome, IfOk, OnOk, OnErr, IsSome, IsTrue};
+ghost use Rattle.std.specs.Int.{bit_at};
+ghost use Rattle.std.specs.Option.{ForSome};
+ghost use Rattle.ep_defs.specs.Session as valid;
+ghost use Rattle.ep_row.specs.Bits.{ClearsBit};
+ghost use Rattle.ep_row.specs.Row.{new_row, with_begin};
+ghost use Rattle.ep_row.specs.AtRest.{IsNumbered};
+ghost use Rattle.ep_pool.specs.Shared.{IsSeatOf};
+ghost use Rattle.ep_pool.specs.declared.limits.TheConstants.{SEAT_COUNTS};
+ghost use Rattle.ep_slot.specs.Chain.{records_of, HasRecords};
+ghost use Rattle.ep_tie.specs.Tied.{Tied};
+ghost use Rattle.ep_guarded.specs.declared.agreed.Agreed.{Agreed as AgreedValue};
+ghost use Rattle.ep_guarded.specs.declared.agreed.Agreed.TheVariants as agreed;
+ghost use Rattle.ep_guarded.specs.Tied.{stand_in, hand_in, grant_in, buffer_number, buffer_place, AreTaken, AreMarks, AreCounted};
+
+use crate::agreed::{Agreed, Stand};
+use crate::buffer::TiedBuffer;
+use crate::grant::Grant;
+use crate::kept::{close, open};
+use crate::program::Program;
+use ep_defs::limits::{SESSIONS, WRITES};
+use ep_defs::{EventDef, Marks, Write};
+use ep_pool::PoolSeat;
+use ep_row::Row;
+use ep_slot::{Batch, Hand, Shown};
+use ep_tie::{Left, Right, Ties};
+use std::alloc::{AllocError, Global};
+use std::marker::Model;
+use std::sync::Wait;
+
+/// A thread's row with its halves of ties, as it stands under its lock. Contracts see its number, from 0, and the row.
+#[derive(Drop)]
+pub struct TiedRow<'a, P: Program> {
+    row: Row,
+    // By slot.
+    buffers: Vec<Left<P, Agreed<'a>>>,
+    writer: Left<P, Agreed<'a>>,
+}
+
+impl<'a, P: Program> Model for TiedRow<'a, P> {
+    ghost use Rattle.ep_guarded.specs.Tied.{TiedRowState};
+    ghost use Rattle.ep_guarded.specs.Resting.{RowRests};
+
+    ghost Value = { TiedRowState };
+
+    ghost view = { λ r. record { number = r.writer.place; row = r.row } };
+
+    ghost invariant = { λ r. RowRests P.rows P.events P.writes r.row r.buffers.items r.writer };
+}
+
+impl<'a, P: Program> TiedRow<'a, P> {
+    /// The row with this number, from 0, in a program of so many events, with its halves of the ties to its buffers, by
+    /// slot, and of that to its thread. Its thread, from 1, has made no write, and no session is open on it.
+    pub fn new(
+        alloc: Global,
+        number: u32,
+        events: u32,
+        buffers: Vec<Left<P, Agreed<'a>>>,
+        writer: Left<P, Agreed<'a>>,
+    ) -> Result<TiedRow<'a, P>, AllocError>
+        requires events { events ≡ length P.events }
+        requires number { writer.place ≡ number }
+        requires count { vec_len buffers ≡ SESSIONS }
+        requires places { (s : ℕ) (half : Tied AgreedValue) → slice_get buffers.items s ≡ Some half → half.place ≡ buffer_place P.rows (buffer_number number s) }
+        requires nothing { (s : ℕ) (half : Tied AgreedValue) → slice_get buffers.items s ≡ Some half → half.value ≡ Some agreed.Nothing }
+        requires stands { writer.value ≡ Some (agreed.Stand (record { thread = number + 1; index = 0 })) }
+        ensures row { IfOk result (λ made. made ≡ record { number = number; row = new_row (number + 1) events }) }
+    {
+        let row = Row::new(alloc, u64::from(number) + 1, events)?;
+        Ok(TiedRow {
+            row,
+            buffers,
+            writer,
+        })
+    }
+
+    /// Begins the next write of the row's thread, which has its half of the tie. It takes no memory.
+    pub fn begin(
+        &mut self,
+        ties: &Ties<P, Agreed<'a>>,
+        half: &mut Right<P, Agreed<'a>>,
+        stamp: u64,
+        write: &Write,
+    )
+        requires place { half.old.place ≡ self.old.number }
+        requires quiet { self.old.row.in_write ≡ false }
+        requires few { ForSome (stand_in half.old.value) (λ s. s.index < WRITES) }
+        requires next { ForSome (stand_in half.old.value) (λ s. slice_get (P.writes s.thread) s.index ≡ Some write.now) }
+        requires some { 0 < write.now.event }
+        requires event { write.now.event ≤ length P.events }
+        requires fits { IsTrue (valid.fits write.now) }
+        ensures row { self.new.row ≡ with_begin self.old.row stamp write.now }
+        ensures number { self.new.number ≡ self.old.number }
+        ensures write { slice_get (P.writes self.old.row.thread) self.old.row.index ≡ Some write.now }
+        ensures stood { half.old.value ≡ Some (agreed.Stand (record { thread = self.old.row.thread; index = self.old.row.index })) }
+        ensures stands { half.new.value ≡ Some (agreed.Stand (record { thread = self.new.row.thread; index = self.new.row.index })) }
+        ensures place { half.new.place ≡ half.old.place }
+    {
+        let next = Agreed::Stand(Stand {
+            thread: self.row.thread(),
+            index: self.row.index() + 1,
+        });
+        self.writer.set(ties, half, &next);
+        self.row.begin(stamp, write);
+    }
+
+    /// The lowest slot that has not seen the last write yet.
+    pub fn next_due(&self) -> Option<u32>
+        ensures none { IsNone result ↔ (self.now.row.due ≡ 0) }
+        ensures within { IfSome result (λ slot. slot < SESSIONS) }
+        ensures due { IfSome result (λ slot. bit_at self.now.row.due slot ≡ 1) }
+        ensures lowest { IfSome result (λ slot. (s : ℕ) → s < slot → bit_at self.now.row.due s ≡ 0) }
+    {
+        self.row.next_due()
+    }
+
+    /// Shows the write that was begun to a session that is due, whose buffer is lent. It takes no memory, and may wait for
+    /// the session's pool.
+    pub fn show<R: Wait>(
+        &mut self,
+        rt: &R,
+        ties: &Ties<P, Agreed<'a>>,
+        slot: u32,
+        buffer: &mut TiedBuffer<'a, P>,
+        write: &Write,
+    ) -> Shown
+        requires within { slot < SESSIONS }
+        requires due { bit_at self.old.row.due slot ≡ 1 }
+        requires begun { 0 < self.old.row.index }
+        requires last { slice_get (P.writes self.old.row.thread) (self.old.row.index - 1) ≡ Some write.now }
+        requires place { buffer.old.place ≡ buffer_place P.rows (buffer_number self.old.number slot) }
+        requires fits { IsTrue (valid.fits write.now) }
+        ensures due { ClearsBit slot self.old.row.due self.new.row.due }
+        ensures bounded { self.new.row.due < 2 ^ 64 }
+        ensures others { self.new.row ≡ record self.old.row { due = self.new.row.due; slots = self.new.row.slots } }
+        ensures number { self.new.number ≡ self.old.number }
+        ensures place { buffer.new.place ≡ buffer.old.place }
+    {
+        buffer.show(
+            rt,
+            ties,
+            &mut self.buffers[slot as usize],
+            &mut self.row,
+            slot,
+            write,
+        )
+    }
+
+    /// Ends a write that every session saw that gets it.
+    pub fn end(&mut self)
+        requires in_write { self.old.row.in_write ≡ true }
+        requires seen { self.old.row.due ≡ 0 }
+        ensures row { self.new.row ≡ record self.old.row { in_write = false } }
+        ensures number { self.new.number ≡ self.old.number }
+    {
+        self.row.end();
+    }
+
+    /// Opens a session, with what it was granted, in a slot whose buffer and whose hand's half are lent. Out of memory all
+    /// stays as it was.
+    pub fn open(
+        &mut self,
+        alloc: Global,
+        ties: &Ties<P, Agreed<'a>>,
+        slot: u32,
+        buffer: &mut TiedBuffer<'a, P>,
+        half: &mut Right<P, Agreed<'a>>,
+        session: u64,
+        grant: &'a Grant,
+        events: &[EventDef],
+        seat: &mut PoolSeat,
+    ) -> Result<Hand, AllocError>
+        requires within { slot < SESSIONS }
+        requires quiet { self.old.row.in_write ≡ false }
+        requires place { buffer.old.place ≡ buffer_place P.rows (buffer_number self.old.number slot) }
+        requires hand_place { half.old.place ≡ buffer.old.place + 1 }
+        requires off { hand_in half.old.value ≡ None }
+        requires events { events.now ≡ P.events }
+        requires seat { IsSeatOf grant.now.pool seat.old }
+        requires share { 1 < seat.old.share }
+        ensures hand { IfOk result (λ hand. hand ≡ record { session = session; thread = self.old.row.thread; from = self.old.row.index; taken = 0; last = 0; stolen = 0 }) }
+        ensures half { IfOk result (λ hand. hand_in half.new.value ≡ Some hand) }
+        ensures grant { OnOk result (grant_in half.new.value ≡ Some grant.now) }
+        ensures seat { OnOk result (seat.new ≡ record seat.old { share = seat.old.share - 1 }) }
+        ensures none { OnErr result (half.new ≡ half.old) }
+        ensures none_seat { OnErr result (seat.new ≡ seat.old) }
+        ensures row { self.new.row ≡ record self.old.row { masks = self.new.row.masks; slots = self.new.row.slots } }
+        ensures number { self.new.number ≡ self.old.number }
+        ensures places { (buffer.new.place ≡ buffer.old.place) × (half.new.place ≡ half.old.place) }
+    {
+        buffer.meet(ties, &mut self.buffers[slot as usize], half);
+        let (kept, hand) = open::<P>(alloc, &mut self.row, slot, session, grant, events, seat)?;
+        buffer.put(ties, &mut self.buffers[slot as usize], half, kept, &hand);
+        Ok(hand)
+    }
+
+    /// Closes the session of a hand, whose half is lent, and gives what was pending and what the session had of the row's
+    /// thread. The seat of the session's pool gets the buffer's share back, with what was taken through it. It takes no
+    /// memory.
+    pub fn close(
+        &mut self,
+        ties: &Ties<P, Agreed<'a>>,
+        slot: u32,
+        buffer: &mut TiedBuffer<'a, P>,
+        half: &mut Right<P, Agreed<'a>>,
+        hand: Hand,
+        seat: &mut PoolSeat,
+    ) -> (Batch, Marks)
+        requires within { slot < SESSIONS }
+        requires quiet { self.old.row.in_write ≡ false }
+        requires place { buffer.old.place ≡ buffer_place P.rows (buffer_number self.old.number slot) }
+        requires hand_place { half.old.place ≡ buffer.old.place + 1 }
+        requires hand { hand_in half.old.value ≡ Some hand }
+        requires seat { ForSome (grant_in half.old.value) (λ grant. IsSeatOf grant.pool seat.old) }
+        requires few { seat.old.taken + WRITES < SEAT_COUNTS }
+        requires few_given { seat.old.given < SEAT_COUNTS }
+        ensures taken { AreTaken hand (records_of result.0.chain) result.0.last }
+        ensures numbered { ForSome (grant_in half.old.value) (λ grant. All (IsNumbered P.events grant.config (P.writes hand.thread) hand.from) (records_of result.0.chain)) }
+        ensures filled { All HasRecords result.0.chain }
+        ensures marks { AreMarks hand (records_of result.0.chain) result.0.last self.old.row.index result.1 }
+        ensures counted { ForSome (grant_in half.old.value) (λ grant. AreCounted P.events P.writes grant.config result.1) }
+        ensures thread { hand.thread ≡ self.old.row.thread }
+        ensures seat { seat.new ≡ record seat.old { share = seat.old.share + 1; taken = seat.old.taken + (hand.stolen + length result.0.chain) } }
+        ensures few { hand.stolen + length result.0.chain ≤ WRITES }
+        ensures half { half.new.value ≡ Some agreed.Nothing }
+        ensures row { self.new.row ≡ record self.old.row { masks = self.new.row.masks; slots = self.new.row.slots } }
+        ensures number { self.new.number ≡ self.old.number }
+        ensures places { (buffer.new.place ≡ buffer.old.place) × (half.new.place ≡ half.old.place) }
+    {
+        let kept = buffer.take(ties, &mut self.buffers[slot as usize], half);
+        close::<P>(&mut self.row, slot, kept, hand, seat)
+    }
+}

@@ -1,0 +1,241 @@
+-- What one session's rows are after one of their halves changes.
+use Rattle.std.proofs.Common.{◌≡◌, ℕ, zero, suc, ◌+◌, ◌-◌, ◌*◌, ◌<◌, ◌≤◌, true, false, List, [], ◌∷◌, Option, None, Some, length, refl, ap, sym, ◌∙◌, arith}
+use Rattle.std.specs.Prelude.{◌==◌, ◌&&◌, if◌then◌else◌, slice_get, slice_set, slice_index_or}
+use Rattle.std.specs.Prelude.{Result, Ok, Err}
+use Rattle.std.specs.Result.{OnErr}
+use Rattle.std.specs.List.{sum_by}
+use Rattle.std.specs.Option.{option_map_or}
+use Rattle.std.proofs.lemmas.Bool.{eqb-true, eqb-false, eq-eqb, ne_eqb}
+use Rattle.std.proofs.lemmas.List.{get_or-set_same, get_or-set_other, length-set}
+use Rattle.std.proofs.lemmas.List.Sums.{sum_by-cons, sum_by-set}
+use Rattle.std.proofs.lemmas.Option.{slice_get_within, get_or_from_slice_get}
+use Rattle.ep_pool.specs.Shared.{SeatState}
+use Rattle.ep_slot.specs.Hand.{HandState}
+use Rattle.ep_stream.specs.Rows.{IsSetAt}
+use Rattle.ep_tie.specs.Tied.{Tied}
+use Rattle.ep_guarded.specs.declared.agreed.Agreed.{Agreed}
+use Rattle.ep_guarded.specs.declared.agreed.Agreed.TheVariants as agreed
+use Rattle.ep_guarded.specs.declared.grant.Grant.{Grant}
+use Rattle.ep_guarded.specs.Tied.{hand_in, grant_in}
+use Rattle.ep_guarded.proofs.Resting.{each-set}
+use Rattle.ep_live.specs.RowSet.{half_at, said_by, stolen_in, hands_in, AreRowsOfOne, IsHandHalf, AreSlotTies}
+
+none_some : {A : Type 0} (a : A) → None ≡ Some a → ⊥
+none_some a e = cc
+
+same : {A : Type 0} (a b : A) → Some a ≡ Some b → a ≡ b
+same a b e = cc
+
+-- ---- what is said at a row
+
+-- The half at a row is that at the place before it.
+pub half-is : (halves : List (Tied Agreed)) (row : ℕ) (half : Tied Agreed) → 0 < row → slice_get halves (row - 1) ≡ Some half → half_at halves row ≡ half
+half-is halves zero half some is = absurd (omega (arith, some))
+half-is halves (suc place) half some is =
+    let before : suc place - 1 ≡ place = omega arith in
+    get_or_from_slice_get halves place half (record { place = 0; value = None }) (sym (ap (λ (k : ℕ). slice_get halves k) before) ∙ is)
+
+-- In the session's slot it is what the half says.
+pub said-own : {A : Type 0} (says : Option Agreed → Option A) (halves : List (Tied Agreed)) (own row slot : ℕ) → slot ≡ own → said_by says halves own row slot ≡ says (half_at halves row).value
+said-own says halves own row slot is =
+    ap (λ v. if v then says (half_at halves row).value else None) (eq-eqb slot own is)
+
+-- What is said is said in the session's slot.
+pub said-there : {A : Type 0} (says : Option Agreed → Option A) (halves : List (Tied Agreed)) (own row slot : ℕ) (y : A) → said_by says halves own row slot ≡ Some y → slot ≡ own
+said-there says halves own row slot y is =
+    elim (slot == own) as (λ v. (slot == own) ≡ v → (if v then says (half_at halves row).value else None) ≡ Some y → slot ≡ own) [
+      | true ↦ λ e is. eqb-true slot own e
+      | false ↦ λ e is. absurd (none_some y is)
+    ]
+    refl is
+
+half-set : (halves : List (Tied Agreed)) (row : ℕ) (now : Tied Agreed) (r : ℕ) → 0 < row → row ≤ length halves → half_at (slice_set halves (row - 1) now) r ≡ (if r == row then now else half_at halves r)
+half-set halves zero now r some within = absurd (omega (arith, some))
+half-set halves (suc place) now r some within =
+    let before : suc place - 1 ≡ place = omega arith in
+    ap (λ (k : ℕ). half_at (slice_set halves k now) r) before ∙ at r
+  where
+    at : (r : ℕ) → half_at (slice_set halves place now) r ≡ (if r == suc place then now else half_at halves r)
+    at zero = ap (λ v. if v then now else half_at halves 0) (sym (ne_eqb 0 (suc place) (λ (e : 0 ≡ suc place). omega (arith, e))))
+    at (suc k) =
+        elim (suc k == suc place) as (λ v. (suc k == suc place) ≡ v → slice_index_or (slice_set halves place now) k (record { place = 0; value = None }) ≡ (if v then now else slice_index_or halves k (record { place = 0; value = None }))) [
+          | true ↦ λ e. let is = eqb-true (suc k) (suc place) e in
+              let here : k ≡ place = omega (arith, is) in
+              ap (λ (n : ℕ). slice_index_or (slice_set halves place now) n (record { place = 0; value = None })) here ∙ get_or-set_same halves place now (record { place = 0; value = None }) (omega (arith, within))
+          | false ↦ λ e. let not = eqb-false (suc k) (suc place) e in
+              get_or-set_other halves place k now (record { place = 0; value = None }) (λ (is : k ≡ place). not (ap suc is))
+        ]
+        refl
+
+-- One half says something else.
+pub said-set : {A : Type 0} (says : Option Agreed → Option A) (halves : List (Tied Agreed)) (own row slot : ℕ) (now : Tied Agreed) (value : Option A) → slot ≡ own → 0 < row → row ≤ length halves → says now.value ≡ value
+    → IsSetAt row slot value (said_by says halves own) (said_by says (slice_set halves (row - 1) now) own)
+said-set {A = A} says halves own row slot now value own_is some within is r s =
+    ap (λ (half : Tied Agreed). if s == own then says half.value else None) (half-set halves row now r some within)
+    ∙ ap (λ (n : ℕ). if s == n then says (if r == row then now else half_at halves r).value else None) (sym own_is)
+    ∙ cases
+    ∙ ap (λ (n : ℕ). if (r == row) && (s == slot) then value else (if s == n then says (half_at halves r).value else None)) own_is
+  where
+    nothing : Option A
+    nothing = None
+
+    cases : (if s == slot then says (if r == row then now else half_at halves r).value else None) ≡ (if (r == row) && (s == slot) then value else (if s == slot then says (half_at halves r).value else None))
+    cases =
+        elim (s == slot) as (λ v. (if v then says (if r == row then now else half_at halves r).value else None) ≡ (if (r == row) && v then value else (if v then says (half_at halves r).value else None))) [
+          | true ↦ elim (r == row) as (λ w. says (if w then now else half_at halves r).value ≡ (if w && true then value else says (half_at halves r).value)) [
+            | true ↦ is
+            | false ↦ refl
+          ]
+          | false ↦ elim (r == row) as (λ w. nothing ≡ (if w && false then value else None)) [
+            | true ↦ refl
+            | false ↦ refl
+          ]
+        ]
+
+-- A half that stays leaves the list as it was.
+pub set-same : {A : Type 0} (xs : List A) (k : ℕ) (x : A) → slice_get xs k ≡ Some x → slice_set xs k x ≡ xs
+set-same [] k x is = refl
+set-same (first ∷ xs) zero x is = ap (λ y. y ∷ xs) (sym (same first x is))
+set-same (first ∷ xs) (suc k) x is = ap (λ ys. first ∷ ys) (set-same xs k x is)
+
+-- ---- what a half has
+
+-- A half with a hand tells what its session was granted.
+pub held-grant : (value : Option Agreed) (hand : HandState) → hand_in value ≡ Some hand → (grant : Grant) × (grant_in value ≡ Some grant)
+held-grant None hand is = absurd (none_some hand is)
+held-grant (Some agreed.Nothing) hand is = absurd (none_some hand is)
+held-grant (Some (agreed.Told told)) hand is = absurd (none_some hand is)
+held-grant (Some (agreed.Held held)) hand is = (held.grant.now, refl)
+held-grant (Some (agreed.Stand stand)) hand is = absurd (none_some hand is)
+
+one-each : (half : Tied Agreed) → hands_in half ≤ 1
+one-each half =
+    elim (hand_in half.value) as (λ o. option_map_or (λ hand. 1) o 0 ≤ 1) [
+      | None ↦ omega arith
+      | Some hand ↦ omega arith
+    ]
+
+few-hands : (halves : List (Tied Agreed)) → sum_by hands_in halves ≤ length halves
+few-hands [] = omega arith
+few-hands (half ∷ halves) =
+    let all = sum_by-cons hands_in half halves in
+    let one = one-each half in
+    let rest = few-hands halves in
+    omega (arith, all, one, rest)
+
+-- Where one half has no hand there are fewer hands than halves.
+pub room : (halves : List (Tied Agreed)) (k : ℕ) (half : Tied Agreed) → slice_get halves k ≡ Some half → hands_in half ≡ 0 → sum_by hands_in halves + 1 ≤ length halves
+room [] k half is none = absurd (none_some half is)
+room (first ∷ halves) zero half is none =
+    let all = sum_by-cons hands_in first halves in
+    let zero_is : hands_in first ≡ 0 = ap hands_in (same first half is) ∙ none in
+    let rest = few-hands halves in
+    omega (arith, all, zero_is, rest)
+room (first ∷ halves) (suc k) half is none =
+    let all = sum_by-cons hands_in first halves in
+    let one = one-each first in
+    let rest = room halves k half is none in
+    omega (arith, all, one, rest)
+
+few-stolen : (halves : List (Tied Agreed)) → ((k : ℕ) (half : Tied Agreed) → slice_get halves k ≡ Some half → stolen_in half ≤ 4000000000 * hands_in half) → sum_by stolen_in halves ≤ 4000000000 * sum_by hands_in halves
+few-stolen [] each = omega arith
+few-stolen (half ∷ halves) each =
+    let stolen = sum_by-cons stolen_in half halves in
+    let hands = sum_by-cons hands_in half halves in
+    let one = each 0 half refl in
+    let rest = few-stolen halves (λ k. each (suc k)) in
+    omega (arith, stolen, hands, one, rest)
+
+-- What was taken in all.
+pub few-given : (rows slot : ℕ) (grant : Grant) (halves : List (Tied Agreed)) (seat : SeatState) (openings : ℕ) → AreRowsOfOne rows slot grant halves seat openings → sum_by stolen_in halves + seat.taken ≤ 4000000000000000
+few-given rows slot grant halves seat openings rests =
+    let stolen = few-stolen halves (λ k half is. (rests.halves_are k half is).few) in
+    let taken : seat.taken + 4000000000 * sum_by hands_in halves ≤ 4000000000 * openings = rests.taken in
+    let few : openings ≤ 1000000 = rests.few in
+    omega (arith, stolen, taken, few)
+
+-- What is counted of a half.
+pub counts : (half : Tied Agreed) (hand : HandState) → hand_in half.value ≡ Some hand → (hands_in half ≡ 1) × (stolen_in half ≡ hand.stolen)
+counts half hand is = (ap (λ (o : Option HandState). option_map_or (λ hand. 1) o 0) is, ap (λ (o : Option HandState). option_map_or (λ (h : HandState). h.stolen) o 0) is)
+
+pub counts-none : (half : Tied Agreed) → hand_in half.value ≡ None → (hands_in half ≡ 0) × (stolen_in half ≡ 0)
+counts-none half is = (ap (λ (o : Option HandState). option_map_or (λ hand. 1) o 0) is, ap (λ (o : Option HandState). option_map_or (λ (h : HandState). h.stolen) o 0) is)
+
+-- A sum where one half is set.
+pub sum-set : (f : Tied Agreed → ℕ) (halves : List (Tied Agreed)) (k : ℕ) (half now : Tied Agreed) → slice_get halves k ≡ Some half → sum_by f (slice_set halves k now) + f half ≡ sum_by f halves + f now
+sum-set f halves k half now is =
+    sym (ap (λ (h : Tied Agreed). sum_by f (slice_set halves k now) + f h) (get_or_from_slice_get halves k half half is))
+    ∙ sum_by-set f halves k now half (slice_get_within halves k half is)
+
+-- ---- the rows after each step
+
+-- One half and the seat change, each half as it must be.
+pub rows-changed : (rows slot : ℕ) (grant : Grant) (halves : List (Tied Agreed)) (seat new_seat : SeatState) (openings new_openings k : ℕ) (half now : Tied Agreed)
+    → AreRowsOfOne rows slot grant halves seat openings → slice_get halves k ≡ Some half
+    → now.place ≡ half.place → ((g : Grant) → grant_in now.value ≡ Some g → g ≡ grant) → stolen_in now ≤ 4000000000 * hands_in now
+    → new_seat.pool ≡ seat.pool → new_seat.total ≡ seat.total
+    → new_seat.share + hands_in now ≡ seat.share + hands_in half
+    → new_seat.given ≡ seat.given → stolen_in half + seat.taken ≤ stolen_in now + new_seat.taken
+    → new_seat.taken + 4000000000 * hands_in now + 4000000000 * openings ≤ seat.taken + 4000000000 * hands_in half + 4000000000 * new_openings
+    → new_openings ≤ 1000000
+    → AreRowsOfOne rows slot grant (slice_set halves k now) new_seat new_openings
+rows-changed rows slot grant halves seat new_seat openings new_openings k half now rests at place granted few pool total share given stolen taken most =
+    let hands = sum-set hands_in halves k half now at in
+    let chunks = sum-set stolen_in halves k half now at in
+    let was_taken : seat.taken + 4000000000 * sum_by hands_in halves ≤ 4000000000 * openings = rests.taken in
+    let was_share = rests.share in
+    let was_given = rests.given in
+    record {
+      count = length-set halves k now ∙ rests.count;
+      within = rests.within;
+      halves_are = each-set (IsHandHalf rows slot grant) halves k now (λ n x is _. rests.halves_are n x is)
+          (record { place = place ∙ (rests.halves_are k half at).place; granted = granted; few = few });
+      seat_is = (pool ∙ rests.seat_is.0, total ∙ rests.seat_is.1);
+      share = omega (arith, hands, was_share, share);
+      given = omega (arith, chunks, was_given, given, stolen);
+      taken = omega (arith, hands, was_taken, taken);
+      few = most;
+    }
+
+-- What holds anyway holds on an error.
+pub on-err : {T E P : Type 0} (result : Result T E) → P → OnErr result P
+on-err (Ok x) p = tt
+on-err (Err e) p = p
+
+-- ---- the rows at first
+
+no_hands : (f : Tied Agreed → ℕ) (halves : List (Tied Agreed)) → ((k : ℕ) (half : Tied Agreed) → slice_get halves k ≡ Some half → f half ≡ 0) → sum_by f halves ≡ 0
+no_hands f [] none = refl
+no_hands f (half ∷ halves) none =
+    let all = sum_by-cons f half halves in
+    let zero_is = none 0 half refl in
+    let rest = no_hands f halves (λ k. none (suc k)) in
+    omega (arith, all, zero_is, rest)
+
+-- The rows of a session that is open nowhere.
+pub rows-fresh : (rows slot : ℕ) (grant : Grant) (halves : List (Tied Agreed)) (seat : SeatState)
+    → slot < 64 → length halves ≡ rows → AreSlotTies rows slot halves
+    → seat ≡ record { pool = grant.pool.pool; total = grant.pool.total; seats = rows + 1; share = rows + 1; taken = 0; given = 0 }
+    → AreRowsOfOne rows slot grant halves seat 0
+rows-fresh rows slot grant halves seat small count ties seat_is =
+    let off : (k : ℕ) (half : Tied Agreed) → slice_get halves k ≡ Some half → hand_in half.value ≡ None = λ k half is. ap hand_in (ties k half is).1 in
+    let hands = no_hands hands_in halves (λ k half is. (counts-none half (off k half is)).0) in
+    let stolen = no_hands stolen_in halves (λ k half is. (counts-none half (off k half is)).1) in
+    let share = ap (λ (s : SeatState). s.share) seat_is in
+    let taken = ap (λ (s : SeatState). s.taken) seat_is in
+    let given = ap (λ (s : SeatState). s.given) seat_is in
+    record {
+      count = count;
+      within = omega (arith, small);
+      halves_are = λ k half is.
+          record {
+            place = (ties k half is).0;
+            granted = λ g told. absurd (none_some g (sym (ap grant_in (ties k half is).1) ∙ told));
+            few = omega (arith, counts-none half (off k half is));
+          };
+      seat_is = (ap (λ (s : SeatState). s.pool) seat_is, ap (λ (s : SeatState). s.total) seat_is);
+      share = omega (arith, share, hands);
+      given = omega (arith, given, stolen, taken);
+      taken = omega (arith, taken, hands);
+      few = omega arith;
+    }

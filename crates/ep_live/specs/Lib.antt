@@ -1,0 +1,4 @@
+pub mod Live
+pub mod Made
+pub mod RowSet
+pub mod Outside

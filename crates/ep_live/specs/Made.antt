@@ -1,0 +1,48 @@
+-- What holds of the halves that a run begins with. All of it is this project's own.
+use Rattle.std.specs.Prelude.{◌≡◌, ℕ, ◌+◌, false, List, Some, slice_get}
+use Rattle.std.specs.Global.{Box}
+use Rattle.ep_tie.specs.Tied.{Tied}
+use Rattle.ep_guarded.specs.declared.agreed.Agreed.{Agreed}
+use Rattle.ep_guarded.specs.declared.agreed.Agreed.TheVariants as agreed
+use Rattle.ep_guarded.specs.Tied.{BufferState, TiedRowState, buffer_number, buffer_place}
+use Rattle.ep_live.specs.Live.{hand_place}
+
+-- The half at each place is of the tie between the row with this number and its thread, which has made no write.
+pub record IsStand (number : ℕ) (half : Tied Agreed) : Type 0 where
+  pub place : half.place ≡ number
+  pub stands : half.value ≡ Some (agreed.Stand (record { thread = number + 1; index = 0 }))
+
+abbrev pub AreStands : List (Tied Agreed) → Type 0
+AreStands halves = (k : ℕ) (half : Tied Agreed) → slice_get halves k ≡ Some half → IsStand k half
+
+-- The half is of a tie between a row and this buffer of it, in which nothing is open.
+pub record IsRowTie (rows number : ℕ) (half : Tied Agreed) : Type 0 where
+  pub place : half.place ≡ buffer_place rows number
+  pub nothing : half.value ≡ Some agreed.Nothing
+
+-- The halves are of the ties between a row and its buffers, by slot.
+abbrev pub AreRowTies : ℕ → ℕ → List (Tied Agreed) → Type 0
+AreRowTies rows row halves = (s : ℕ) (half : Tied Agreed) → slice_get halves s ≡ Some half → IsRowTie rows (buffer_number row s) half
+
+-- The half is of the tie between this buffer and its hand, which there is not yet.
+pub record IsHandTie (rows number : ℕ) (half : Tied Agreed) : Type 0 where
+  pub place : half.place ≡ hand_place rows number
+  pub nothing : half.value ≡ Some agreed.Nothing
+
+-- The halves are of the ties between buffers and their hands, by the buffer's number.
+abbrev pub AreHandTies : ℕ → List (Tied Agreed) → Type 0
+AreHandTies rows halves = (k : ℕ) (half : Tied Agreed) → slice_get halves k ≡ Some half → IsHandTie rows k half
+
+-- The buffers, by their numbers.
+abbrev pub AreBuffers : ℕ → List (Box BufferState) → Type 0
+AreBuffers rows buffers = (k : ℕ) (buffer : Box BufferState) → slice_get buffers k ≡ Some buffer → buffer.value.place ≡ buffer_place rows k
+
+-- The row with this number serves the thread that is one more, and is not in a write.
+pub record IsRow (number : ℕ) (row : TiedRowState) : Type 0 where
+  pub number_is : row.number ≡ number
+  pub quiet : row.row.in_write ≡ false
+  pub thread : row.row.thread ≡ number + 1
+
+-- The rows, by their numbers.
+abbrev pub AreRows : List (Box TiedRowState) → Type 0
+AreRows rows = (k : ℕ) (row : Box TiedRowState) → slice_get rows k ≡ Some row → IsRow k row.value
