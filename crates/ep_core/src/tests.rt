@@ -138,7 +138,7 @@ fn a_refused_step_changes_nothing(rt: HostRuntime) -> Result<(), Fail> {
         return Err(Fail::new("a thread left that never came"));
     };
     assert_eq!(rt; (why.step, why.kind), (1, Kind::NoThread));
-    assert!(rt; machine.step(alloc, Step::Enter { thread: 257 }).is_ok());
+    assert!(rt; machine.step(alloc, Step::Leave { thread: 2 }).is_ok());
     assert!(rt; machine.run(alloc, one_write(alloc)?).is_ok());
     let Err(StepFault::Unlawful(why)) = machine.run(alloc, one_write(alloc)?) else {
         return Err(Fail::new("a session was accepted twice"));
