@@ -6,11 +6,12 @@ use Rattle.std.proofs.lemmas.List.Splits.{length-slice_split}
 use Rattle.std.specs.Int.{is_in_range}
 use Rattle.ep_defs.specs.declared.limits.TheConstants.{CHUNKS, RULES}
 use Rattle.ep_defs.specs.Session.{is_valid_config}
-use Rattle.std.proofs.lemmas.List.{append-nil, append_assoc, at_drop_all}
+use Rattle.std.proofs.lemmas.List.{append-nil, at_drop_all}
 use Rattle.std.specs.Prelude.{IfErr, IsErrAnd}
 use Rattle.ep_defs.specs.declared.session.Rule.{Rule}
 use Rattle.ep_defs.specs.declared.session.Config.{Config}
 use Rattle.ep_plan.specs.Words.{comma, parts_at, is_name, is_name_byte, provider_in, rule_of, with_first, all_in}
+use Rattle.ep_plan.proofs.RuleWords.{behind-first}
 use Rattle.ep_auto.specs.declared.fault.AutoKind.TheVariants.{Count}
 use Rattle.ep_auto.specs.declared.fault.AutoFault.{AutoFault}
 use Rattle.ep_auto.specs.declared.fault.AutoFault.TheVariants.{Bad, OutOfMemory}
@@ -22,17 +23,9 @@ use Rattle.ep_auto.specs.StartUp.{has_too_many, session_of, config_in, fields_fr
 abbrev pub read_and_rest : List Rule → List (List ℕ) → Option (List Rule)
 read_and_rest rules parts = option_map (λ more. rules ++ more) (all_in rule_in parts)
 
-further : (rules : List Rule) (rule : Rule) (o : Option (List Rule)) → option_map (λ more. rules ++ more) (with_first (Some rule) o) ≡ option_map (λ more. (rules ++ rule ∷ []) ++ more) o
-further rules rule None = refl
-further rules rule (Some more) = ap Some (sym (append_assoc rules (rule ∷ []) more))
-
-pub read-first : (o : Option (List Rule)) → o ≡ option_map (λ more. [] ++ more) o
-read-first None = refl
-read-first (Some rules) = refl
-
 pub read-more : (rules : List Rule) (rule : Rule) (part : List ℕ) (parts : List (List ℕ)) → Some rule ≡ rule_in part → read_and_rest rules (part ∷ parts) ≡ read_and_rest (rules ++ rule ∷ []) parts
 read-more rules rule part parts is =
-    ap (λ o. option_map (λ more. rules ++ more) (with_first o (all_in rule_in parts))) (sym is) ∙ further rules rule (all_in rule_in parts)
+    ap (λ o. option_map (λ more. rules ++ more) (with_first o (all_in rule_in parts))) (sym is) ∙ behind-first rules rule (all_in rule_in parts)
 
 pub read-all : (rules : List Rule) → read_and_rest rules [] ≡ Some rules
 read-all rules = ap Some (append-nil rules)

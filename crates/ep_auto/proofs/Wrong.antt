@@ -15,11 +15,11 @@ told-or (Some a) b = refl
 wrong-append : (xs ys : List Field) → first_wrong (xs ++ ys) ≡ option_or (first_wrong xs) (first_wrong ys)
 wrong-append xs ys = ap (option_map told) (find-append is_wrong xs ys) ∙ told-or (find is_wrong xs) (find is_wrong ys)
 
--- A wrong field goes before those behind it.
+-- A wrong field goes before those after it.
 pub wrong-here : (xs ys : List Field) (fault : AutoFault) → Some fault ≡ first_wrong xs → Some fault ≡ first_wrong (xs ++ ys)
 wrong-here xs ys fault is = ap (λ o. option_or o (first_wrong ys)) is ∙ sym (wrong-append xs ys)
 
--- Where none is wrong, those behind count.
+-- Where none is wrong, those after count.
 pub wrong-later : (xs ys : List Field) → first_wrong xs ≡ None → first_wrong (xs ++ ys) ≡ first_wrong ys
 wrong-later xs ys none = wrong-append xs ys ∙ ap (λ o. option_or o (first_wrong ys)) none
 
@@ -66,7 +66,7 @@ parts-either column (part ∷ parts) =
     (part-either column part) (parts-either (column + length part + 1) parts)
     ∙ ap (λ o. not (is_some o)) (sym (wrong-append (fields_at column part) (fields_from (column + length part + 1) parts)))
 
--- The fields of a part that is a rule leave the question to those behind it.
+-- The fields of a part that is a rule leave the question to those after it.
 pub wrong-behind : (column : ℕ) (part : List ℕ) (parts : List (List ℕ)) (rule : Rule) → Some rule ≡ rule_in part
     → first_wrong (fields_from column (part ∷ parts)) ≡ first_wrong (fields_from (column + (length part + 1)) parts)
 wrong-behind column part parts rule is =

@@ -1,4 +1,5 @@
--- The fields of a part of a start-up text, and what they mean (after dotnet/runtime's DOTNET_EventPipeConfig; the grammar is this project's profile).
+-- The fields of a part of a start-up text, and what they mean (after dotnet/runtime's DOTNET_EventPipeConfig; the
+-- grammar is this project's profile).
 use Rattle.std.specs.Prelude.{ℕ, ◌+◌, ◌-◌, ◌^◌, Bool, false, not, nat_eq, if◌then◌else◌, List, [], ◌∷◌, length, drop, get_or, find, codes, Option, Some, is_some, option_map}
 use Rattle.std.specs.List.{starts_with}
 use Rattle.ep_defs.specs.declared.session.Rule.{Rule}
@@ -15,7 +16,7 @@ field_at place part = get_or (parts_at colon part) place []
 
 -- ---- what a field means
 
--- The digits behind `0x`, or all where the text begins otherwise.
+-- The digits after `0x`, or all where the text begins otherwise.
 abbrev pub without_0x : List ℕ → List ℕ
 without_0x digits = if starts_with nat_eq digits (codes "0x") then drop 2 digits else digits
 
@@ -29,7 +30,7 @@ abbrev pub level_in : List ℕ → Option ℕ
 level_in [] = Some VERBOSE
 level_in (digit ∷ digits) = number_in (2 ^ 32 - 1) (digit ∷ digits)
 
--- A part is NAME, NAME:KEYWORDS or NAME:KEYWORDS:LEVEL. Text behind a third colon is passed over.
+-- A part is NAME, NAME:KEYWORDS or NAME:KEYWORDS:LEVEL. Text after a third colon is passed over.
 abbrev pub rule_in : List ℕ → Option Rule
 rule_in part = rule_of (provider_in (field_at 0 part)) (keywords_in (field_at 1 part)) (level_in (field_at 2 part))
 
@@ -56,6 +57,7 @@ means_nothing kind.Keywords bytes = not (is_some (keywords_in bytes))
 means_nothing kind.Level bytes = not (is_some (level_in bytes))
 means_nothing kind.Count bytes = false
 
+-- The bytes of the field mean nothing.
 abbrev pub is_wrong : Field → Bool
 is_wrong field = means_nothing field.kind field.bytes
 

@@ -14,7 +14,7 @@ use ep_plan::provider;
 use std::alloc::Global;
 
 /// Reads a start-up text, for a session with stacks and this budget: parts that are joined by commas, each of them
-/// `NAME`, `NAME:KEYWORDS` or `NAME:KEYWORDS:LEVEL`, with anything behind a third colon.
+/// `NAME`, `NAME:KEYWORDS` or `NAME:KEYWORDS:LEVEL`, with anything after a third colon.
 pub fn read_auto(alloc: Global, text: &[u8], chunks: u32) -> Result<Config, AutoFault>
     requires some { 1 ≤ chunks }
     requires few { chunks ≤ CHUNKS }
@@ -53,7 +53,8 @@ fn has_too_many(text: &[u8]) -> bool
 fn rule(alloc: Global, part: &[u8], column: u64) -> Result<Rule, AutoFault>
     requires { column + length part.now + 2 < 2 ^ 64 }
     ensures meant { IfOk result (λ rule. Some rule ≡ rule_in part.now) }
-    ensures wrong { IfErr result (λ fault. (fault ≡ OutOfMemory) ⊎ (Some fault ≡ first_wrong (fields_at column part.now))) }
+    ensures wrong { IfErr result (λ fault. (fault ≡ OutOfMemory)
+        ⊎ (Some fault ≡ first_wrong (fields_at column part.now))) }
 {
     let Some(name) = provider(alloc, field(part, 0))? else {
         return Err(AutoFault::Bad {

@@ -6,6 +6,7 @@ use Rattle.std.proofs.lemmas.List.Concat.{flat_map-append}
 use Rattle.std.specs.List.{All, flat_map}
 use Rattle.byteorder.specs.Endian.{little_number}
 use Rattle.byteorder.specs.Numbers.{little_number-reads_back}
+use Rattle.ep_chunk.specs.declared.limits.TheConstants.{CHUNK_LEN}
 use Rattle.ep_chunk.specs.Record.{Record, IsRecord, size_of, total_size, frame_bytes, bytes_of}
 use Rattle.ep_chunk.specs.Held.{numbers_in, record_in, records_in, records_within, IsHeld}
 use Rattle.ep_chunk.proofs.Laid.{length-bytes_of}
@@ -118,7 +119,7 @@ more-is bytes room r held fits =
     ap records_in spelled ∙ records_in-is (records ++ r ∷ []) (All-push IsRecord records r held.fitting fits)
 
 -- Bytes with one record more are held in a chunk where they fit.
-pub more-held : (bytes : List ℕ) (room room' : ℕ) (r : Record) → IsHeld bytes room → IsRecord r → length bytes + size_of r ≤ 65536 → room ≤ room' → IsHeld (bytes ++ bytes_of r) room'
+pub more-held : (bytes : List ℕ) (room room' : ℕ) (r : Record) → IsHeld bytes room → IsRecord r → length bytes + size_of r ≤ CHUNK_LEN → room ≤ room' → IsHeld (bytes ++ bytes_of r) room'
 more-held bytes room room' r held fits within more =
     let records = records_in bytes in
     let now = more-is bytes room r held fits in
@@ -139,7 +140,7 @@ unfolding records_in
 records_in-nil = refl
 
 -- A chunk without bytes.
-pub none-held : (room : ℕ) → 65536 ≤ room → IsHeld [] room
+pub none-held : (room : ℕ) → CHUNK_LEN ≤ room → IsHeld [] room
 none-held room h =
     record {
       spelled = ap (flat_map bytes_of) (sym records_in-nil);

@@ -57,7 +57,7 @@ length-bytes_of r fits =
       length-head_bytes r fits,
     )
 
--- A piece that was put behind what stands before a place.
+-- A piece that was put after what stands before a place.
 pub put_next : (old new piece done value : List ℕ) (place n : ℕ) → take place old ≡ done → piece ≡ value → length value ≡ n → take (place + length piece) new ≡ take place old ++ piece → take (place + n) new ≡ done ++ value
 put_next old new piece done value place n before same len put =
     ap (λ (k : ℕ). take (place + k) new) (sym (ap (length {A = ℕ}) same ∙ len))

@@ -12,13 +12,13 @@ use Rattle.ep_chunk.specs.Held.{record_in, records_in, HasRecord, IsHeld}
 use Rattle.ep_chunk.proofs.Laid.{length-bytes_of}
 use Rattle.ep_chunk.proofs.Holding.{record_in-bytes_of, used-is}
 
--- Some records stand behind a place.
+-- Some records stand after a place.
 pub record Splits (records : List Record) (place : ℕ) (later : List Record) : Type 0 where
   pub bytes : drop place (flat_map bytes_of records) ≡ flat_map bytes_of later
   pub sizes : place + total_size later ≡ total_size records
   pub fitting : All IsRecord later
 
--- All records stand behind place 0.
+-- All records stand after place 0.
 pub records_at-zero : (records : List Record) → records_at records 0 ≡ Some records
 records_at-zero [] = refl
 records_at-zero (r ∷ records) = refl
@@ -70,7 +70,7 @@ splits (r ∷ records) later place all here =
     refl
     here
 
--- Behind a record that begins at a place stand the others.
+-- After a record that begins at a place stand the others.
 pub records_at-next : (records : List Record) (place : ℕ) (r : Record) (others : List Record) → records_at records place ≡ Some (r ∷ others) → records_at records (place + size_of r) ≡ Some others
 records_at-next [] place r others here =
     elim (place == 0) as (λ v. (if v then Some [] else None) ≡ Some (r ∷ others) → records_at [] (place + size_of r) ≡ Some others) [

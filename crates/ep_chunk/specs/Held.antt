@@ -5,7 +5,7 @@ use Rattle.byteorder.specs.Endian.{little_number}
 use Rattle.ep_chunk.specs.declared.limits.TheConstants.{CHUNK_LEN}
 use Rattle.ep_chunk.specs.Record.{Record, IsRecord, size_of, bytes_of}
 
--- So many numbers of eight bytes each.
+-- This many numbers of eight bytes each.
 abbrev pub numbers_in : ℕ → List ℕ → List ℕ
 numbers_in zero bytes = []
 numbers_in (suc more) bytes = little_number 8 bytes ∷ numbers_in more (drop 8 bytes)
@@ -25,7 +25,7 @@ record_in bytes =
       payload = take (little_number 4 (drop 16 bytes)) (drop (68 + 8 * count) bytes);
     }
 
--- At most so many records, one after another.
+-- At most this many records, one after another.
 abbrev pub records_within : ℕ → List ℕ → List Record
 records_within zero bytes = []
 records_within (suc more) [] = []
@@ -36,7 +36,7 @@ records_within (suc more) (b ∷ bytes) =
 unfoldable pub records_in : List ℕ → List Record
 records_in bytes = records_within (length bytes) bytes
 
--- What holds of a chunk's bytes, of which so many are reserved.
+-- What holds of a chunk's bytes, of which this many are reserved.
 pub record IsHeld (bytes : List ℕ) (room : ℕ) : Type 0 where
   -- records and nothing else stand in them
   pub spelled : bytes ≡ flat_map bytes_of (records_in bytes)

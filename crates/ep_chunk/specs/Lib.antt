@@ -1,4 +1,6 @@
+-- to be believed
 pub mod Record
 pub mod Places
-pub mod Held
 pub mod Lending
+-- what private fields stand for
+pub mod Held

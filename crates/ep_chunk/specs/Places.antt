@@ -22,7 +22,7 @@ pub record Tells (r : Record) (out : RecOut) : Type 0 where
   pub frames : out.frames.now ≡ frame_bytes r.frames
   pub payload : out.payload.now ≡ r.payload
 
--- A record that was read at a place is the one that begins there, and the others stand behind it.
+-- A record that was read at a place is the one that begins there, and the others stand after it.
 pub record TellsAt (records : List Record) (place : ℕ) (out : RecOut) : Type 0 where
   pub told : Record
   pub others : List Record

@@ -1,4 +1,4 @@
-//! Chunks one behind another, joined and split without memory.
+//! Chunks one after another, joined and split without memory.
 ghost use Rattle.std.specs.Prelude.{◌≡◌, ◌+◌, ◌-◌, ◌^◌, ◌<◌, [], ◌∷◌, ◌++◌, length, slice_get, slice_index_or, IsNone, IsOk, ◌↔◌, IfOk, IfErr, IfSome, IfNone, MatchResult};
 ghost use Rattle.std.specs.Option.{option_copied};
 ghost use Rattle.std.specs.Borrow.{sem};
@@ -56,7 +56,7 @@ impl Chain {
         self.chunks.len() as u32
     }
 
-    /// Puts the chunks of another chain behind its own.
+    /// Puts the chunks of another chain after its own.
     pub fn join(&mut self, other: Chain)
         requires { length self.old + length other < 2 ^ 32 }
         ensures { self.new ≡ self.old ++ other }
@@ -105,7 +105,7 @@ impl Chain {
         self.chunks.back_mut()
     }
 
-    /// The chunk at a place, from 0. None where there are no more than so many.
+    /// The chunk at a place, from 0. None where there are no more than this many.
     pub fn chunk(&self, place: u32) -> Option<&Chunk>
         ensures { option_copied result ≡ slice_get self.now place }
     {

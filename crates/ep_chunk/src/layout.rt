@@ -35,7 +35,7 @@ pub(crate) fn id_at(bytes: &[u8], place: usize) -> [u8; 16]
     id
 }
 
-// Puts bytes behind those before a place.
+// Puts bytes after those before a place.
 fn put_at(head: &mut [u8], place: usize, piece: &[u8])
     requires { place + length piece.now ≤ length head.old }
     ensures { take (place + length piece.now) head.new ≡ take place head.old ++ piece.now }

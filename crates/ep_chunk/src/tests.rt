@@ -67,7 +67,7 @@ fn the_greatest_record_takes_60_868_bytes(rt: HostRuntime) -> Result<(), Fail> {
     Ok(())
 }
 
-// A chain of so many chunks.
+// A chain of this many chunks.
 fn chain_of(rt: &(impl Abort + AllocGlobal), chunks: u32) -> Result<Chain, Fail> {
     let mut chain = Chain::empty(rt.alloc());
     for place in 0..chunks {

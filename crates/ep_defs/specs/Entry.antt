@@ -18,6 +18,7 @@ pub record PointEntry : Type 0 where
   pub stamp : ℕ
   pub threads : List (ℕ × ℕ)
 
+-- What a stream tells at one place: an event, or a point.
 pub data Entry : Type 0 where
   Event : (event : EventEntry) → Entry
   Point : (point : PointEntry) → Entry

@@ -8,7 +8,8 @@ use Rattle.ep_defs.specs.declared.event.TheConstants.{OBJECT_CODE, FIRST_CODE, L
 use Rattle.ep_defs.specs.declared.event.FieldDef.{FieldDef}
 use Rattle.ep_defs.specs.declared.event.EventDef.{EventDef}
 
--- The type codes of the NetTrace format (the format document of PerfView, version 4): Object, then Boolean up to String.
+-- The type codes of the NetTrace format (the format document of PerfView, version 4): Object, then Boolean up to
+-- String.
 abbrev pub is_type_code : ℕ → Bool
 is_type_code code = (code == OBJECT_CODE) || is_in_range FIRST_CODE LAST_CODE code
 

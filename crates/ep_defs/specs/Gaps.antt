@@ -1,4 +1,5 @@
--- How many of a thread's events are missing, as the numbers in a stream tell it (the NetTrace format document of PerfView, version 4, on sequence numbers). The entries of ordered items tell the same as the items.
+-- How many of a thread's events are missing, as the numbers in a stream tell it (the NetTrace format document of
+-- PerfView, version 4, on sequence numbers). The entries of ordered items tell the same as the items.
 use Rattle.std.specs.Prelude.{ℕ, ◌+◌, ◌-◌, ◌%◌, ◌^◌, List, [], ◌∷◌, filter, map, ◌==◌, if◌then◌else◌}
 use Rattle.std.specs.List.{flat_map}
 use Rattle.ep_defs.specs.Entry.{Entry, Event, Point}
@@ -37,5 +38,6 @@ last_number last [] = last
 last_number last (Seen number ∷ later) = last_number number later
 last_number last (Known number ∷ later) = last_number number later
 
+-- The last number that the entries tell of a thread, 0 where they have no event of it and no point names it.
 abbrev pub last_of : ℕ → List Entry → ℕ
 last_of thread entries = last_number 0 (sightings thread entries)

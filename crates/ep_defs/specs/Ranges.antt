@@ -1,4 +1,5 @@
--- What the types of the code say of each value: the numbers have 8, 16, 32 or 64 bits, and an id has 16 bytes. Definitions speak of all numbers, so laws over them take these as premises.
+-- What the types of the code say of each value: the numbers have 8, 16, 32 or 64 bits, and an id has 16 bytes.
+-- Definitions speak of all numbers, so laws over them take these as premises.
 use Rattle.std.specs.Prelude.{◌≡◌, ℕ, ◌^◌, ◌<◌, List, length, All}
 use Rattle.ep_defs.specs.declared.event.FieldDef.{FieldDef}
 use Rattle.ep_defs.specs.declared.event.EventDef.{EventDef}

@@ -32,7 +32,7 @@ pub struct FieldDef {
     pub name: Units,
 }
 
-/// The fields of an event in the order of its payload. The fields inside an object stand behind it, one deeper.
+/// The fields of an event in the order of its payload. The fields inside an object stand after it, one deeper.
 pub type FieldList = Items<FieldDef>;
 
 /// The definition of an event.
@@ -89,8 +89,8 @@ impl FieldDef {
 }
 
 impl EventDef {
-    /// Whether the definition can be written: it has a provider, no text holds a zero unit, the fields stand in the order
-    /// of a payload, and nothing passes its bound in `limits`.
+    /// Whether the definition can be written: it has a provider, no text holds a zero unit, the fields stand in the
+    /// order of a payload, and nothing passes its bound in `limits`.
     pub fn is_valid(&self) -> bool
         ensures { result ≡ is_valid_event self.now }
     {

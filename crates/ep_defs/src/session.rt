@@ -196,8 +196,8 @@ fn have_names(rules: &[Rule]) -> bool
     rules.iter().all(|rule| !rule.name.as_slice().is_empty())
 }
 
-/// Whether a session that was asked for this gets the event: one of its rules has the event's provider, shares a keyword
-/// with the event or the event has none, and wants the event's level.
+/// Whether a session that was asked for this gets the event: one of its rules has the event's provider, shares a
+/// keyword with the event or the event has none, and wants the event's level.
 pub fn admits(config: &Config, def: &EventDef) -> bool
     ensures { result ≡ session_admits config.now def.now }
 {

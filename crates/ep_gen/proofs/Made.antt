@@ -4,7 +4,7 @@ use Rattle.std.specs.Prelude.{is_none}
 use Rattle.std.specs.List.{AllByRecursion}
 use Rattle.std.proofs.lemmas.List.{reverse-append}
 use Rattle.std.proofs.lemmas.Bool.{not_from_true, le-leb, lt-leb}
-use Rattle.ep_defs.specs.declared.limits.TheConstants.{SCHEDULE_WRITES}
+use Rattle.ep_defs.specs.declared.limits.TheConstants.{SCHEDULE_WRITES, THREADS}
 use Rattle.ep_defs.specs.declared.session.Write.{Write}
 use Rattle.ep_defs.specs.Definitions.{definition_at}
 use Rattle.ep_defs.specs.Session.{fits}
@@ -58,7 +58,7 @@ clear (objection ∷ others) absent = rw (absent.0) (clear others absent.1)
 
 -- Threads 1 to 4 are there from the start.
 pub thread_was_there : (thread : ℕ) (past : Past) → IsThread thread → was_there thread past ≡ true
-thread_was_there thread past inside = rw (le-leb 1 thread inside.0, le-leb thread 256 (let h = inside.1 in omega arith)) refl
+thread_was_there thread past inside = rw (le-leb 1 thread inside.0, le-leb thread THREADS (let h = inside.1 in omega arith)) refl
 
 pub thread_is_there : (thread : ℕ) (past : Past) → IsThread thread → has_left thread past ≡ false → is_there thread past ≡ true
 thread_is_there thread past inside stays = rw (thread_was_there thread past inside, stays) refl

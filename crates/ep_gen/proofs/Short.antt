@@ -5,7 +5,7 @@ use Rattle.std.specs.List.{flat_map, range_with_len}
 use Rattle.ep_defs.specs.declared.session.Write.{Write}
 use Rattle.ep_model.specs.declared.step.Step.{Step}
 use Rattle.ep_model.specs.declared.step.Step.TheVariants as step
-use Rattle.ep_gen.specs.declared.limits.TheConstants.{NARROW, WIDE}
+use Rattle.ep_gen.specs.declared.limits.TheConstants.{NARROW, SWEEP_ROUNDS, WIDE}
 use Rattle.ep_gen.specs.Schedule.{closing, generated, gets, made, opening, round_at, sweep, thread_at, write_at}
 
 -- At most two sessions are shown a write.
@@ -31,12 +31,12 @@ rounds_are_short : (seed first count : ℕ) → length (flat_map (round_at seed)
 rounds_are_short seed first zero = omega arith
 rounds_are_short seed first (suc count) =
     let write = made (thread_at seed first) first (write_at seed first) in
-    let swept = cond ((first + 1) % 4096 == 0) (sweep (first + 1)) [] in
+    let swept = cond ((first + 1) % SWEEP_ROUNDS == 0) (sweep (first + 1)) [] in
     let later = flat_map (round_at seed) (range_with_len (first + 1) count) in
     omega (
       arith,
       made_is_short (thread_at seed first) first (write_at seed first),
-      sweep_if_short (first + 1) ((first + 1) % 4096 == 0),
+      sweep_if_short (first + 1) ((first + 1) % SWEEP_ROUNDS == 0),
       rounds_are_short seed (first + 1) count,
       length-append (write ++ swept) later,
       length-append write swept,

@@ -36,7 +36,7 @@ turns_more : (seed first count turn : ℕ) → turns seed first (suc count) turn
 unfolding turns one
 turns_more seed first count turn = sum_by-cons (λ r. cond ((1 + (seed + r) % 4) == turn) 1 0) first (range_with_len (first + 1) count)
 
--- The turn of the round behind these had a fourth of them.
+-- The turn of the round after these had a fourth of them.
 before : (seed first count turn : ℕ) → turn ≡ 1 + (seed + (first + count)) % 4 → turns seed first count turn ≡ count / 4
 before seed first zero turn is = turns_none seed first turn
 before seed first (suc zero) turn is =

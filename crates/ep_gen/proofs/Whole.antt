@@ -1,10 +1,11 @@
 -- The whole schedule can be made: what holds between two rounds, and at the end.
-use Rattle.std.proofs.Common.{◌≡◌, ℕ, zero, suc, ◌+◌, ◌<◌, ◌≤◌, ◌%◌, Bool, true, false, cond, List, [], ◌∷◌, ◌++◌, length, take, map, reverse, Some, None, ⊎_elim, refl, sym, ap, subst, ◌∙◌, arith}
-use Rattle.std.specs.Prelude.{not, ◌&&◌, ◌||◌, is_none, nat_le, ◌==◌}
+use Rattle.std.proofs.Common.{◌≡◌, ℕ, zero, suc, ◌+◌, ◌<◌, ◌≤◌, ◌%◌, Bool, true, false, cond, List, [], ◌∷◌, ◌++◌, length, take, map, reverse, Option, Some, None, ⊎_elim, refl, sym, ap, subst, ◌∙◌, arith}
+use Rattle.std.specs.Prelude.{is_none, nat_le, ◌==◌}
 use Rattle.std.specs.List.{flat_map, range_with_len}
 use Rattle.std.proofs.lemmas.List.{append-nil, reverse-reverse}
 use Rattle.std.proofs.lemmas.Bool.{agree_below_at, and_from, and_right, cases_lt, eq-eqb, ne_eqb, or_from}
-use Rattle.ep_defs.specs.declared.limits.TheConstants.{SCHEDULE_WRITES}
+use Rattle.std.proofs.Math.Bool.{or-false, not-and_self}
+use Rattle.ep_defs.specs.declared.limits.TheConstants.{FRAMES, PAYLOAD_BYTES, SCHEDULE_WRITES}
 use Rattle.ep_defs.specs.declared.session.Config.{Config}
 use Rattle.ep_defs.specs.declared.session.Write.{Write}
 use Rattle.ep_defs.specs.Definitions.{definition_at}
@@ -24,9 +25,6 @@ use Rattle.ep_gen.proofs.Turns.{wide_gets}
 
 -- ---- what holds between two steps
 
-IsSession : ℕ → Type 0
-IsSession session = (1 ≤ session) × (session ≤ 2)
-
 -- what holds of both sessions
 two : (P : ℕ → Type 0) → P 1 → P 2 → (session : ℕ) → 1 ≤ session → session ≤ 2 → P session
 two P first second zero low high = absurd (omega arith)
@@ -34,14 +32,22 @@ two P first second (suc zero) low high = first
 two P first second (suc (suc zero)) low high = second
 two P first second (suc (suc (suc session))) low high = absurd (omega arith)
 
+-- What no step between the opening and the closing changes: both sessions are there, and open on all threads.
+record Opened (config : ℕ → Option Config) (there : ℕ → Bool) (known : List ℕ) (gone : ℕ → Bool) (ever : ℕ → List ℕ) (now : ℕ → ℕ → Bool) : Type 0 where
+  pub config_is : (s : ℕ) → 1 ≤ s → s ≤ 2 → config s ≡ Some (config_of s)
+  pub here : (s : ℕ) → 1 ≤ s → s ≤ 2 → there s ≡ true
+  pub accepted_are : known ≡ NARROW ∷ WIDE ∷ []
+  pub all_stay : (t : ℕ) → gone t ≡ false
+  pub opened_are : (s : ℕ) → 1 ≤ s → s ≤ 2 → ever s ≡ threads
+  pub stands_open : (s t : ℕ) → 1 ≤ s → s ≤ 2 → IsThread t → now s t ≡ true
+
+abbrev AreOpen : Past → Type 0
+AreOpen past =
+    Opened (λ s. config_in s past) (λ s. is_present s past) (accepted past) (λ t. has_left t past) (λ s. opened s past) (λ s t. is_open s t past)
+
 -- Both sessions are open on all threads, of which these are in a write, after so many rounds.
 record Stands (writing : ℕ → Bool) (rounds : ℕ) (past : Past) : Type 0 where
-  pub config_is : (s : ℕ) → 1 ≤ s → s ≤ 2 → config_in s past ≡ Some (config_of s)
-  pub here : (s : ℕ) → 1 ≤ s → s ≤ 2 → is_present s past ≡ true
-  pub accepted_are : accepted past ≡ NARROW ∷ WIDE ∷ []
-  pub all_stay : (t : ℕ) → has_left t past ≡ false
-  pub opened_are : (s : ℕ) → 1 ≤ s → s ≤ 2 → opened s past ≡ threads
-  pub stands_open : (s t : ℕ) → 1 ≤ s → s ≤ 2 → IsThread t → is_open s t past ≡ true
+  pub are : AreOpen past
   pub inside : (t : ℕ) → in_write t past ≡ writing t
   pub begun : begins past ≡ rounds
   pub hand : (s : ℕ) → (budget_of s past).in_hand ≡ 0
@@ -53,19 +59,11 @@ Between rounds past = Stands (λ t. false) rounds past
 begun_stands : (rounds thread stamp : ℕ) (write : Write) (past : Past) → Between rounds past
     → Stands (λ t. thread == t) (rounds + 1) (step.Begin thread stamp write ∷ past)
 begun_stands rounds thread stamp write past st = record {
-  config_is = st.config_is;
-  here = st.here;
-  accepted_are = st.accepted_are;
-  all_stay = st.all_stay;
-  opened_are = st.opened_are;
-  stands_open = st.stands_open;
-  inside = λ t. rw (st.inside t) (or_false (thread == t));
+  are = st.are;
+  inside = λ t. rw (st.inside t) (or-false (thread == t));
   begun = ap (λ n. n + 1) st.begun;
   hand = st.hand;
 }
-  where
-    or_false : (b : Bool) → (b || false) ≡ b
-    or_false b = elim b as (λ v. (v || false) ≡ v) [ true ↦ refl | false ↦ refl ]
 
 either : (b : Bool) (x y : Budget) → x.in_hand ≡ 0 → y.in_hand ≡ 0 → (cond b x y).in_hand ≡ 0
 either b x y first second = elim b as (λ v. (cond v x y).in_hand ≡ 0) [ true ↦ first | false ↦ second ]
@@ -73,12 +71,7 @@ either b x y first second = elim b as (λ v. (cond v x y).in_hand ≡ 0) [ true 
 shown_stands : (writing : ℕ → Bool) (rounds thread session : ℕ) (past : Past) → Stands writing rounds past
     → Stands writing rounds (step.Show thread session ∷ past)
 shown_stands writing rounds thread session past st = record {
-  config_is = st.config_is;
-  here = st.here;
-  accepted_are = st.accepted_are;
-  all_stay = st.all_stay;
-  opened_are = st.opened_are;
-  stands_open = st.stands_open;
+  are = st.are;
   inside = st.inside;
   begun = st.begun;
   hand = λ s. let budget = budget_of s past in
@@ -89,30 +82,17 @@ shown_stands writing rounds thread session past st = record {
 
 ended_stands : (rounds thread : ℕ) (past : Past) → Stands (λ t. thread == t) rounds past → Between rounds (step.End thread ∷ past)
 ended_stands rounds thread past st = record {
-  config_is = st.config_is;
-  here = st.here;
-  accepted_are = st.accepted_are;
-  all_stay = st.all_stay;
-  opened_are = st.opened_are;
-  stands_open = st.stands_open;
-  inside = λ t. rw (st.inside t) (not_both (thread == t));
+  are = st.are;
+  inside = λ t. rw (st.inside t) (not-and_self (thread == t));
   begun = st.begun;
   hand = st.hand;
 }
-  where
-    not_both : (b : Bool) → (not b && b) ≡ false
-    not_both b = elim b as (λ v. (not v && v) ≡ false) [ true ↦ refl | false ↦ refl ]
 
 -- A session steals from a thread and gives back.
 stolen_stands : (rounds session thread : ℕ) (past : Past) → Between rounds past
     → Between rounds (step.Give session ∷ step.Steal session thread ∷ past)
 stolen_stands rounds session thread past st = record {
-  config_is = st.config_is;
-  here = st.here;
-  accepted_are = st.accepted_are;
-  all_stay = st.all_stay;
-  opened_are = st.opened_are;
-  stands_open = st.stands_open;
+  are = st.are;
   inside = st.inside;
   begun = st.begun;
   hand = λ s. elim (session == s) as (λ b. (cond b (with_give (cond b (with_steal (budget_of s past) thread) (budget_of s past))) (cond b (with_steal (budget_of s past) thread) (budget_of s past))).in_hand ≡ 0) [
@@ -122,17 +102,7 @@ stolen_stands rounds session thread past st = record {
 }
 
 pointed_stands : (rounds session stamp : ℕ) (past : Past) → Between rounds past → Between rounds (step.Point session stamp ∷ past)
-pointed_stands rounds session stamp past st = record {
-  config_is = st.config_is;
-  here = st.here;
-  accepted_are = st.accepted_are;
-  all_stay = st.all_stay;
-  opened_are = st.opened_are;
-  stands_open = st.stands_open;
-  inside = st.inside;
-  begun = st.begun;
-  hand = st.hand;
-}
+pointed_stands rounds session stamp past st = record { are = st.are; inside = st.inside; begun = st.begun; hand = st.hand }
 
 -- Steps that lead on between two rounds.
 record Goes (rounds : ℕ) (past : Past) (steps : List Step) : Type 0 where
@@ -162,17 +132,19 @@ opening_goes = record {
   after = reverse opening;
   leads = next refl (next refl (next refl (next refl (next refl (next refl (next refl (next refl (next refl (next refl none)))))))));
   between = record {
-    config_is = two (λ s. config_in s (reverse opening) ≡ Some (config_of s)) refl refl;
-    here = two (λ s. is_present s (reverse opening) ≡ true) refl refl;
-    accepted_are = refl;
-    all_stay = λ t. refl;
-    opened_are = two (λ s. opened s (reverse opening) ≡ threads) refl refl;
-    stands_open = λ s t low high inside.
-        two
-        (λ s. is_open s t (reverse opening) ≡ true)
-        (four (λ t. is_open 1 t (reverse opening) ≡ true) refl refl refl refl t inside)
-        (four (λ t. is_open 2 t (reverse opening) ≡ true) refl refl refl refl t inside)
-        s low high;
+    are = record {
+      config_is = two (λ s. config_in s (reverse opening) ≡ Some (config_of s)) refl refl;
+      here = two (λ s. is_present s (reverse opening) ≡ true) refl refl;
+      accepted_are = refl;
+      all_stay = λ t. refl;
+      opened_are = two (λ s. opened s (reverse opening) ≡ threads) refl refl;
+      stands_open = λ s t low high inside.
+          two
+          (λ s. is_open s t (reverse opening) ≡ true)
+          (four (λ t. is_open 1 t (reverse opening) ≡ true) refl refl refl refl t inside)
+          (four (λ t. is_open 2 t (reverse opening) ≡ true) refl refl refl refl t inside)
+          s low high;
+    };
     inside = λ t. refl;
     begun = refl;
     hand = λ s. refl;
@@ -191,21 +163,21 @@ is_defined seed round =
     agree_below_at (λ event. is_none (definition_at sample event)) (λ event. event == 0) 9 (write_at seed round).event refl (omega arith)
     ∙ ne_eqb (write_at seed round).event 0 (λ e. omega arith)
 
-frames_are_few : (index : ℕ) → nat_le (length (frames_of index)) 100 ≡ true
+frames_are_few : (index : ℕ) → nat_le (length (frames_of index)) FRAMES ≡ true
 unfolding frames_of
 frames_are_few index = few (index % 4) _ _ _
   where
-    few : (n a b c : ℕ) → nat_le (length (take n (a ∷ b ∷ c ∷ []))) 100 ≡ true
+    few : (n a b c : ℕ) → nat_le (length (take n (a ∷ b ∷ c ∷ []))) FRAMES ≡ true
     few zero a b c = refl
     few (suc zero) a b c = refl
     few (suc (suc zero)) a b c = refl
     few (suc (suc (suc zero))) a b c = refl
     few (suc (suc (suc (suc n)))) a b c = refl
 
-payload_is_short : (event thread index : ℕ) → event < 9 → nat_le (length (payload_of event thread index)) 60000 ≡ true
+payload_is_short : (event thread index : ℕ) → event < 9 → nat_le (length (payload_of event thread index)) PAYLOAD_BYTES ≡ true
 unfolding payload_of sample
 payload_is_short event thread index below =
-    agree_below_at (λ event. nat_le (length (payload_of event thread index)) 60000) (λ event. true) 9 event refl below
+    agree_below_at (λ event. nat_le (length (payload_of event thread index)) PAYLOAD_BYTES) (λ event. true) 9 event refl below
 
 is_small : (seed round : ℕ) → fits (write_at seed round) ≡ true
 is_small seed round = and_from _ _ (frames_are_few _) (payload_is_short _ _ _ (omega arith))
@@ -242,17 +214,17 @@ both_go thread round write past it defined small wide narrow few st =
     let p1 : Past = step.Begin thread round write ∷ past in
     let p2 : Past = step.Show thread WIDE ∷ p1 in
     let p3 : Past = step.Show thread NARROW ∷ p2 in
-    let there = thread_is_there thread past it (st.all_stay thread) in
+    let there = thread_is_there thread past it (st.are.all_stay thread) in
     let s1 : Stands (λ t. thread == t) (round + 1) p1 = begun_stands round thread round write past st in
     let s2 : Stands (λ t. thread == t) (round + 1) p2 = shown_stands (λ t. thread == t) (round + 1) thread WIDE p1 s1 in
     let s3 : Stands (λ t. thread == t) (round + 1) p3 = shown_stands (λ t. thread == t) (round + 1) thread NARROW p2 s2 in
     let inside : in_write thread p1 ≡ true = s1.inside thread ∙ eq-eqb thread thread refl in
-    let wide_here = st.here WIDE (omega arith) (omega arith) in
-    let narrow_here = st.here NARROW (omega arith) (omega arith) in
+    let wide_here = st.are.here WIDE (omega arith) (omega arith) in
+    let narrow_here = st.are.here NARROW (omega arith) (omega arith) in
     let wide_due : is_due sample WIDE thread p1 ≡ true =
-    due_at_begin past thread round WIDE write (config_of WIDE) (st.stands_open WIDE thread (omega arith) (omega arith) it) (st.config_is WIDE (omega arith) (omega arith)) ∙ wide in
+    due_at_begin past thread round WIDE write (config_of WIDE) (st.are.stands_open WIDE thread (omega arith) (omega arith) it) (st.are.config_is WIDE (omega arith) (omega arith)) ∙ wide in
     let narrow_due : is_due sample NARROW thread p2 ≡ true =
-    due_at_begin past thread round NARROW write (config_of NARROW) (st.stands_open NARROW thread (omega arith) (omega arith) it) (st.config_is NARROW (omega arith) (omega arith)) ∙ narrow in
+    due_at_begin past thread round NARROW write (config_of NARROW) (st.are.stands_open NARROW thread (omega arith) (omega arith) it) (st.are.config_is NARROW (omega arith) (omega arith)) ∙ narrow in
     let wide_not : is_due sample WIDE thread p3 ≡ false = rw (eq-eqb thread thread refl) refl in
     let narrow_not : is_due sample NARROW thread p3 ≡ false = rw (eq-eqb thread thread refl) refl in
     record {
@@ -261,7 +233,7 @@ both_go thread round write past it defined small wide narrow few st =
           next (begin_can past thread round write there (st.inside thread) defined small (let h = st.begun in omega arith))
           (next (show_can p1 thread WIDE there wide_here inside wide_due)
           (next (show_can p2 thread NARROW there narrow_here inside narrow_due)
-          (next (end_can p3 thread there inside (none_is_due thread p3 st.accepted_are narrow_here wide_here narrow_not wide_not)) none)));
+          (next (end_can p3 thread there inside (none_is_due thread p3 st.are.accepted_are narrow_here wide_here narrow_not wide_not)) none)));
       between = ended_stands (round + 1) thread p3 s3;
     }
 
@@ -273,23 +245,23 @@ unfolding made_as
 one_goes thread round write past it defined small wide narrow few st =
     let p1 : Past = step.Begin thread round write ∷ past in
     let p2 : Past = step.Show thread WIDE ∷ p1 in
-    let there = thread_is_there thread past it (st.all_stay thread) in
+    let there = thread_is_there thread past it (st.are.all_stay thread) in
     let s1 : Stands (λ t. thread == t) (round + 1) p1 = begun_stands round thread round write past st in
     let s2 : Stands (λ t. thread == t) (round + 1) p2 = shown_stands (λ t. thread == t) (round + 1) thread WIDE p1 s1 in
     let inside : in_write thread p1 ≡ true = s1.inside thread ∙ eq-eqb thread thread refl in
-    let wide_here = st.here WIDE (omega arith) (omega arith) in
-    let narrow_here = st.here NARROW (omega arith) (omega arith) in
+    let wide_here = st.are.here WIDE (omega arith) (omega arith) in
+    let narrow_here = st.are.here NARROW (omega arith) (omega arith) in
     let wide_due : is_due sample WIDE thread p1 ≡ true =
-    due_at_begin past thread round WIDE write (config_of WIDE) (st.stands_open WIDE thread (omega arith) (omega arith) it) (st.config_is WIDE (omega arith) (omega arith)) ∙ wide in
+    due_at_begin past thread round WIDE write (config_of WIDE) (st.are.stands_open WIDE thread (omega arith) (omega arith) it) (st.are.config_is WIDE (omega arith) (omega arith)) ∙ wide in
     let narrow_not : is_due sample NARROW thread p2 ≡ false =
-    due_at_begin past thread round NARROW write (config_of NARROW) (st.stands_open NARROW thread (omega arith) (omega arith) it) (st.config_is NARROW (omega arith) (omega arith)) ∙ narrow in
+    due_at_begin past thread round NARROW write (config_of NARROW) (st.are.stands_open NARROW thread (omega arith) (omega arith) it) (st.are.config_is NARROW (omega arith) (omega arith)) ∙ narrow in
     let wide_not : is_due sample WIDE thread p2 ≡ false = rw (eq-eqb thread thread refl) refl in
     record {
       after = step.End thread ∷ p2;
       leads =
           next (begin_can past thread round write there (st.inside thread) defined small (let h = st.begun in omega arith))
           (next (show_can p1 thread WIDE there wide_here inside wide_due)
-          (next (end_can p2 thread there inside (none_is_due thread p2 st.accepted_are narrow_here wide_here narrow_not wide_not)) none));
+          (next (end_can p2 thread there inside (none_is_due thread p2 st.are.accepted_are narrow_here wide_here narrow_not wide_not)) none));
       between = ended_stands (round + 1) thread p2 s2;
     }
 
@@ -312,8 +284,8 @@ stolen_goes : HandsCounted → (session thread rounds : ℕ) (past : Past) → 1
 stolen_goes counted session thread rounds past low high inside st = record {
   after = step.Give session ∷ step.Steal session thread ∷ past;
   leads =
-      next (steal_can counted past session thread (st.here session low high) (thread_was_there thread past inside) (st.stands_open session thread low high inside) (st.hand session))
-      (next (give_can (step.Steal session thread ∷ past) session (st.here session low high)) none);
+      next (steal_can counted past session thread (st.are.here session low high) (thread_was_there thread past inside) (st.are.stands_open session thread low high inside) (st.hand session))
+      (next (give_can (step.Steal session thread ∷ past) session (st.are.here session low high)) none);
   between = stolen_stands rounds session thread past st;
 }
 
@@ -326,7 +298,7 @@ session_sweeps counted session stamp rounds past low high st =
     (λ p s. then_goes rounds rounds (stolen_goes counted session 4 rounds p low high (omega arith, omega arith) s)
     (λ p s. record {
       after = step.Point session stamp ∷ p;
-      leads = next (point_can p session stamp (s.here session low high)) none;
+      leads = next (point_can p session stamp (s.are.here session low high)) none;
       between = pointed_stands rounds session stamp p s;
     }))))
 
@@ -415,18 +387,18 @@ unfolding after_closing
 closing_leads counted rounds past st =
     joined
     (session_closes counted WIDE rounds past (record {
-      here = st.here WIDE (omega arith) (omega arith);
-      opened_are = st.opened_are WIDE (omega arith) (omega arith);
-      later_open = λ t least most. st.stands_open WIDE t (omega arith) (omega arith) (least, most);
+      here = st.are.here WIDE (omega arith) (omega arith);
+      opened_are = st.are.opened_are WIDE (omega arith) (omega arith);
+      later_open = λ t least most. st.are.stands_open WIDE t (omega arith) (omega arith) (least, most);
       closed = λ t least below. absurd (omega arith);
       outside = st.inside;
       hand = st.hand WIDE;
     }))
     (joined
     (session_closes counted NARROW rounds (after_closing WIDE rounds past) (record {
-      here = st.here NARROW (omega arith) (omega arith);
-      opened_are = st.opened_are NARROW (omega arith) (omega arith);
-      later_open = λ t least most. st.stands_open NARROW t (omega arith) (omega arith) (least, most);
+      here = st.are.here NARROW (omega arith) (omega arith);
+      opened_are = st.are.opened_are NARROW (omega arith) (omega arith);
+      later_open = λ t least most. st.are.stands_open NARROW t (omega arith) (omega arith) (least, most);
       closed = λ t least below. absurd (omega arith);
       outside = st.inside;
       hand = st.hand NARROW;
@@ -454,28 +426,20 @@ whole counted seed rounds few =
       leads = joined all.leads (closing_leads counted rounds all.after all.between);
       wide = refl;
       narrow = refl;
-      wide_opened = all.between.opened_are WIDE (omega arith) (omega arith);
-      narrow_opened = all.between.opened_are NARROW (omega arith) (omega arith);
+      wide_opened = all.between.are.opened_are WIDE (omega arith) (omega arith);
+      narrow_opened = all.between.are.opened_are NARROW (omega arith) (omega arith);
     }
 
 -- They stand in the past in their order.
 past_is : {steps : List Step} (w : Whole steps) → w.after ≡ reverse steps
 past_is {steps = steps} w = led_by w.leads ∙ append-nil (reverse steps)
 
-pub wide_is_finished : {steps : List Step} → Whole steps → is_finished WIDE (reverse steps) ≡ true
-wide_is_finished w = subst (λ past. is_finished WIDE past ≡ true) (past_is w) w.wide
-
-pub narrow_is_finished : {steps : List Step} → Whole steps → is_finished NARROW (reverse steps) ≡ true
-narrow_is_finished w = subst (λ past. is_finished NARROW past ≡ true) (past_is w) w.narrow
-
-pub wide_is_opened : {steps : List Step} → Whole steps → opened WIDE (reverse steps) ≡ threads
-wide_is_opened w = subst (λ past. opened WIDE past ≡ threads) (past_is w) w.wide_opened
-
-pub narrow_is_opened : {steps : List Step} → Whole steps → opened NARROW (reverse steps) ≡ threads
-narrow_is_opened w = subst (λ past. opened NARROW past ≡ threads) (past_is w) w.narrow_opened
+-- So what holds after them holds of them in their order.
+pub in_order : {steps : List Step} (P : Past → Type 0) (w : Whole steps) → P w.after → P (reverse steps)
+in_order P w holds = subst P (past_is w) holds
 
 pub all_are_lawful : {steps : List Step} → Whole steps → IsLawful sample (reverse steps)
-all_are_lawful w = subst (IsLawful sample) (past_is w) (lawful_after tt w.leads)
+all_are_lawful w = in_order (IsLawful sample) w (lawful_after tt w.leads)
 
 pub each_can_be_made : {steps : List Step} (past : Past) (step : Step) (later : List Step) → Whole steps
     → steps ≡ reverse past ++ step ∷ later → objection_to sample past step ≡ None

@@ -1,4 +1,5 @@
--- The schedule that `gen` makes of a seed and a number of rounds (this project's profile). The events are those of the sample program.
+-- The schedule that `gen` makes of a seed and a number of rounds (this project's profile). The events are those of the
+-- sample program.
 use Rattle.std.specs.Prelude.{◌≡◌, ℕ, ◌+◌, ◌-◌, ◌%◌, ◌^◌, Bool, true, false, List, [], ◌∷◌, ◌++◌, codes, map, filter, count_by, Option, Some, None, ◌==◌, if◌then◌else◌}
 use Rattle.std.specs.List.{flat_map, range_with_len}
 use Rattle.ep_defs.specs.declared.limits.TheConstants.{WRITES}
@@ -46,6 +47,7 @@ narrow =
       rundown = false;
     }
 
+-- The configuration of each of the two sessions.
 abbrev pub config_of : ℕ → Config
 config_of session = if session == WIDE then wide else narrow
 
@@ -92,7 +94,7 @@ from_each session take = flat_map (λ thread. take thread ∷ step.Give session 
 abbrev pub sweep : ℕ → List Step
 sweep stamp = flat_map (λ session. from_each session (step.Steal session) ++ step.Point session stamp ∷ []) sessions
 
--- After so many rounds.
+-- After this many rounds.
 abbrev pub sweep_after : ℕ → List Step
 sweep_after rounds = if rounds % SWEEP_ROUNDS == 0 then sweep rounds else []
 
@@ -110,7 +112,7 @@ closing stamp = flat_map (λ session. from_each session (step.Close session) ++ 
 unfoldable pub generated : ℕ → ℕ → List Step
 generated seed rounds = opening ++ flat_map (round_at seed) (range_with_len 0 rounds) ++ closing rounds
 
--- Of a list of steps the first is given, and the list is then what stands behind it; None is given where there is none.
+-- Of a list of steps the first is given, and the list is then what stands after it; None is given where there is none.
 abbrev pub Gives : List Step → Option Step → List Step → Type 0
 Gives before None after = (before ≡ []) × (after ≡ [])
 Gives before (Some step) after = before ≡ step ∷ after

@@ -29,7 +29,7 @@ impl Model for Gen {
 }
 
 impl Gen {
-    /// What gives the whole schedule of a seed, with so many rounds: each is one write of one of the threads.
+    /// What gives the whole schedule of a seed, with this many rounds: each is one write of one of the threads.
     pub fn new(seed: u64, rounds: u32) -> Gen
         ensures { result ≡ generated seed rounds }
     {
@@ -44,7 +44,7 @@ impl Gen {
         }
     }
 
-    /// The next step, None behind the last one. Where there is no memory for it, it is still the next one.
+    /// The next step, None after the last one. Where there is no memory for it, it is still the next one.
     pub fn next(&mut self, alloc: Global) -> Result<Option<Step>, AllocError>
         ensures given { IfOk result (λ step. Gives self.old step self.new) }
         ensures kept { OnErr result (self.new ≡ self.old) }

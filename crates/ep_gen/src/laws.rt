@@ -26,7 +26,7 @@ pub fn a_schedule_can_be_made()
         → opened WIDE (reverse (generated seed rounds)) ≡ threads }
     ensures narrow_opened { (seed rounds : ℕ) → rounds ≤ SCHEDULE_WRITES
         → opened NARROW (reverse (generated seed rounds)) ≡ threads }
-    // There are ten steps before the rounds, 22 at most in each, and 18 behind them.
+    // There are ten steps before the rounds, 22 at most in each, and 18 after them.
     ensures short { (seed rounds : ℕ) → length (generated seed rounds) ≤ 28 + 22 * rounds }
 {
     a_budget_can_be_counted();

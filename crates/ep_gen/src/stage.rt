@@ -60,7 +60,7 @@ impl Stage {
         Ok(Some(step))
     }
 
-    // The stage behind it. The last one stays.
+    // The stage after it. The last one stays.
     pub(crate) fn after(self, rounds: Rounds) -> Stage
         requires { IsStage rounds.count self }
         ensures within { IsStage rounds.count result }

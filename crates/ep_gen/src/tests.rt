@@ -33,7 +33,7 @@ fn told(alloc: Global, step: &Step) -> Result<String, AllocError> {
     }
 }
 
-// All steps of a schedule behind so many, each with a semicolon at its end.
+// All steps of a schedule after this many, each with a semicolon at its end.
 fn told_after(alloc: Global, seed: u64, rounds: u32, skipped: u32) -> Result<String, AllocError> {
     let mut steps = Gen::new(seed, rounds);
     for _ in 0..skipped {

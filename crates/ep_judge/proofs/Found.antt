@@ -8,6 +8,8 @@ use Rattle.std.specs.Ordering.{nat_cmp}
 use Rattle.std.proofs.lemmas.Bool.{eqb-true, eq-eqb, lt-ltb, and_left, and_right, false≢true}
 use Rattle.std.proofs.lemmas.Option.{slice_get_read, slice_get-get_or}
 use Rattle.std.proofs.lemmas.List.Quantifiers.{position-Some}
+use Rattle.std.proofs.lemmas.Map.Keys.{any_passes_from_place}
+use Rattle.ep_defs.specs.declared.limits.TheConstants.{THREADS}
 use Rattle.ep_defs.specs.declared.event.EventDef.{EventDef}
 use Rattle.ep_model.specs.History.{Past, present, is_present, was_there, is_there, has_left, in_write, is_open, is_due}
 use Rattle.ep_model.proofs.Lists.{has}
@@ -47,14 +49,9 @@ none_passes p xs is =
       | false ↦ λ _. refl
     ] refl
 
-pub any_at : {A : Type 0} (p : A → Bool) (xs : List A) (i : ℕ) (x : A) → slice_get xs i ≡ Some x → p x ≡ true → list_any p xs ≡ true
-any_at p [] i x is on = cc
-any_at {A = A} p (y ∷ ys) zero x is on = let same : y ≡ x = cc in let P : A → Type 0 = λ z. (p z || list_any p ys) ≡ true in subst P (sym same) (rw on refl)
-any_at p (y ∷ ys) (suc i) x is on = elim (p y) as (λ v. (v || list_any p ys) ≡ true) [ true ↦ refl | false ↦ any_at p ys i x is on ]
-
 some_passes : {A : Type 0} (p : A → Bool) (xs : List A) (i : ℕ) → position p xs ≡ Some i → list_any p xs ≡ true
 some_passes p [] i is = cc
-some_passes p (x ∷ xs) i is = let at = position-Some p (x ∷ xs) i x is in any_at p (x ∷ xs) i _ (slice_get-get_or (x ∷ xs) i x at.0) at.1
+some_passes p (x ∷ xs) i is = let at = position-Some p (x ∷ xs) i x is in any_passes_from_place p (x ∷ xs) i _ (slice_get-get_or (x ∷ xs) i x at.0) at.1
 
 -- What is found passes.
 found_at : {A : Type 0} (p : A → Bool) (xs : List A) (i : ℕ) (x : A) → position p xs ≡ Some i → x ≡ get_or xs i x → (slice_get xs i ≡ Some x) × (p x ≡ true)
@@ -114,7 +111,7 @@ own_none past told thread (Some r) follows is =
 
 -- The row that serves the thread.
 pub record RowFound (past : Past) (tables : Tables) (thread row : ℕ) : Type 0 where
-  pub is_row : IsRow 256 row
+  pub is_row : IsRow THREADS row
   pub thread_is : ((told_of tables.rows).row row).thread ≡ thread
   pub follows : RowFollows past ((told_of tables.rows).row row)
 

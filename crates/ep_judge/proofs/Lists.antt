@@ -2,7 +2,8 @@
 use Rattle.std.proofs.Common.{◌≡◌, ℕ, zero, suc, ◌+◌, ◌<◌, ◌≤◌, Bool, true, false, List, [], ◌∷◌, map, length, refl, ap, sym, ◌∙◌, subst, arith, if◌then◌else◌}
 use Rattle.std.specs.Prelude.{◌&&◌, ◌||◌, ◌++◌, not, filter, ◌==◌}
 use Rattle.std.specs.List.{range_with_len}
-use Rattle.std.proofs.lemmas.Bool.{eqb-true, eqb-false, eq-eqb, ne_eqb, and_right, or_from, or_left, or_right, false≢true}
+use Rattle.std.proofs.lemmas.Bool.{eqb-true, eqb-false, eq-eqb, ne_eqb, and_right, or_from, or_left, or_right, false≢true, not_from_false}
+use Rattle.std.proofs.Math.Bool.{or_assoc}
 use Rattle.ep_model.proofs.Lists.{has}
 
 -- No number stands twice.
@@ -44,13 +45,9 @@ has-filter f n (x ∷ xs) =
       | false ↦ λ is. none_known (f n) (x == n) _ _ (has-filter f n xs) (ap (λ b. b && (x == n)) (sym is) ∙ same)
     ] refl
 
-or_assoc : (a b c : Bool) → (a || (b || c)) ≡ ((a || b) || c)
-or_assoc true b c = refl
-or_assoc false b c = refl
-
 pub has-append : (n : ℕ) (xs ys : List ℕ) → has n (xs ++ ys) ≡ (has n xs || has n ys)
 has-append n [] ys = refl
-has-append n (x ∷ xs) ys = ap (λ b. (x == n) || b) (has-append n xs ys) ∙ or_assoc (x == n) (has n xs) (has n ys)
+has-append n (x ∷ xs) ys = ap (λ b. (x == n) || b) (has-append n xs ys) ∙ sym (or_assoc (x == n) (has n xs) (has n ys))
 
 pub distinct-filter : (f : ℕ → Bool) (xs : List ℕ) → IsDistinct xs → IsDistinct (filter f xs)
 distinct-filter f [] d = tt
@@ -84,10 +81,6 @@ both_true true true c x y e = e
 both_true true false c x y e = cc
 both_true false b c x y e = cc
 
-not_of : (b : Bool) → b ≡ false → not b ≡ true
-not_of false is = refl
-not_of true is = cc
-
 -- A number that stands in the list is no other that does not.
 apart : (x n : ℕ) (xs : List ℕ) → has x xs ≡ false → has n xs ≡ true → (n == x) ≡ false
 apart x n xs none is =
@@ -102,7 +95,7 @@ pigeons [] ys d all = omega arith
 pigeons (x ∷ xs) ys d all =
     let here : has x ys ≡ true = all x (or_left (x == x) (has x xs) (eq-eqb x x refl)) in
     let others : length xs ≤ length (filter (λ y. not (y == x)) ys) = pigeons xs (filter (λ y. not (y == x)) ys) d.1 (λ n is.
-    both_true (not (n == x)) (has n ys) _ (not_of (n == x) (apart x n xs d.0 is)) (all n (or_right (x == n) (has n xs) is)) (has-filter (λ y. not (y == x)) n ys)) in
+    both_true (not (n == x)) (has n ys) _ (not_from_false (n == x) (apart x n xs d.0 is)) (all n (or_right (x == n) (has n xs) is)) (has-filter (λ y. not (y == x)) n ys)) in
     let less = fewer x ys here in
     omega arith
 

@@ -7,6 +7,8 @@ use Rattle.std.proofs.lemmas.Bool.{eqb-true, leb-false, le-leb, ltb-false, and_p
 use Rattle.std.proofs.lemmas.Option.{slice_get-get_or}
 use Rattle.std.proofs.lemmas.List.Quantifiers.{position-Some}
 use Rattle.std.proofs.lemmas.List.{length-map}
+use Rattle.ep_model.proofs.Lists.{none_is}
+use Rattle.ep_defs.specs.declared.limits.TheConstants.{SCHEDULE_WRITES, SESSION_THREADS, THREADS}
 use Rattle.ep_defs.specs.Definitions.{definition_at}
 use Rattle.ep_defs.specs.declared.event.EventDef.{EventDef}
 use Rattle.ep_model.specs.declared.step.Step.{Step}
@@ -26,7 +28,6 @@ use Rattle.ep_judge.specs.Can.{HasRow, HasPlace, IsQuiet, CanOpenOn, CanShowTo, 
 use Rattle.ep_judge.proofs.Pasts.{open_there}
 use Rattle.ep_judge.proofs.Found.{All-at, RowFound, row_found, no_row, no_place, there_found, in_write_found, SessionFound, on_found, owed_found}
 use Rattle.ep_judge.proofs.Slots.{has_due_found, all_taken}
-use Rattle.ep_judge.proofs.Somewhere.{none_is}
 
 -- ---- threads
 
@@ -137,7 +138,7 @@ can_make events past tables (step.Accept s config) counted h none =
     (not-false _ o.1.0, omega (arith, few, count))
 can_make events past tables (step.Enter t) counted h none =
     let o = none_there (objections events past (step.Enter t)) none in
-    λ taken. false≢true (sym o.1.0 ∙ le-leb 256 (length (rows past)) (all_taken events past tables h taken))
+    λ taken. false≢true (sym o.1.0 ∙ le-leb THREADS (length (rows past)) (all_taken events past tables h taken))
 can_make events past tables (step.Leave t) counted h none =
     let o = none_there (objections events past (step.Leave t)) none in
     quiet events past tables t h (not-false _ o.0) o.1.0
@@ -148,7 +149,7 @@ can_make events past tables (step.Open s t) counted h none =
     let on = there_row events past tables t h there in
     let R = (told_of tables.rows).row on.row in
     let closed : is_open s t past ≡ false = false_from_ne_true (is_open s t past) (λ is. false≢true (sym o.1.1.0 ∙ open_opened s t past is)) in
-    let few = leb-false 1000000 (length (opened s past)) o.1.1.1.0 in
+    let few = leb-false SESSION_THREADS (length (opened s past)) o.1.1.1.0 in
     let count = at.found.follows.count ∙ ap (λ n. length (opened n past)) at.found.number in
     has_place events past tables s (λ one. HasRow tables t (CanOpenOn t one)) at
     (record {
@@ -165,7 +166,7 @@ can_make events past tables (step.Open s t) counted h none =
 can_make events past tables (step.Begin t stamp write) counted h none =
     let o = none_there (objections events past (step.Begin t stamp write)) none in
     let known = defined events write.event o.1.1.0 in
-    let few = leb-false 2147483646 (begins past) o.1.1.1.1.0 in
+    let few = leb-false SCHEDULE_WRITES (begins past) o.1.1.1.1.0 in
     let count = h.begins_are in
     (quiet events past tables t h (not-false _ o.0) o.1.0, known.0, subst (λ (list : List EventDef). write.event ≤ length list) (sym h.known) known.1, not-false _ o.1.1.1.0, omega (arith, few, count))
 can_make events past tables (step.Show t s) counted h none =

@@ -8,6 +8,7 @@ use Rattle.std.specs.Ordering.{nat_cmp}
 use Rattle.std.proofs.lemmas.Bool.{eqb-true, eq-eqb, le-leb, leb-true, and_from, and_right, or_left, or_right, or_from, false≢true, false_from_ne_true}
 use Rattle.std.proofs.lemmas.Nat.Bits.{bit_at-lt, bit_at-zero, same_from_bits}
 use Rattle.std.proofs.lemmas.List.Elements.{All-head, All-tail, All-from_get_or}
+use Rattle.ep_defs.specs.declared.limits.TheConstants.{THREADS}
 use Rattle.ep_defs.specs.declared.event.EventDef.{EventDef}
 use Rattle.ep_model.specs.History.{Past, present, was_there, is_there, has_left, takes_row, rows, is_open, is_due}
 use Rattle.ep_model.specs.Lawful.{has_due}
@@ -81,7 +82,7 @@ has_due_found events past tables thread row h r =
 
 -- ---- what is open
 
-open_any : (events : List EventDef) (past : Past) (tables : Tables) (row : ℕ) → TablesFollow events past tables → IsRow 256 row
+open_any : (events : List EventDef) (past : Past) (tables : Tables) (row : ℕ) → TablesFollow events past tables → IsRow THREADS row
     → list_any (λ s. is_open s ((told_of tables.rows).row row).thread past) (present past) ≡ list_any (λ (p : Present). is_some (slot_of ((told_of tables.rows).row row) p.slot)) tables.present.items
 open_any events past tables row h is_row =
     let told = told_of tables.rows in
@@ -101,7 +102,7 @@ le_false : (n m : ℕ) → m < n → nat_le n m ≡ false
 le_false n m less = false_from_ne_true (nat_le n m) (λ is. let most = leb-true n m is in absurd (omega (arith, most, less)))
 
 -- The row is not free, so its thread takes it.
-row_taken : (events : List EventDef) (past : Past) (tables : Tables) (row : ℕ) → TablesFollow events past tables → IsRow 256 row
+row_taken : (events : List EventDef) (past : Past) (tables : Tables) (row : ℕ) → TablesFollow events past tables → IsRow THREADS row
     → (((told_of tables.rows).row row).left ≡ true → All IsNone ((told_of tables.rows).row row).slots → ⊥) → takes_row ((told_of tables.rows).row row).thread past ≡ true
 row_taken events past tables row h is_row not_free =
     let R = (told_of tables.rows).row row in
@@ -119,7 +120,7 @@ row_taken events past tables row h is_row not_free =
     ] refl
 
 -- The row is free, so its thread takes none.
-row_untaken : (events : List EventDef) (past : Past) (tables : Tables) (row : ℕ) → TablesFollow events past tables → IsRow 256 row
+row_untaken : (events : List EventDef) (past : Past) (tables : Tables) (row : ℕ) → TablesFollow events past tables → IsRow THREADS row
     → ((told_of tables.rows).row row).left ≡ true → All IsNone ((told_of tables.rows).row row).slots → takes_row ((told_of tables.rows).row row).thread past ≡ false
 row_untaken events past tables row h is_row left off =
     let R = (told_of tables.rows).row row in
@@ -146,19 +147,19 @@ gone_untaken thread past gone =
 
 -- No row is free, so all are taken.
 pub all_taken : (events : List EventDef) (past : Past) (tables : Tables) → TablesFollow events past tables
-    → ((r : ℕ) → IsRow 256 r → ((told_of tables.rows).row r).left ≡ true → All IsNone ((told_of tables.rows).row r).slots → ⊥) → 256 ≤ length (rows past)
+    → ((r : ℕ) → IsRow THREADS r → ((told_of tables.rows).row r).left ≡ true → All IsNone ((told_of tables.rows).row r).slots → ⊥) → THREADS ≤ length (rows past)
 all_taken events past tables h none =
     none_free past (λ r. ((told_of tables.rows).row r).thread) (get nat_cmp tables.threads) h.place_of (λ r at. (h.rows r at).came) (λ r at. row_taken events past tables r h at (none r at))
 
 -- No row is free exactly where all are taken.
 pub full_found : (events : List EventDef) (past : Past) (tables : Tables) (found : Option ℕ) (full : Bool) → TablesFollow events past tables
-    → IfSome found (λ row. IsRow 256 row) → IfSome found (λ row. ((told_of tables.rows).row row).left ≡ true) → IfSome found (λ row. All IsNone ((told_of tables.rows).row row).slots)
-    → IfNone found ((r : ℕ) → IsRow 256 r → ((told_of tables.rows).row r).left ≡ true → All IsNone ((told_of tables.rows).row r).slots → ⊥)
-    → is_some found ≡ not full → full ≡ nat_le 256 (length (rows past))
+    → IfSome found (λ row. IsRow THREADS row) → IfSome found (λ row. ((told_of tables.rows).row row).left ≡ true) → IfSome found (λ row. All IsNone ((told_of tables.rows).row row).slots)
+    → IfNone found ((r : ℕ) → IsRow THREADS r → ((told_of tables.rows).row r).left ≡ true → All IsNone ((told_of tables.rows).row r).slots → ⊥)
+    → is_some found ≡ not full → full ≡ nat_le THREADS (length (rows past))
 full_found events past tables None true h is_row left off none is =
-    sym (le-leb 256 (length (rows past)) (all_taken events past tables h none))
+    sym (le-leb THREADS (length (rows past)) (all_taken events past tables h none))
 full_found events past tables None false h is_row left off none is = absurd (false≢true is)
 full_found events past tables (Some row) false h is_row left off none is =
-    sym (le_false 256 (length (rows past)) (some_free events past (λ r. ((told_of tables.rows).row r).thread) (get nat_cmp tables.threads) row h.lawful h.place_of
+    sym (le_false THREADS (length (rows past)) (some_free events past (λ r. ((told_of tables.rows).row r).thread) (get nat_cmp tables.threads) row h.lawful h.place_of
     (λ t came takes. served events past tables t h came (λ gone. false≢true (sym (gone_untaken t past gone) ∙ takes))) is_row (row_untaken events past tables row h is_row left off)))
 full_found events past tables (Some row) true h is_row left off none is = absurd (false≢true (sym is))

@@ -3,11 +3,12 @@ use Rattle.std.proofs.Common.{◌≡◌, ℕ, zero, suc, ◌↔◌, Bool, true, 
 use Rattle.std.specs.Prelude.{◌⊎◌, ◌||◌, not, is_some, option_map, nat_le}
 use Rattle.std.specs.List.{list_any}
 use Rattle.std.proofs.lemmas.Bool.{leb-true, leb-false, false≢true, false_from_ne_true}
+use Rattle.ep_defs.specs.declared.limits.TheConstants.{THREADS}
 use Rattle.ep_defs.specs.declared.event.EventDef.{EventDef}
 use Rattle.ep_model.specs.History.{Past, opened, is_open}
 use Rattle.ep_model.specs.Lawful.{is_open_somewhere}
 use Rattle.ep_model.proofs.Sessions.{open_somewhere}
-use Rattle.ep_model.proofs.Lists.{same_bools}
+use Rattle.ep_model.proofs.Lists.{same_bools, none_is}
 use Rattle.ep_slot.specs.Hand.{hand_of}
 use Rattle.ep_row.specs.Row.{slot_of, opening_of}
 use Rattle.ep_stream.specs.Rows.{IsRow}
@@ -27,10 +28,6 @@ some_map : {A B C : Type 0} (f : A → B) (g : A → C) (o : Option A) → is_so
 some_map f g None = refl
 some_map f g (Some x) = refl
 
-pub none_is : {A : Type 0} (o : Option A) → is_some o ≡ false → o ≡ None
-none_is None is = refl
-none_is (Some x) is = cc
-
 none_mapped : {A B : Type 0} (f : A → B) (o : Option A) → option_map f o ≡ None → o ≡ None
 none_mapped f None is = refl
 none_mapped f (Some x) is = cc
@@ -39,12 +36,12 @@ none_mapped f (Some x) is = cc
 pub cell_on : (set : Rows) (r s : ℕ) → is_some (slot_of ((told_of set).row r) s) ≡ is_some ((told_of set).slot r s)
 cell_on set r s = ap is_some (set.known r s).on ∙ some_map (λ (o : Open). opening_of o.slot) (λ (o : Open). o.slot) (open_at set.columns.items r s)
 
-row_or : (r : ℕ) → IsRow 256 r ⊎ (IsRow 256 r → ⊥)
+row_or : (r : ℕ) → IsRow THREADS r ⊎ (IsRow THREADS r → ⊥)
 row_or zero = inr (λ at. absurd (omega (arith, at.0)))
 row_or (suc n) =
-    elim (nat_le (suc n) 256) as (λ v. nat_le (suc n) 256 ≡ v → IsRow 256 (suc n) ⊎ (IsRow 256 (suc n) → ⊥)) [
-      | true ↦ λ is. let most = leb-true (suc n) 256 is in inl (omega arith, most)
-      | false ↦ λ is. let high = leb-false (suc n) 256 is in inr (λ at. absurd (omega (arith, high, at.1)))
+    elim (nat_le (suc n) THREADS) as (λ v. nat_le (suc n) THREADS ≡ v → IsRow THREADS (suc n) ⊎ (IsRow THREADS (suc n) → ⊥)) [
+      | true ↦ λ is. let most = leb-true (suc n) THREADS is in inl (omega arith, most)
+      | false ↦ λ is. let high = leb-false (suc n) THREADS is in inr (λ at. absurd (omega (arith, high, at.1)))
     ] refl
 
 -- One that passes a test.
@@ -64,7 +61,7 @@ pub somewhere_found : (events : List EventDef) (past : Past) (tables : Tables) (
     → (IsTrue nowhere ↔ ((r : ℕ) → (told_of tables.rows).slot r present.slot ≡ None)) → not nowhere ≡ is_open_somewhere session past
 somewhere_found events past tables session present nowhere h s is =
     let told = told_of tables.rows in
-    let on : (r : ℕ) → IsRow 256 r → is_some (told.slot r present.slot) ≡ is_open session (told.row r).thread past = λ r at.
+    let on : (r : ℕ) → IsRow THREADS r → is_some (told.slot r present.slot) ≡ is_open session (told.row r).thread past = λ r at.
     sym (cell_on tables.rows r present.slot) ∙ (s.follows.rows r at).on ∙ ap (λ n. is_open n (told.row r).thread past) s.number in
     let off : is_open_somewhere session past ≡ false → (r : ℕ) → told.slot r present.slot ≡ None = λ none r.
     elim (row_or r) [

@@ -1,11 +1,13 @@
 -- How many rows are taken: as many as there are exactly where none is free.
-use Rattle.std.proofs.Common.{◌≡◌, ℕ, zero, suc, ◌+◌, ◌<◌, ◌≤◌, Bool, true, false, List, [], ◌∷◌, map, length, Option, Some, refl, ap, sym, ◌∙◌, subst, arith}
+use Rattle.std.proofs.Common.{◌≡◌, ℕ, zero, suc, ◌+◌, ◌<◌, ◌≤◌, true, false, List, [], ◌∷◌, map, length, Option, Some, refl, ap, sym, ◌∙◌, subst, arith}
 use Rattle.std.specs.Prelude.{◌&&◌, ◌||◌, ◌++◌, unwrap_or, nat_lt, nat_le, ◌==◌}
 use Rattle.std.specs.Int.{is_in_range}
 use Rattle.std.specs.List.{list_any, range_with_len}
 use Rattle.std.proofs.lemmas.Bool.{eqb-true, ltb-true, leb-true, le-leb, and_from, and_parts, or_from, not-true, not-false, false≢true}
 use Rattle.std.proofs.lemmas.List.FromFn.{length-range_with_len}
 use Rattle.std.proofs.lemmas.List.{length-map}
+use Rattle.std.proofs.Math.Bool.{or_comm}
+use Rattle.ep_defs.specs.declared.limits.TheConstants.{THREADS}
 use Rattle.ep_defs.specs.declared.event.EventDef.{EventDef}
 use Rattle.ep_model.specs.declared.step.Step.TheVariants as step
 use Rattle.ep_model.specs.History.{Past, entered, was_there, takes_row, rows}
@@ -14,12 +16,6 @@ use Rattle.ep_model.proofs.Lists.{has, same_bools, above_none}
 use Rattle.ep_model.proofs.Objections.{none_there}
 use Rattle.ep_stream.specs.Rows.{IsRow}
 use Rattle.ep_judge.proofs.Lists.{IsDistinct, has-filter, has-append, has-within, distinct-filter, distinct-map, pigeons, range-distinct, source_of}
-
-or_turn : (a b : Bool) → (a || b) ≡ (b || a)
-or_turn true true = refl
-or_turn true false = refl
-or_turn false true = refl
-or_turn false false = refl
 
 -- ---- the numbers of rows, and of the threads that are there from the start
 
@@ -39,23 +35,23 @@ range_high n a (suc count) is =
       | false ↦ λ _ h. let high = range_high n (a + 1) count h in omega arith
     ] refl is
 
-pub in_range : (n : ℕ) → has n (range_with_len 1 256) ≡ true → IsRow 256 n
-in_range n is = let low = range_low n 1 256 is in let high = range_high n 1 256 is in (omega arith, omega arith)
+pub in_range : (n : ℕ) → has n (range_with_len 1 THREADS) ≡ true → IsRow THREADS n
+in_range n is = let low = range_low n 1 THREADS is in let high = range_high n 1 THREADS is in (omega arith, omega arith)
 
-pub row_has : (n : ℕ) → IsRow 256 n → has n (range_with_len 1 256) ≡ true
-row_has n is = has-within n 1 256 (omega (arith, is.0)) (omega (arith, is.1))
+pub row_has : (n : ℕ) → IsRow THREADS n → has n (range_with_len 1 THREADS) ≡ true
+row_has n is = has-within n 1 THREADS (omega (arith, is.0)) (omega (arith, is.1))
 
-has_in_range : (n : ℕ) → has n (range_with_len 1 256) ≡ is_in_range 1 256 n
-has_in_range n = same_bools _ _ (λ is. let at = in_range n is in and_from (nat_le 1 n) (nat_le n 256) (le-leb 1 n (omega (arith, at.0))) (le-leb n 256 at.1)) (λ is. let at = and_parts (nat_le 1 n) (nat_le n 256) is in row_has n (omega (arith, leb-true 1 n at.0), leb-true n 256 at.1))
+has_in_range : (n : ℕ) → has n (range_with_len 1 THREADS) ≡ is_in_range 1 THREADS n
+has_in_range n = same_bools _ _ (λ is. let at = in_range n is in and_from (nat_le 1 n) (nat_le n THREADS) (le-leb 1 n (omega (arith, at.0))) (le-leb n THREADS at.1)) (λ is. let at = and_parts (nat_le 1 n) (nat_le n THREADS) is in row_has n (omega (arith, leb-true 1 n at.0), leb-true n THREADS at.1))
 
 -- The threads that there are or were.
 abbrev pub threads : Past → List ℕ
-threads past = entered past ++ range_with_len 1 256
+threads past = entered past ++ range_with_len 1 THREADS
 
 pub has_threads : (thread : ℕ) (past : Past) → has thread (threads past) ≡ was_there thread past
 has_threads thread past =
-    has-append thread (entered past) (range_with_len 1 256)
-    ∙ or_turn (has thread (entered past)) (has thread (range_with_len 1 256))
+    has-append thread (entered past) (range_with_len 1 THREADS)
+    ∙ or_comm (has thread (entered past)) (has thread (range_with_len 1 THREADS))
     ∙ ap (λ b. b || has thread (entered past)) (has_in_range thread)
 
 pub has_rows : (thread : ℕ) (past : Past) → has thread (rows past) ≡ (takes_row thread past && was_there thread past)
@@ -65,17 +61,17 @@ has_rows thread past = has-filter (λ t. takes_row t past) thread (threads past)
 
 entered_anew : (t : ℕ) (past : Past) → is_next_thread t past ≡ true → has t (threads past) ≡ false
 entered_anew t past next =
-    let parts = and_parts (nat_lt 256 t) _ next in
-    let high : 256 < t = ltb-true 256 t parts.0 in
-    let off : has t (range_with_len 1 256) ≡ false =
-    elim (has t (range_with_len 1 256)) as (λ v. has t (range_with_len 1 256) ≡ v → v ≡ false) [
+    let parts = and_parts (nat_lt THREADS t) _ next in
+    let high : THREADS < t = ltb-true THREADS t parts.0 in
+    let off : has t (range_with_len 1 THREADS) ≡ false =
+    elim (has t (range_with_len 1 THREADS)) as (λ v. has t (range_with_len 1 THREADS) ≡ v → v ≡ false) [
       | true ↦ λ is. let at = in_range t is in absurd (omega (arith, at.1, high))
       | false ↦ λ _. refl
     ] refl in
-    has-append t (entered past) (range_with_len 1 256) ∙ or_from (has t (entered past)) _ (above_none t (entered past) (not-true (list_any (λ n. nat_le t n) (entered past)) parts.1)) off
+    has-append t (entered past) (range_with_len 1 THREADS) ∙ or_from (has t (entered past)) _ (above_none t (entered past) (not-true (list_any (λ n. nat_le t n) (entered past)) parts.1)) off
 
 pub threads_distinct : (events : List EventDef) (past : Past) → IsLawful events past → IsDistinct (threads past)
-threads_distinct events [] lawful = range-distinct 1 256
+threads_distinct events [] lawful = range-distinct 1 THREADS
 threads_distinct events (step.Enter t ∷ past) lawful =
     (entered_anew t past (not-false (is_next_thread t past) (none_there (objections events past (step.Enter t)) lawful.1).0), threads_distinct events past lawful.0)
 threads_distinct events (step.Accept s config ∷ past) lawful = threads_distinct events past lawful.0
@@ -98,30 +94,30 @@ row_of place thread = unwrap_or (place thread) 0
 
 -- Where each row's thread takes it, all are taken.
 pub none_free : (past : Past) (own : ℕ → ℕ) (place : ℕ → Option ℕ)
-    → ((r : ℕ) → IsRow 256 r → place (own r) ≡ Some r) → ((r : ℕ) → IsRow 256 r → was_there (own r) past ≡ true) → ((r : ℕ) → IsRow 256 r → takes_row (own r) past ≡ true)
-    → 256 ≤ length (rows past)
+    → ((r : ℕ) → IsRow THREADS r → place (own r) ≡ Some r) → ((r : ℕ) → IsRow THREADS r → was_there (own r) past ≡ true) → ((r : ℕ) → IsRow THREADS r → takes_row (own r) past ≡ true)
+    → THREADS ≤ length (rows past)
 none_free past own place places there takes =
-    let each : (n : ℕ) → has n (map own (range_with_len 1 256)) ≡ true → has n (rows past) ≡ true = λ n is.
-    let s = source_of own n (range_with_len 1 256) is in
+    let each : (n : ℕ) → has n (map own (range_with_len 1 THREADS)) ≡ true → has n (rows past) ≡ true = λ n is.
+    let s = source_of own n (range_with_len 1 THREADS) is in
     let at = in_range s.source s.there in
     let H : ℕ → Type 0 = λ m. has m (rows past) ≡ true in
     subst H s.is (has_rows (own s.source) past ∙ and_from _ _ (takes s.source at) (there s.source at)) in
-    let distinct = distinct-map own (row_of place) (range_with_len 1 256) (λ n is. ap (λ o. unwrap_or o 0) (places n (in_range n is))) (range-distinct 1 256) in
-    let most = pigeons (map own (range_with_len 1 256)) (rows past) distinct each in
-    let count = length-map (range_with_len 1 256) own ∙ length-range_with_len 1 256 in
+    let distinct = distinct-map own (row_of place) (range_with_len 1 THREADS) (λ n is. ap (λ o. unwrap_or o 0) (places n (in_range n is))) (range-distinct 1 THREADS) in
+    let most = pigeons (map own (range_with_len 1 THREADS)) (rows past) distinct each in
+    let count = length-map (range_with_len 1 THREADS) own ∙ length-range_with_len 1 THREADS in
     omega (arith, most, count)
 
 -- A thread and the row that it takes.
 pub record Served (own : ℕ → ℕ) (thread : ℕ) : Type 0 where
   pub row : ℕ
-  pub is_row : IsRow 256 row
+  pub is_row : IsRow THREADS row
   pub own_is : own row ≡ thread
 
 -- Where each thread that takes a row has one, and some row's thread takes none, not all are taken.
 pub some_free : (events : List EventDef) (past : Past) (own : ℕ → ℕ) (place : ℕ → Option ℕ) (row : ℕ) → IsLawful events past
-    → ((r : ℕ) → IsRow 256 r → place (own r) ≡ Some r) → ((t : ℕ) → was_there t past ≡ true → takes_row t past ≡ true → Served own t)
-    → IsRow 256 row → takes_row (own row) past ≡ false
-    → length (rows past) < 256
+    → ((r : ℕ) → IsRow THREADS r → place (own r) ≡ Some r) → ((t : ℕ) → was_there t past ≡ true → takes_row t past ≡ true → Served own t)
+    → IsRow THREADS row → takes_row (own row) past ≡ false
+    → length (rows past) < THREADS
 some_free events past own place row lawful places served is_row free =
     let f = row_of place in
     let taken : (t : ℕ) → has t (rows past) ≡ true → Served own t = λ t is. let parts = and_parts (takes_row t past) (was_there t past) (sym (has_rows t past) ∙ is) in served t parts.1 parts.0 in
@@ -137,16 +133,16 @@ some_free events past own place row lawful places served is_row free =
           absurd (false≢true (sym free ∙ ap (λ t. takes_row t past) same ∙ takes))
       | false ↦ λ _. refl
     ] refl in
-    let each : (n : ℕ) → has n (row ∷ map f (rows past)) ≡ true → has n (range_with_len 1 256) ≡ true = λ n.
-    elim (row == n) as (λ v. (row == n) ≡ v → (v || has n (map f (rows past))) ≡ true → has n (range_with_len 1 256) ≡ true) [
-      | true ↦ λ same _. let H : ℕ → Type 0 = λ m. has m (range_with_len 1 256) ≡ true in subst H (eqb-true row n same) (row_has row is_row)
+    let each : (n : ℕ) → has n (row ∷ map f (rows past)) ≡ true → has n (range_with_len 1 THREADS) ≡ true = λ n.
+    elim (row == n) as (λ v. (row == n) ≡ v → (v || has n (map f (rows past))) ≡ true → has n (range_with_len 1 THREADS) ≡ true) [
+      | true ↦ λ same _. let H : ℕ → Type 0 = λ m. has m (range_with_len 1 THREADS) ≡ true in subst H (eqb-true row n same) (row_has row is_row)
       | false ↦ λ _ is.
           let s = source_of f n (rows past) is in
           let h = taken s.source s.there in
-          let H : ℕ → Type 0 = λ m. has m (range_with_len 1 256) ≡ true in
+          let H : ℕ → Type 0 = λ m. has m (range_with_len 1 THREADS) ≡ true in
           subst H (sym (at s.source h) ∙ s.is) (row_has h.row h.is_row)
     ] refl in
-    let most = pigeons (row ∷ map f (rows past)) (range_with_len 1 256) (off, distinct) each in
+    let most = pigeons (row ∷ map f (rows past)) (range_with_len 1 THREADS) (off, distinct) each in
     let count = length-map (rows past) f in
-    let all = length-range_with_len 1 256 in
+    let all = length-range_with_len 1 THREADS in
     omega (arith, most, count, all)

@@ -61,6 +61,7 @@ pub record CanEnd (row : RowState) : Type 0 where
 abbrev pub IsOn : Present → RowState → Type 0
 IsOn present row = IsSome (slot_of row present.slot)
 
+-- The session has nothing in hand.
 abbrev pub HasEmptyHand : Present → Type 0
 HasEmptyHand present = (rest_of present.session).in_hand ≡ 0
 
@@ -68,6 +69,7 @@ HasEmptyHand present = (rest_of present.session).in_hand ≡ 0
 abbrev pub IsNowhere : Tables → Present → Type 0
 IsNowhere tables present = (r : ℕ) → IsRow THREADS r → slot_of ((told_of tables.rows).row r) present.slot ≡ None
 
+-- What a step that can be made finds in the tables.
 abbrev pub CanMake : Step → Tables → Type 0
 CanMake (step.Accept s config) tables = IsTrue (is_valid_config config) × (length tables.present.items < SESSIONS)
 CanMake (step.Enter t) tables = HasFreeRow tables

@@ -50,6 +50,7 @@ PlaceFollows past told thread (Some row) =
 
 -- ---- sessions that are present
 
+-- The number of a session that is present.
 abbrev pub number_of : Present → ℕ
 number_of present = present.number
 
@@ -95,5 +96,6 @@ pub record TablesFollow (events : List EventDef) (past : Past) (tables : Tables)
 
 -- ---- what stands against a step
 
+-- What is judged of a step, as the objection that it is.
 abbrev pub objection_of : Bool × Kind → Objection
 objection_of judged = against judged.0 judged.1

@@ -13,18 +13,21 @@ use ep_defs::{Config, Write};
 use ep_model::laws::a_budget_can_be_counted;
 use ep_model::{Kind, Step};
 
-/// Why the step can't be made after those that the tables stand for, if it can't: the first reason in the order in which
-/// a step is judged. A step that can be made finds what it needs in the tables.
+/// Why the step can't be made after those that the tables stand for, if it can't: the first reason in the order in
+/// which a step is judged. A step that can be made finds what it needs in the tables.
 pub fn objection(tables: &Tables, step: &Step) -> Option<Kind>
-    ensures is { (events : List EventDef) (past : Past) → TablesFollow events past tables.now → result ≡ objection_to events past step.now }
-    ensures can { (events : List EventDef) (past : Past) → TablesFollow events past tables.now → IfNone result (CanMake step.now tables.now) }
+    ensures is { (events : List EventDef) (past : Past) → TablesFollow events past tables.now
+        → result ≡ objection_to events past step.now }
+    ensures can { (events : List EventDef) (past : Past) → TablesFollow events past tables.now
+        → IfNone result (CanMake step.now tables.now) }
 {
     a_budget_can_be_counted();
     against(tables, step)
 }
 
 fn against(tables: &Tables, step: &Step) -> Option<Kind>
-    ensures { (events : List EventDef) (past : Past) → TablesFollow events past tables.now → result ≡ objection_to events past step.now }
+    ensures { (events : List EventDef) (past : Past) → TablesFollow events past tables.now
+        → result ≡ objection_to events past step.now }
 {
     match step {
         Step::Accept { session, config } => to_accept(tables, *session, config),
@@ -54,7 +57,8 @@ fn first(objections: &[(bool, Kind)]) -> Option<Kind>
 }
 
 fn to_accept(tables: &Tables, session: u32, config: &Config) -> Option<Kind>
-    ensures { (events : List EventDef) (past : Past) → TablesFollow events past tables.now → result ≡ objection_to events past (Accept session config.now) }
+    ensures { (events : List EventDef) (past : Past) → TablesFollow events past tables.now
+        → result ≡ objection_to events past (Accept session config.now) }
 {
     first(&[
         (session <= tables.last_session, Kind::SessionNumber),
@@ -64,7 +68,8 @@ fn to_accept(tables: &Tables, session: u32, config: &Config) -> Option<Kind>
 }
 
 fn to_enter(tables: &Tables, thread: u32) -> Option<Kind>
-    ensures { (events : List EventDef) (past : Past) → TablesFollow events past tables.now → result ≡ objection_to events past (Enter thread) }
+    ensures { (events : List EventDef) (past : Past) → TablesFollow events past tables.now
+        → result ≡ objection_to events past (Enter thread) }
 {
     first(&[
         (
@@ -76,7 +81,8 @@ fn to_enter(tables: &Tables, thread: u32) -> Option<Kind>
 }
 
 fn to_leave(tables: &Tables, thread: u32) -> Option<Kind>
-    ensures { (events : List EventDef) (past : Past) → TablesFollow events past tables.now → result ≡ objection_to events past (Leave thread) }
+    ensures { (events : List EventDef) (past : Past) → TablesFollow events past tables.now
+        → result ≡ objection_to events past (Leave thread) }
 {
     first(&[
         (!tables.is_there(thread), Kind::NoThread),
@@ -85,7 +91,8 @@ fn to_leave(tables: &Tables, thread: u32) -> Option<Kind>
 }
 
 fn to_open(tables: &Tables, session: u32, thread: u32) -> Option<Kind>
-    ensures { (events : List EventDef) (past : Past) → TablesFollow events past tables.now → result ≡ objection_to events past (Open session thread) }
+    ensures { (events : List EventDef) (past : Past) → TablesFollow events past tables.now
+        → result ≡ objection_to events past (Open session thread) }
 {
     first(&[
         (!tables.is_present(session), Kind::NoSession),
@@ -100,7 +107,9 @@ fn to_open(tables: &Tables, session: u32, thread: u32) -> Option<Kind>
 }
 
 fn to_begin(tables: &Tables, thread: u32, write: &Write) -> Option<Kind>
-    ensures { (events : List EventDef) (past : Past) (stamp : ℕ) → TablesFollow events past tables.now → result ≡ objection_to events past (Begin thread stamp write.now) }
+    ensures { (events : List EventDef) (past : Past) (stamp : ℕ)
+        → TablesFollow events past tables.now
+        → result ≡ objection_to events past (Begin thread stamp write.now) }
 {
     first(&[
         (!tables.is_there(thread), Kind::NoThread),
@@ -112,7 +121,8 @@ fn to_begin(tables: &Tables, thread: u32, write: &Write) -> Option<Kind>
 }
 
 fn to_show(tables: &Tables, thread: u32, session: u32) -> Option<Kind>
-    ensures { (events : List EventDef) (past : Past) → TablesFollow events past tables.now → result ≡ objection_to events past (Show thread session) }
+    ensures { (events : List EventDef) (past : Past) → TablesFollow events past tables.now
+        → result ≡ objection_to events past (Show thread session) }
 {
     first(&[
         (!tables.is_there(thread), Kind::NoThread),
@@ -123,7 +133,8 @@ fn to_show(tables: &Tables, thread: u32, session: u32) -> Option<Kind>
 }
 
 fn to_end(tables: &Tables, thread: u32) -> Option<Kind>
-    ensures { (events : List EventDef) (past : Past) → TablesFollow events past tables.now → result ≡ objection_to events past (End thread) }
+    ensures { (events : List EventDef) (past : Past) → TablesFollow events past tables.now
+        → result ≡ objection_to events past (End thread) }
 {
     first(&[
         (!tables.is_there(thread), Kind::NoThread),
@@ -133,7 +144,8 @@ fn to_end(tables: &Tables, thread: u32) -> Option<Kind>
 }
 
 fn to_steal(tables: &Tables, session: u32, thread: u32) -> Option<Kind>
-    ensures { (events : List EventDef) (past : Past) → TablesFollow events past tables.now → result ≡ objection_to events past (Steal session thread) }
+    ensures { (events : List EventDef) (past : Past) → TablesFollow events past tables.now
+        → result ≡ objection_to events past (Steal session thread) }
 {
     first(&[
         (!tables.is_present(session), Kind::NoSession),
@@ -144,7 +156,8 @@ fn to_steal(tables: &Tables, session: u32, thread: u32) -> Option<Kind>
 }
 
 fn to_close(tables: &Tables, session: u32, thread: u32) -> Option<Kind>
-    ensures { (events : List EventDef) (past : Past) → TablesFollow events past tables.now → result ≡ objection_to events past (Close session thread) }
+    ensures { (events : List EventDef) (past : Past) → TablesFollow events past tables.now
+        → result ≡ objection_to events past (Close session thread) }
 {
     first(&[
         (!tables.is_present(session), Kind::NoSession),
@@ -157,14 +170,19 @@ fn to_close(tables: &Tables, session: u32, thread: u32) -> Option<Kind>
 
 // Against a Give and a Point.
 fn to_turn(tables: &Tables, session: u32) -> Option<Kind>
-    ensures give { (events : List EventDef) (past : Past) → TablesFollow events past tables.now → result ≡ objection_to events past (Give session) }
-    ensures point { (events : List EventDef) (past : Past) (stamp : ℕ) → TablesFollow events past tables.now → result ≡ objection_to events past (Point session stamp) }
+    ensures give { (events : List EventDef) (past : Past) → TablesFollow events past tables.now
+        → result ≡ objection_to events past (Give session) }
+    ensures point { (events : List EventDef) (past : Past) (stamp : ℕ)
+        → TablesFollow events past tables.now
+        → result ≡ objection_to events past (Point session stamp) }
 {
     first(&[(!tables.is_present(session), Kind::NoSession)])
 }
 
 fn to_finish(tables: &Tables, session: u32) -> Option<Kind>
-    ensures { (events : List EventDef) (past : Past) (stamp : ℕ) → TablesFollow events past tables.now → result ≡ objection_to events past (Finish session stamp) }
+    ensures { (events : List EventDef) (past : Past) (stamp : ℕ)
+        → TablesFollow events past tables.now
+        → result ≡ objection_to events past (Finish session stamp) }
 {
     first(&[
         (!tables.is_present(session), Kind::NoSession),

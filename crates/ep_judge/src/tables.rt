@@ -89,14 +89,16 @@ impl Tables {
 
     /// Whether the thread is there from the start, or came.
     pub fn was_there(&self, thread: u32) -> bool
-        ensures { (events : List EventDef) (past : Past) → TablesFollow events past self.now → result ≡ was_there thread past }
+        ensures { (events : List EventDef) (past : Past) → TablesFollow events past self.now
+            → result ≡ was_there thread past }
     {
         self.threads.contains_key(&thread)
     }
 
     /// Whether the thread is there.
     pub fn is_there(&self, thread: u32) -> bool
-        ensures { (events : List EventDef) (past : Past) → TablesFollow events past self.now → result ≡ is_there thread past }
+        ensures { (events : List EventDef) (past : Past) → TablesFollow events past self.now
+            → result ≡ is_there thread past }
     {
         match self.row_of(thread) {
             Some(row) => !self.rows.left(row),
@@ -106,8 +108,10 @@ impl Tables {
 
     /// Whether a thread that is there, or on which a session is open, is in a write.
     pub fn in_write(&self, thread: u32) -> bool
-        ensures there { (events : List EventDef) (past : Past) → TablesFollow events past self.now → is_there thread past ≡ true → result ≡ in_write thread past }
-        ensures on { (events : List EventDef) (past : Past) (session : ℕ) → TablesFollow events past self.now → was_there thread past ≡ true
+        ensures there { (events : List EventDef) (past : Past) → TablesFollow events past self.now
+            → is_there thread past ≡ true → result ≡ in_write thread past }
+        ensures on { (events : List EventDef) (past : Past) (session : ℕ)
+            → TablesFollow events past self.now → was_there thread past ≡ true
             → is_open session thread past ≡ true → result ≡ in_write thread past }
     {
         match self.row_of(thread) {
@@ -118,21 +122,24 @@ impl Tables {
 
     /// Whether all rows are taken.
     pub fn is_full(&self) -> bool
-        ensures { (events : List EventDef) (past : Past) → TablesFollow events past self.now → result ≡ nat_le ROWS (length (rows past)) }
+        ensures { (events : List EventDef) (past : Past) → TablesFollow events past self.now
+            → result ≡ nat_le ROWS (length (rows past)) }
     {
         self.rows.free_row().is_none()
     }
 
     /// Whether the session is present.
     pub fn is_present(&self, session: u32) -> bool
-        ensures { (events : List EventDef) (past : Past) → TablesFollow events past self.now → result ≡ is_present session past }
+        ensures { (events : List EventDef) (past : Past) → TablesFollow events past self.now
+            → result ≡ is_present session past }
     {
         self.place_of(session).is_some()
     }
 
     /// Whether a session that is present was ever opened on the thread.
     pub fn was_opened(&self, session: u32, thread: u32) -> bool
-        ensures { (events : List EventDef) (past : Past) → TablesFollow events past self.now → is_present session past ≡ true → result ≡ was_opened session thread past }
+        ensures { (events : List EventDef) (past : Past) → TablesFollow events past self.now
+            → is_present session past ≡ true → result ≡ was_opened session thread past }
     {
         match self.place_of(session) {
             Some(place) => self.present[place].opened.contains_key(&thread),
@@ -142,7 +149,8 @@ impl Tables {
 
     /// On how many threads a session that is present was opened.
     pub fn opened_count(&self, session: u32) -> usize
-        ensures { (events : List EventDef) (past : Past) → TablesFollow events past self.now → is_present session past ≡ true → result ≡ length (opened session past) }
+        ensures { (events : List EventDef) (past : Past) → TablesFollow events past self.now
+            → is_present session past ≡ true → result ≡ length (opened session past) }
     {
         match self.place_of(session) {
             Some(place) => self.present[place].opened.len(),
@@ -152,7 +160,8 @@ impl Tables {
 
     /// Whether a session that is present is open on a thread that came.
     pub fn is_open(&self, session: u32, thread: u32) -> bool
-        ensures { (events : List EventDef) (past : Past) → TablesFollow events past self.now → is_present session past ≡ true → was_there thread past ≡ true
+        ensures { (events : List EventDef) (past : Past) → TablesFollow events past self.now
+            → is_present session past ≡ true → was_there thread past ≡ true
             → result ≡ is_open session thread past }
     {
         let Some(row) = self.row_of(thread) else {
@@ -166,7 +175,8 @@ impl Tables {
 
     /// Whether a session that is present is due in the write of a thread that is there.
     pub fn is_due(&self, session: u32, thread: u32) -> bool
-        ensures { (events : List EventDef) (past : Past) → TablesFollow events past self.now → is_present session past ≡ true → is_there thread past ≡ true
+        ensures { (events : List EventDef) (past : Past) → TablesFollow events past self.now
+            → is_present session past ≡ true → is_there thread past ≡ true
             → result ≡ is_due events session thread past }
     {
         let Some(row) = self.row_of(thread) else {
@@ -180,7 +190,8 @@ impl Tables {
 
     /// Whether some session is due in the write of a thread that is there.
     pub fn has_due(&self, thread: u32) -> bool
-        ensures { (events : List EventDef) (past : Past) → TablesFollow events past self.now → is_there thread past ≡ true → result ≡ has_due events thread past }
+        ensures { (events : List EventDef) (past : Past) → TablesFollow events past self.now
+            → is_there thread past ≡ true → result ≡ has_due events thread past }
     {
         match self.row_of(thread) {
             Some(row) => self.rows.due(row) != 0,
@@ -190,7 +201,8 @@ impl Tables {
 
     /// Whether a session that is present is open on some thread.
     pub fn is_open_somewhere(&self, session: u32) -> bool
-        ensures { (events : List EventDef) (past : Past) → TablesFollow events past self.now → is_present session past ≡ true → result ≡ is_open_somewhere session past }
+        ensures { (events : List EventDef) (past : Past) → TablesFollow events past self.now
+            → is_present session past ≡ true → result ≡ is_open_somewhere session past }
     {
         match self.place_of(session) {
             Some(place) => !self.rows.is_on_nowhere(self.present[place].slot),
@@ -200,7 +212,8 @@ impl Tables {
 
     /// Whether a session that is present has chunks in hand.
     pub fn is_hand_full(&self, session: u32) -> bool
-        ensures { (events : List EventDef) (past : Past) → TablesFollow events past self.now → is_present session past ≡ true → result ≡ is_hand_full session past }
+        ensures { (events : List EventDef) (past : Past) → TablesFollow events past self.now
+            → is_present session past ≡ true → result ≡ is_hand_full session past }
     {
         a_budget_can_be_counted();
         match self.place_of(session) {

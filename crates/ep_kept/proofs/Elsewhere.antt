@@ -146,7 +146,7 @@ taken_held : (own : Bool) (budget : Budget) (t : ℕ) → (if own then with_stea
 taken_held true budget t = refl
 taken_held false budget t = refl
 
--- So many chunks stay held. What is taken is held.
+-- This many chunks stay held. What is taken is held.
 pub held_stays : (session : ℕ) (past : Past) (step : Step) → changes_pool session step ≡ false → (budget_of session (step ∷ past)).held ≡ (budget_of session past).held
 held_stays session past (step.Show t s) off = rw off refl
 held_stays session past (step.Give s) off = rw off refl

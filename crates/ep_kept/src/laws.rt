@@ -64,7 +64,8 @@ pub fn a_slot_has_the_marks_of_its_close()
         ≡ marks_on session slot.thread (Close session slot.thread ∷ past) }
 {}
 
-/// Each write that was shown was begun (`begun`), and the one that is due is one more, so there is a number for it (`few`).
+/// Each write that was shown was begun (`begun`), and the one that is due is one more, so there is a number for it
+/// (`few`).
 pub fn a_due_write_is_not_shown_yet()
     ensures begun { (events : List EventDef) (past : Past) (session : ℕ) (slot : SlotState)
         → IsLawful events past → SlotFollows events past session slot
@@ -88,8 +89,8 @@ pub fn a_pool_follows_its_accept()
         (record { total = config.chunks; free = config.chunks }) }
 {}
 
-/// A write that is shown is refused exactly where the budget has no room for it (`refused`), and else takes the chunk that it
-/// needs (`follows`).
+/// A write that is shown is refused exactly where the budget has no room for it (`refused`), and else takes the chunk
+/// that it needs (`follows`).
 pub fn a_pool_follows_a_show()
     ensures refused { (events : List EventDef) (past : Past) (session thread : ℕ) (slot : SlotState)
         (stamp : ℕ) (write : Write) (shown : Shown) (old new : PoolCounts)

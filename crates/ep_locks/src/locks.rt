@@ -10,8 +10,8 @@ use std::hint::spin_loop;
 use std::marker::Model;
 use std::sync::Wait;
 
-/// Locks side by side, with the numbers from 0 on, each over one value. A value is moved out and in, so that a large one
-/// belongs in a `Box`. Contracts see which row it is, and how many locks it has.
+/// Locks side by side, with the numbers from 0 on, each over one value. A value is moved out and in, so that a large
+/// one belongs in a `Box`. Contracts see which row it is, and how many locks it has.
 #[derive(Drop)]
 pub struct Locks<T, P: Guards<T>> {
     table: Row<T, P>,
@@ -121,7 +121,8 @@ impl<T, P: Guards<T>> Locks<T, P> {
         self.wait_for(rt, number, found, place)
     }
 
-    // Who found others asleep, and has hidden that by its own `TAKEN`, says so again before it sleeps or takes the lock.
+    // Who found others asleep, and has hidden that by its own `TAKEN`, says so again before it sleeps or takes the
+    // lock.
     #[cold]
     fn wait_for<R: Wait>(&self, rt: &R, number: usize, found: u64, mut place: Place<T>) -> Place<T>
         requires inside { number < self.now.count }

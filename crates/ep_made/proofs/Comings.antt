@@ -6,6 +6,7 @@ use Rattle.std.specs.List.{list_any, AllByRecursion}
 use Rattle.std.specs.BTreeMap.{get}
 use Rattle.std.specs.Ordering.{nat_cmp}
 use Rattle.std.proofs.lemmas.Bool.{eq-eqb, ne_eqb, and_parts, or_left, or_right, not-true, not-false, false≢true, false_from_ne_true}
+use Rattle.ep_defs.specs.declared.limits.TheConstants.{THREADS}
 use Rattle.ep_defs.specs.declared.event.EventDef.{EventDef}
 use Rattle.ep_defs.specs.declared.session.Config.{Config}
 use Rattle.ep_defs.specs.declared.session.TraceInfo.{TraceInfo}
@@ -56,9 +57,9 @@ after_accept_step events past session config info old new lawful h m =
     let less = last_less old.last_session session (sym (h.last_session session next.0) ∙ not-true _ next.1) in
     let rest = m.rest.1 in
     let unheld : has_slot slot old.present.items ≡ false = sym (h.held slot) ∙ free_slot old.table slot m.id m.seat in
-    let off : (r : ℕ) → IsRow 256 r → is_some (slot_of (after.row r) slot) ≡ false = λ r is_row.
+    let off : (r : ℕ) → IsRow THREADS r → is_some (slot_of (after.row r) slot) ≡ false = λ r is_row.
     false_from_ne_true (is_some (slot_of (after.row r) slot)) (λ on. false≢true (sym unheld ∙ h.on_known r slot is_row (ap (λ (R : RowState). is_some (slot_of R slot)) (sym (m.rows.rows r)) ∙ on))) in
-    let undue_at : (r : ℕ) → IsRow 256 r → (bit_at (after.row r).due slot == 1) ≡ false = λ r is_row.
+    let undue_at : (r : ℕ) → IsRow THREADS r → (bit_at (after.row r).due slot == 1) ≡ false = λ r is_row.
     false_bit (bit_at (after.row r).due slot) (λ one. false≢true (sym unheld ∙ h.due_known r slot is_row (ap (λ (R : RowState). bit_at R.due slot) (sym (m.rows.rows r)) ∙ one))) in
     let never : (t : ℕ) → is_open session t past ≡ false = λ t. never_on events session t past h.lawful anew in
     let follows_now : PresentFollows events later after now = record {
@@ -115,9 +116,9 @@ after_finish events past session stamp old new lawful h m =
     let rest = remove old.present.items m.place in
     let nowhere = (none_there (objections events past (step.Finish session stamp)) lawful.1).1.0 in
     let closed : (t : ℕ) → is_open session t past ≡ false = λ t. false_from_ne_true (is_open session t past) (λ on. false≢true (sym nowhere ∙ open_somewhere session t past on)) in
-    let off : (r : ℕ) → IsRow 256 r → is_some (slot_of (before.row r) slot) ≡ false = λ r is_row.
+    let off : (r : ℕ) → IsRow THREADS r → is_some (slot_of (before.row r) slot) ≡ false = λ r is_row.
     (found.follows.rows r is_row).on ∙ ap (λ n. is_open n (before.row r).thread past) found.number ∙ closed (before.row r).thread in
-    let undue_at : (r : ℕ) → IsRow 256 r → (bit_at (before.row r).due slot == 1) ≡ false = λ r is_row.
+    let undue_at : (r : ℕ) → IsRow THREADS r → (bit_at (before.row r).due slot == 1) ≡ false = λ r is_row.
     (found.follows.rows r is_row).owed ∙ ap (λ n. is_due events n (before.row r).thread past) found.number ∙ undue events session (before.row r).thread past h.lawful (closed (before.row r).thread) in
     let parts : (s : ℕ) → has_slot s old.present.items ≡ ((slot == s) || has_slot s rest) = λ s. any-remove (λ (p : Present). p.slot == s) old.present.items m.place m.was m.stands.there in
     let numbers = numbers_distinct events past old h in

@@ -6,6 +6,7 @@ use Rattle.std.specs.List.{All, AllByRecursion}
 use Rattle.std.specs.BTreeMap.{get}
 use Rattle.std.specs.Ordering.{nat_cmp}
 use Rattle.std.proofs.lemmas.Bool.{eqb-true, eq-eqb, ne_eqb, ltb-true, and_parts, or_left, or_right, or_cases, not-true, not-false, cases_eq, false≢true}
+use Rattle.ep_defs.specs.declared.limits.TheConstants.{THREADS}
 use Rattle.ep_defs.specs.declared.event.EventDef.{EventDef}
 use Rattle.ep_model.specs.declared.step.Step.TheVariants as step
 use Rattle.ep_model.specs.History.{Past, entered, was_there, is_open}
@@ -32,7 +33,7 @@ use Rattle.ep_made.proofs.Follow.{each_row, same_seats, sessions_stay}
 -- ---- the row that is free
 
 -- No session is open on the row's thread where none is open in a slot.
-none_open : (events : List EventDef) (past : Past) (told : ToldRows) (session row : ℕ) (ps : List Present) → IsRow 256 row → ((slot : ℕ) → is_some (slot_of (told.row row) slot) ≡ false)
+none_open : (events : List EventDef) (past : Past) (told : ToldRows) (session row : ℕ) (ps : List Present) → IsRow THREADS row → ((slot : ℕ) → is_some (slot_of (told.row row) slot) ≡ false)
     → AllByRecursion (PresentFollows events past told) ps → has session (map number_of ps) ≡ true → is_open session (told.row row).thread past ≡ false
 none_open events past told session row [] is_row off all is = absurd (false≢true is)
 none_open events past told session row (p ∷ ps) is_row off all is =
@@ -42,7 +43,7 @@ none_open events past told session row (p ∷ ps) is_row off all is =
     ]
 
 -- A free row's thread is gone.
-free_gone : (events : List EventDef) (past : Past) (tables : Tables) (row : ℕ) → TablesFollow events past tables → IsRow 256 row → ((told_of tables.rows).row row).left ≡ true → All IsNone ((told_of tables.rows).row row).slots
+free_gone : (events : List EventDef) (past : Past) (tables : Tables) (row : ℕ) → TablesFollow events past tables → IsRow THREADS row → ((told_of tables.rows).row row).left ≡ true → All IsNone ((told_of tables.rows).row row).slots
     → IsGone ((told_of tables.rows).row row).thread past
 free_gone events past tables row h is_row left off =
     let R = (told_of tables.rows).row row in
@@ -63,10 +64,10 @@ there_more true b c is = refl
 there_more false b c is = or_right b c is
 
 came_more : (thread t : ℕ) (past : Past) → was_there t past ≡ true → was_there t (step.Enter thread ∷ past) ≡ true
-came_more thread t past is = there_more (is_in_range 1 256 t) (thread == t) (has t (entered past)) is
+came_more thread t past is = there_more (is_in_range 1 THREADS t) (thread == t) (has t (entered past)) is
 
 comes : (thread : ℕ) (past : Past) → was_there thread (step.Enter thread ∷ past) ≡ true
-comes thread past = or_right (is_in_range 1 256 thread) _ (or_left (thread == thread) (has thread (entered past)) (eq-eqb thread thread refl))
+comes thread past = or_right (is_in_range 1 THREADS thread) _ (or_left (thread == thread) (has thread (entered past)) (eq-eqb thread thread refl))
 
 not_come : (a b c : Bool) → b ≡ false → (a || c) ≡ false → (a || (b || c)) ≡ false
 not_come false false c off is = is
@@ -103,7 +104,7 @@ enter_on events past thread session slot R S lawful never left off f enters h =
 place_on : (past : Past) (thread row t : ℕ) (old new : ToldRows) (given : Option ℕ) → (t == thread) ≡ false → ((r : ℕ) → (r ≡ row → ⊥) → new.row r ≡ old.row r) → IsGone (old.row row).thread past
     → PlaceFollows past old t given → PlaceFollows (step.Enter thread ∷ past) new t given
 place_on past thread row t old new None apart others free h =
-    not_come (is_in_range 1 256 t) (thread == t) (has t (entered past)) (ne_eqb thread t (λ same. false≢true (sym apart ∙ eq-eqb t thread (sym same)))) h
+    not_come (is_in_range 1 THREADS t) (thread == t) (has t (entered past)) (ne_eqb thread t (λ same. false≢true (sym apart ∙ eq-eqb t thread (sym same)))) h
 place_on past thread row t old new (Some r) apart others free h = (
   came_more thread t past h.0,
   elim h.1 [
@@ -129,8 +130,8 @@ after_enter events past thread old new lawful h m =
     let changes = m.rows.rows in
     let never = enters_anew events thread past lawful in
     let free = free_gone events past old row h m.is_row m.left m.off in
-    let next = and_parts (nat_lt 256 thread) _ (not-false (is_next_thread thread past) (none_there (objections events past (step.Enter thread)) lawful.1).0) in
-    let above = ltb-true 256 thread next.0 in
+    let next = and_parts (nat_lt THREADS thread) _ (not-false (is_next_thread thread past) (none_there (objections events past (step.Enter thread)) lawful.1).0) in
+    let above = ltb-true THREADS thread next.0 in
     let less = last_less old.last_thread thread (sym (h.last_thread thread next.0) ∙ not-true _ next.1) in
     let seats = same_seats old new m.sessions in
     let served : (after.row row).thread ≡ thread = ap (λ (R : RowState). R.thread) changes.here.row in
@@ -154,7 +155,7 @@ after_enter events past thread old new lawful h m =
                 (ap (λ n. was_there n later) e ∙ comes thread past, inl (served ∙ sym e))
             | false ↦ λ apart. place_on past thread row t before after (get nat_cmp old.threads t) apart others free (h.places t)
           ] refl);
-      place_of = each_row row (EntersRow thread) before after (λ r R S. IsRow 256 r → get nat_cmp new.threads S.thread ≡ Some r) changes
+      place_of = each_row row (EntersRow thread) before after (λ r R S. IsRow THREADS r → get nat_cmp new.threads S.thread ≡ Some r) changes
           (λ enters at. m.given (after.row row).thread ∙ ap (λ b. if b then Some row else get nat_cmp old.threads (after.row row).thread) (eq-eqb (after.row row).thread thread served))
           (λ r other at.
           let apart = never_apart thread (before.row r).thread past never (h.rows r at).came in

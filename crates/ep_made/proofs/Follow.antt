@@ -7,6 +7,7 @@ use Rattle.std.specs.BTreeMap.{get}
 use Rattle.std.specs.Ordering.{nat_cmp}
 use Rattle.std.proofs.lemmas.Bool.{eq-eqb, ne_eqb, cases_eq}
 use Rattle.std.proofs.lemmas.Option.{get_or_from_slice_get, same_Some}
+use Rattle.ep_defs.specs.declared.limits.TheConstants.{THREADS}
 use Rattle.ep_defs.specs.declared.event.EventDef.{EventDef}
 use Rattle.ep_model.specs.declared.step.Step.{Step}
 use Rattle.ep_model.specs.History.{Past, accepted, entered, present, was_there}
@@ -39,10 +40,10 @@ each_row row Changes old new P changes here else r =
 
 -- The row of a thread, and that no other row is.
 pub record OwnRow (past : Past) (tables : Tables) (thread row : ℕ) : Type 0 where
-  pub is_row : IsRow 256 row
+  pub is_row : IsRow THREADS row
   pub thread_is : ((told_of tables.rows).row row).thread ≡ thread
   pub here : (thread == ((told_of tables.rows).row row).thread) ≡ true
-  pub others : (r : ℕ) → IsRow 256 r → (r ≡ row → ⊥) → (thread == ((told_of tables.rows).row r).thread) ≡ false
+  pub others : (r : ℕ) → IsRow THREADS r → (r ≡ row → ⊥) → (thread == ((told_of tables.rows).row r).thread) ≡ false
   pub follows : RowFollows past ((told_of tables.rows).row row)
 
 pub own_row : (events : List EventDef) (past : Past) (tables : Tables) (thread row : ℕ) → TablesFollow events past tables → row_of tables thread ≡ Some row → OwnRow past tables thread row
@@ -116,10 +117,10 @@ pub follows_on : (events : List EventDef) (past : Past) (s : Step) (old new : Ta
     → ((thread : ℕ) → was_there thread (s ∷ past) ≡ was_there thread past)
     → ((thread : ℕ) → IsGone thread past → IsGone thread (s ∷ past))
     → ((r : ℕ) → ((told_of new.rows).row r).thread ≡ ((told_of old.rows).row r).thread)
-    → ((r : ℕ) → IsRow 256 r → RowFollows (s ∷ past) ((told_of new.rows).row r))
+    → ((r : ℕ) → IsRow THREADS r → RowFollows (s ∷ past) ((told_of new.rows).row r))
     → AllByRecursion (PresentFollows events (s ∷ past) (told_of new.rows)) new.present.items
-    → ((r slot : ℕ) → IsRow 256 r → is_some (slot_of ((told_of new.rows).row r) slot) ≡ true → has_slot slot old.present.items ≡ true)
-    → ((r slot : ℕ) → IsRow 256 r → bit_at ((told_of new.rows).row r).due slot ≡ 1 → has_slot slot old.present.items ≡ true)
+    → ((r slot : ℕ) → IsRow THREADS r → is_some (slot_of ((told_of new.rows).row r) slot) ≡ true → has_slot slot old.present.items ≡ true)
+    → ((r slot : ℕ) → IsRow THREADS r → bit_at ((told_of new.rows).row r).due slot ≡ 1 → has_slot slot old.present.items ≡ true)
     → TablesFollow events (s ∷ past) new
 follows_on events past s old new lawful h keeps threads slots seats same_accepted same_entered same_present counted came gone served rows sessions on due =
     let before = told_of old.rows in

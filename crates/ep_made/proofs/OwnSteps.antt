@@ -4,6 +4,7 @@ use Rattle.std.specs.Prelude.{◌&&◌, ◌||◌, not, is_some, slice_index_or, 
 use Rattle.std.specs.Int.{bit_at}
 use Rattle.std.specs.List.{list_any}
 use Rattle.std.proofs.lemmas.Bool.{or_left, or_right}
+use Rattle.ep_defs.specs.declared.limits.TheConstants.{THREADS}
 use Rattle.ep_defs.specs.declared.event.EventDef.{EventDef}
 use Rattle.ep_model.specs.declared.step.Step.{Step}
 use Rattle.ep_model.specs.declared.step.Step.TheVariants as step
@@ -68,7 +69,7 @@ after_own events past s thread Changes old new lawful h m count same gone stays 
     let kept : Changes (before.row row) (after.row row) → StaysOn (before.row row) (after.row row) = stays (before.row row) (after.row row) in
     follows_on events past s old new lawful h m.events m.threads m.sessions.slots (same_seats old new m.sessions) same.sessions same.threads same.present_are (same.begun ∙ h.begins_are ∙ sym count) same.came gone
     (each_row row Changes before after (λ r R S. S.thread ≡ R.thread) changes (λ c. (kept c).thread) (λ r other. refl))
-    (λ r is_row. each_row row Changes before after (λ r R S. IsRow 256 r → RowFollows past R → RowFollows later S) changes
+    (λ r is_row. each_row row Changes before after (λ r R S. IsRow THREADS r → RowFollows past R → RowFollows later S) changes
     (λ c at. here (before.row row) (after.row row) own.here c) (λ r other at. else_where (before.row r) (own.others r at other)) r is_row (h.rows r is_row))
     (sessions_stay old new (PresentFollows events later after) m.sessions
     (All-each (PresentFollows events past before) (PresentFollows events later after) old.present.items (λ p f. record {

@@ -4,6 +4,7 @@ use Rattle.std.specs.Prelude.{◌&&◌, ◌||◌, not, filter, nat_le, ◌==◌}
 use Rattle.std.specs.Int.{is_in_range}
 use Rattle.std.specs.List.{list_any}
 use Rattle.std.proofs.lemmas.Bool.{eqb-true, eq-eqb, ne_eqb, le-leb, leb-true, leb-false, and_parts, and_right, or_cases, or_parts, or_from, not-true, not-false, cases_eq, false≢true, false_from_ne_true}
+use Rattle.ep_defs.specs.declared.limits.TheConstants.{THREADS}
 use Rattle.ep_defs.specs.declared.event.EventDef.{EventDef}
 use Rattle.ep_defs.specs.declared.session.Config.{Config}
 use Rattle.ep_model.specs.declared.step.Step.TheVariants as step
@@ -56,7 +57,7 @@ not_before true b c h = cc
 pub never_came : (events : List EventDef) (thread : ℕ) (past : Past) → IsLawful events past → was_there thread past ≡ false → (writes_of thread past ≡ []) × (in_write thread past ≡ false) × (has_left thread past ≡ false)
 never_came events thread [] lawful never = (refl, refl, refl)
 never_came events thread (step.Enter t ∷ past) lawful never =
-    never_came events thread past lawful.0 (not_before (is_in_range 1 256 thread) (t == thread) (has thread (entered past)) never)
+    never_came events thread past lawful.0 (not_before (is_in_range 1 THREADS thread) (t == thread) (has thread (entered past)) never)
 never_came events thread (step.Begin t stamp write ∷ past) lawful never =
     let there = not-false (is_there t past) (none_there (objections events past (step.Begin t stamp write)) lawful.1).0 in
     let before = never_came events thread past lawful.0 never in

@@ -7,6 +7,7 @@ use Rattle.std.specs.BTreeMap.{get}
 use Rattle.std.specs.Ordering.{nat_cmp}
 use Rattle.std.proofs.lemmas.Bool.{ltb-true, leb-true, le-leb, false≢true, and_parts, false_from_ne_true}
 use Rattle.std.proofs.lemmas.Nat.Bits.{bit_at-zero}
+use Rattle.ep_defs.specs.declared.limits.TheConstants.{THREADS}
 use Rattle.ep_defs.specs.declared.event.EventDef.{EventDef}
 use Rattle.ep_table.specs.Sessions.{is_held, held_count}
 use Rattle.ep_row.specs.declared.row.Opening.{Opening}
@@ -22,13 +23,13 @@ above : (a b : ℕ) → nat_lt b a ≡ true → nat_le a b ≡ false
 above a b over =
     false_from_ne_true (nat_le a b) (λ within. let most = leb-true a b within in let least = ltb-true b a over in omega (arith, most, least))
 
-from_row : (n : ℕ) → IsRow 256 n → is_in_range 1 256 n ≡ true
-from_row n row = ap (λ (b : Bool). b && nat_le n 256) (le-leb 1 n row.0) ∙ le-leb n 256 row.1
+from_row : (n : ℕ) → IsRow THREADS n → is_in_range 1 THREADS n ≡ true
+from_row n row = ap (λ (b : Bool). b && nat_le n THREADS) (le-leb 1 n row.0) ∙ le-leb n THREADS row.1
 
-to_row : (n : ℕ) → is_in_range 1 256 n ≡ true → IsRow 256 n
+to_row : (n : ℕ) → is_in_range 1 THREADS n ≡ true → IsRow THREADS n
 to_row n is =
-    let both = and_parts (nat_le 1 n) (nat_le n 256) is in
-    (leb-true 1 n both.0, leb-true n 256 both.1)
+    let both = and_parts (nat_le 1 n) (nat_le n THREADS) is in
+    (leb-true 1 n both.0, leb-true n THREADS both.1)
 
 none_in : (count slot : ℕ) → slice_index_or (replicate {A = Option Opening} count None) slot None ≡ None
 none_in zero slot = refl
@@ -44,7 +45,7 @@ start_follows events tables start =
       events_are = start.events_are;
       known = start.known;
       last_session = λ session over. sym (ap (nat_le session) start.last_session ∙ above session 0 over);
-      last_thread = λ thread over. sym (ap (nat_le thread) start.last_thread ∙ above thread 256 over);
+      last_thread = λ thread over. sym (ap (nat_le thread) start.last_thread ∙ above thread THREADS over);
       begins_are = sym start.begins;
       rows = λ r is_row.
           let fresh : RowState → Type 0 = RowFollows [] in
@@ -71,9 +72,9 @@ start_follows events tables start =
           absurd (omega (arith, off, due));
     }
   where
-    place : (thread : ℕ) → PlaceFollows [] (told_of tables.rows) thread (if is_in_range 1 256 thread then Some thread else None)
+    place : (thread : ℕ) → PlaceFollows [] (told_of tables.rows) thread (if is_in_range 1 THREADS thread then Some thread else None)
     place thread =
-        elim (is_in_range 1 256 thread) as (λ v. is_in_range 1 256 thread ≡ v → PlaceFollows [] (told_of tables.rows) thread (if v then Some thread else None)) [
+        elim (is_in_range 1 THREADS thread) as (λ v. is_in_range 1 THREADS thread ≡ v → PlaceFollows [] (told_of tables.rows) thread (if v then Some thread else None)) [
           | true ↦ λ is. (ap (λ (b : Bool). b || false) is, inl (ap (λ (row : RowState). row.thread) (start.rows.rows thread (to_row thread is))))
           | false ↦ λ is. ap (λ (b : Bool). b || false) is
         ] refl

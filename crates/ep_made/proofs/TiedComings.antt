@@ -5,6 +5,7 @@ use Rattle.std.specs.List.{remove, AllByRecursion}
 use Rattle.std.specs.BTreeMap.{btree_map_len}
 use Rattle.std.proofs.Math.ListN.{length-set}
 use Rattle.std.proofs.lemmas.Bool.{eq-eqb, ne_eqb, or_parts, cases_eq, leb-true, leb-false}
+use Rattle.ep_defs.specs.declared.limits.TheConstants.{THREADS}
 use Rattle.ep_defs.specs.declared.session.Config.{Config}
 use Rattle.ep_table.specs.Sessions.{Sessions, holds, is_held, held_count, accepted_by, after_accept, after_free}
 use Rattle.ep_table.specs.declared.table.Accepted.TheVariants.{Seat as SeatAt}
@@ -47,14 +48,14 @@ cleared_others old new slot same cleared s other =
     }
 
 -- A session that is open on no row has nothing open on any.
-pub nowhere_open : (set : Rows) (slot : ℕ) → ((r : ℕ) → IsRow 256 r → slot_of ((told_of set).row r) slot ≡ None) → (r : ℕ) → (told_of set).slot r slot ≡ None
+pub nowhere_open : (set : Rows) (slot : ℕ) → ((r : ℕ) → IsRow THREADS r → slot_of ((told_of set).row r) slot ≡ None) → (r : ℕ) → (told_of set).slot r slot ≡ None
 nowhere_open set slot nowhere zero = none_open ((told_of set).slot zero slot) (none_outside set zero slot (λ is. let below : 0 < 0 = is.0 in omega (arith, below)))
 nowhere_open set slot nowhere (suc place) =
-    elim (nat_le (suc place) 256) as (λ v. nat_le (suc place) 256 ≡ v → (told_of set).slot (suc place) slot ≡ None) [
+    elim (nat_le (suc place) THREADS) as (λ v. nat_le (suc place) THREADS ≡ v → (told_of set).slot (suc place) slot ≡ None) [
       | true ↦ λ is. unopened (open_at set.columns.items (suc place) slot)
-          (sym (set.known (suc place) slot).on ∙ nowhere (suc place) (suc-le-suc zero-le, leb-true (suc place) 256 is))
+          (sym (set.known (suc place) slot).on ∙ nowhere (suc place) (suc-le-suc zero-le, leb-true (suc place) THREADS is))
       | false ↦ λ is. none_open ((told_of set).slot (suc place) slot)
-          (none_outside set (suc place) slot (λ row. let above = leb-false (suc place) 256 is in let most = row.1 in omega (arith, above, most)))
+          (none_outside set (suc place) slot (λ row. let above = leb-false (suc place) THREADS is in let most = row.1 in omega (arith, above, most)))
     ]
     refl
   where

@@ -7,6 +7,8 @@ use Rattle.std.specs.BTreeMap.{get, btree_map_len}
 use Rattle.std.specs.Ordering.{nat_cmp}
 use Rattle.std.proofs.lemmas.Bool.{eq-eqb, ne_eqb, and_from, and_left, and_right, or_left, or_from, not-false, cases_eq, false≢true}
 use Rattle.std.proofs.lemmas.Option.{same_Some}
+use Rattle.std.proofs.lemmas.Map.Keys.{any_passes_from_place}
+use Rattle.ep_defs.specs.declared.limits.TheConstants.{THREADS}
 use Rattle.ep_defs.specs.declared.event.EventDef.{EventDef}
 use Rattle.ep_model.specs.declared.step.Step.{Step}
 use Rattle.ep_model.specs.declared.step.Step.TheVariants as step
@@ -26,7 +28,6 @@ use Rattle.ep_rows.specs.Rows.{told_of}
 use Rattle.ep_judge.specs.declared.tables.Present.{Present}
 use Rattle.ep_judge.specs.declared.tables.Tables.{Tables}
 use Rattle.ep_judge.specs.Tables.{TablesFollow, PresentFollows, RowFollows, OnFollows, IsGone, has_slot, number_of}
-use Rattle.ep_judge.proofs.Found.{any_at}
 use Rattle.ep_judge.proofs.Somewhere.{cell_on}
 use Rattle.ep_made.specs.Made.{ChangesOne, OpensOn, StealsOn, ClosesOn, Gives, Points, MakesOpen, MakesSteal, MakesClose, MakesGive, MakesPoint}
 use Rattle.ep_made.specs.Given.{PendingFollows}
@@ -37,7 +38,7 @@ use Rattle.ep_made.proofs.Follow.{each_row, OwnRow, own_row, one_seated, session
 
 -- What the past says of a session, but for its hand.
 record Says (events : List EventDef) (later : Past) (told : ToldRows) (was now : Present) : Type 0 where
-  rows : (r : ℕ) → IsRow 256 r → OnFollows events later was.number was.slot (told.row r)
+  rows : (r : ℕ) → IsRow THREADS r → OnFollows events later was.number was.slot (told.row r)
   ever : (thread : ℕ) → is_some (get nat_cmp now.opened thread) ≡ was_opened was.number thread later
   count : btree_map_len now.opened ≡ length (opened was.number later)
   in_hand : (rest_of now.session).in_hand ≡ (budget_of was.number later).in_hand
@@ -274,7 +275,7 @@ after_slot events past s session thread row Changes Sets old new lawful h own on
     let off = other_number session one.was p found.number apart.numbers in
     record {
       seat = f.seat;
-      rows = λ r is_row. each_row row Sets before after (λ r R S. IsRow 256 r → OnFollows events past p.number p.slot R → OnFollows events later p.number p.slot S) changes
+      rows = λ r is_row. each_row row Sets before after (λ r R S. IsRow THREADS r → OnFollows events past p.number p.slot R → OnFollows events later p.number p.slot S) changes
           (λ c at. on_else events past s session thread slot p.number p.slot (before.row row) (after.row row) leaves (sets (before.row row) (after.row row) c) off (λ same. false≢true (sym apart.slots ∙ eq-eqb p.slot slot same)))
           (λ r other at. on_apart events past s session thread p.number p.slot (before.row r) leaves (own.others r at other)) r is_row (f.rows r is_row);
       ever = λ t. f.ever t ∙ sym (ap (list_any (λ x. x == t)) (leaves.opened_else p.number off));
@@ -284,7 +285,7 @@ after_slot events past s session thread row Changes Sets old new lawful h own on
     (λ f.
     let kept_is = keeps (eq-eqb session one.was.number (sym found.number)) found.number f in
     one_follows events later after one.was one.now one.number one.slot one.seat f.seat (record {
-      rows = λ r is_row. each_row row Sets before after (λ r R S. IsRow 256 r → OnFollows events past one.was.number slot R → OnFollows events later one.was.number slot S) changes
+      rows = λ r is_row. each_row row Sets before after (λ r R S. IsRow THREADS r → OnFollows events past one.was.number slot R → OnFollows events later one.was.number slot S) changes
           (λ c at. on_here events past s session thread slot one.was.number (before.row row) (after.row row) leaves (sets (before.row row) (after.row row) c) here_on)
           (λ r other at. on_apart events past s session thread one.was.number slot (before.row r) leaves (own.others r at other)) r is_row (f.rows r is_row);
       ever = kept_is.ever;
@@ -292,13 +293,13 @@ after_slot events past s session thread row Changes Sets old new lawful h own on
       in_hand = kept_is.in_hand;
     }))
     h.sessions))
-    (λ r at. each_row row Sets before after (λ r R S. IsRow 256 r → is_some (slot_of S at) ≡ true → has_slot at old.present.items ≡ true) changes
+    (λ r at. each_row row Sets before after (λ r R S. IsRow THREADS r → is_some (slot_of S at) ≡ true → has_slot at old.present.items ≡ true) changes
     (λ c is_row is. elim (cases_eq at slot) [
-      | inl same ↦ any_at (λ (p : Present). p.slot == at) old.present.items one.place one.was one.stands.there (eq-eqb slot at (sym same))
+      | inl same ↦ any_passes_from_place (λ (p : Present). p.slot == at) old.present.items one.place one.was one.stands.there (eq-eqb slot at (sym same))
       | inr off ↦ h.on_known row at is_row (ap is_some (sym ((sets (before.row row) (after.row row) c).others at off)) ∙ is)
     ])
     (λ r other is_row is. h.on_known r at is_row is) r)
-    (λ r at. each_row row Sets before after (λ r R S. IsRow 256 r → bit_at S.due at ≡ 1 → has_slot at old.present.items ≡ true) changes
+    (λ r at. each_row row Sets before after (λ r R S. IsRow THREADS r → bit_at S.due at ≡ 1 → has_slot at old.present.items ≡ true) changes
     (λ c is_row is. h.due_known row at is_row (ap (λ n. bit_at n at) (sym (sets (before.row row) (after.row row) c).due) ∙ is))
     (λ r other is_row is. h.due_known r at is_row is) r)
 

@@ -7,6 +7,8 @@ use Rattle.std.proofs.lemmas.Bool.{eq-eqb, ne_eqb, leb-true, leb-false, and_from
 use Rattle.std.proofs.lemmas.List.{length_push}
 use Rattle.std.proofs.lemmas.Nat.Bits.{bit_at_above}
 use Rattle.std.specs.Option.{option_map_or}
+use Rattle.std.proofs.lemmas.Map.Keys.{any_passes_from_place}
+use Rattle.ep_defs.specs.declared.limits.TheConstants.{THREADS}
 use Rattle.ep_defs.specs.Admits.{session_admits}
 use Rattle.ep_defs.specs.Definitions.{definition_at}
 use Rattle.ep_defs.specs.declared.event.EventDef.{EventDef}
@@ -29,7 +31,6 @@ use Rattle.ep_rows.specs.Writes.{BeginsRow}
 use Rattle.ep_judge.specs.declared.tables.Present.{Present}
 use Rattle.ep_judge.specs.declared.tables.Tables.{Tables}
 use Rattle.ep_judge.specs.Tables.{TablesFollow, PresentFollows, RowFollows, OnFollows, has_slot, number_of}
-use Rattle.ep_judge.proofs.Found.{any_at}
 use Rattle.ep_made.specs.Made.{MakesBegin, MakesShow}
 use Rattle.ep_made.specs.Given.{RowsRest}
 use Rattle.ep_made.proofs.Lists.{All-one, get-set_other}
@@ -118,12 +119,12 @@ after_begin events past thread stamp write old new lawful h rest m =
     follows_on events past (step.Begin thread stamp write) old new lawful h m.own.events m.own.threads m.own.sessions.slots (same_seats old new m.own.sessions) refl refl refl (ap (λ n. n + 1) h.begins_are ∙ sym m.begins) (λ t. refl)
     (λ t gone. record { gone = gone.gone; closed = gone.closed })
     (each_row row (BeginsRow stamp write) before after (λ r R S. S.thread ≡ R.thread) changes (λ begins. ap (λ (R : RowState). R.thread) begins.row) (λ r other. refl))
-    (λ r is_row. each_row row (BeginsRow stamp write) before after (λ r R S. IsRow 256 r → RowFollows past R → RowFollows (step.Begin thread stamp write ∷ past) S) changes
+    (λ r is_row. each_row row (BeginsRow stamp write) before after (λ r R S. IsRow THREADS r → RowFollows past R → RowFollows (step.Begin thread stamp write ∷ past) S) changes
     (λ begins at. begin_row past thread stamp write (before.row row) (after.row row) own.here begins) (λ r other at. begin_other past thread stamp write (before.row r) (own.others r at other)) r is_row (h.rows r is_row))
     (sessions_stay old new (PresentFollows events (step.Begin thread stamp write ∷ past) after) m.own.sessions
     (both_each (PresentFollows events past before) (λ (p : Present). config_of p.number past ≡ Some (rest.configs p.slot)) (PresentFollows events (step.Begin thread stamp write ∷ past) after) old.present.items (λ p f config. record {
       seat = f.seat;
-      rows = λ r is_row. each_row row (BeginsRow stamp write) before after (λ r R S. IsRow 256 r → OnFollows events past p.number p.slot R → OnFollows events (step.Begin thread stamp write ∷ past) p.number p.slot S) changes
+      rows = λ r is_row. each_row row (BeginsRow stamp write) before after (λ r R S. IsRow THREADS r → OnFollows events past p.number p.slot R → OnFollows events (step.Begin thread stamp write ∷ past) p.number p.slot S) changes
           (λ begins at. begin_on events past thread stamp write rest.configs p.number p.slot (before.row row) (after.row row) known own.here (rest.rows row at) config p.within begins)
           (λ r other at. begin_on_other events past thread stamp write p.number p.slot (before.row r) (own.others r at other)) r is_row (f.rows r is_row);
       ever = f.ever;
@@ -131,7 +132,7 @@ after_begin events past thread stamp write old new lawful h rest m =
       in_hand = f.in_hand;
     }) h.sessions rest.configured))
     (λ r slot is_row is. h.on_known r slot is_row (sym (each_row row (BeginsRow stamp write) before after (λ r R S. is_some (slot_of S slot) ≡ is_some (slot_of R slot)) changes (λ begins. ap (λ (R : RowState). is_some (slot_of R slot)) begins.row) (λ r other. refl) r) ∙ is))
-    (λ r slot. each_row row (BeginsRow stamp write) before after (λ r R S. IsRow 256 r → bit_at S.due slot ≡ 1 → has_slot slot old.present.items ≡ true) changes
+    (λ r slot. each_row row (BeginsRow stamp write) before after (λ r R S. IsRow THREADS r → bit_at S.due slot ≡ 1 → has_slot slot old.present.items ≡ true) changes
     (λ begins at one.
     let less = bit_within (after.row row).due slot m.due one in
     let mask = mask_says events rest.configs (writes_of (before.row row).thread past) write.event slot (before.row row) known (rest.rows row at) less in
@@ -202,7 +203,7 @@ after_show events past thread session write old new lawful h m =
     (numbers_distinct events past old h) (seats_distinct events past old h)
     (λ p apart f. record {
       seat = f.seat;
-      rows = λ r is_row. each_row row (ShowsRow slot buffer) before after (λ r R S. IsRow 256 r → OnFollows events past p.number p.slot R → OnFollows events later p.number p.slot S) changes
+      rows = λ r is_row. each_row row (ShowsRow slot buffer) before after (λ r R S. IsRow THREADS r → OnFollows events past p.number p.slot R → OnFollows events later p.number p.slot S) changes
           (λ shows at. show_else events past thread session slot p.number p.slot buffer (before.row row) (after.row row)
           (ne_eqb session p.number (λ same. false≢true (sym apart.numbers ∙ eq-eqb p.number m.present.number (sym same ∙ sym found.number))))
           (λ same. false≢true (sym apart.slots ∙ eq-eqb p.slot slot same)) p.within shows)
@@ -213,7 +214,7 @@ after_show events past thread session write old new lawful h m =
     })
     (λ f. record {
       seat = f.seat;
-      rows = λ r is_row. each_row row (ShowsRow slot buffer) before after (λ r R S. IsRow 256 r → OnFollows events past m.present.number slot R → OnFollows events later m.present.number slot S) changes
+      rows = λ r is_row. each_row row (ShowsRow slot buffer) before after (λ r R S. IsRow THREADS r → OnFollows events past m.present.number slot R → OnFollows events later m.present.number slot S) changes
           (λ shows at _. let P : ℕ → Type 0 = λ n. OnFollows events later n slot (after.row row) in
           subst P (sym found.number) (show_here events past thread session slot buffer (before.row row) (after.row row) own.here on m.present.within shows))
           (λ r other at. show_elsewhere events past thread session m.present.number slot (before.row r) (own.others r at other)) r is_row (f.rows r is_row);
@@ -222,15 +223,15 @@ after_show events past thread session write old new lawful h m =
       in_hand = f.in_hand ∙ sym (show_hand m.present.number thread session past);
     })
     h.sessions))
-    (λ r s. each_row row (ShowsRow slot buffer) before after (λ r R S. IsRow 256 r → is_some (slot_of S s) ≡ true → has_slot s old.present.items ≡ true) changes
+    (λ r s. each_row row (ShowsRow slot buffer) before after (λ r R S. IsRow THREADS r → is_some (slot_of S s) ≡ true → has_slot s old.present.items ≡ true) changes
     (λ shows at is. elim (cases_eq s slot) [
-      | inl same ↦ any_at (λ (p : Present). p.slot == s) old.present.items m.place m.present m.stands.there (eq-eqb slot s (sym same))
+      | inl same ↦ any_passes_from_place (λ (p : Present). p.slot == s) old.present.items m.place m.present m.stands.there (eq-eqb slot s (sym same))
       | inr off ↦ h.on_known row s at (ap is_some (sym (show_slot slot s buffer (before.row row) (after.row row) shows off)) ∙ is)
     ])
     (λ r other at is. h.on_known r s at is) r)
-    (λ r s. each_row row (ShowsRow slot buffer) before after (λ r R S. IsRow 256 r → bit_at S.due s ≡ 1 → has_slot s old.present.items ≡ true) changes
+    (λ r s. each_row row (ShowsRow slot buffer) before after (λ r R S. IsRow THREADS r → bit_at S.due s ≡ 1 → has_slot s old.present.items ≡ true) changes
     (λ shows at one. elim (cases_eq s slot) [
-      | inl same ↦ any_at (λ (p : Present). p.slot == s) old.present.items m.place m.present m.stands.there (eq-eqb slot s (sym same))
+      | inl same ↦ any_passes_from_place (λ (p : Present). p.slot == s) old.present.items m.place m.present m.stands.there (eq-eqb slot s (sym same))
       | inr off ↦ h.due_known row s at (sym (show_bit slot s buffer (before.row row) (after.row row) shows (bit_within (after.row row).due s m.due one) off) ∙ one)
     ])
     (λ r other at one. h.due_known r s at one) r)

@@ -14,7 +14,8 @@ use Rattle.ep_rows.specs.Rows.{told_of}
 use Rattle.ep_judge.specs.declared.tables.Present.{Present}
 use Rattle.ep_judge.specs.declared.tables.Tables.{Tables}
 
--- Each row is at rest over the writes of its thread, with the configurations of the sessions that are present, by their slots.
+-- Each row is at rest over the writes of its thread, with the configurations of the sessions that are present, by their
+-- slots.
 pub record RowsRest (events : List EventDef) (past : Past) (tables : Tables) : Type 0 where
   pub configs : ℕ → Config
   pub configured : AllByRecursion (λ (p : Present). config_of p.number past ≡ Some (configs p.slot)) tables.present.items

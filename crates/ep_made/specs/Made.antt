@@ -1,4 +1,5 @@
--- What each step that is made makes of the tables of sessions, threads and rows: what is named here, and nothing else (this project's profile).
+-- What each step that is made makes of the tables of sessions, threads and rows: what is named here, and nothing else
+-- (this project's profile).
 use Rattle.std.specs.Prelude.{◌≡◌, ℕ, ◌+◌, ◌^◌, ◌<◌, ◌≤◌, ◌==◌, ◌||◌, if◌then◌else◌, true, false, List, [], ◌∷◌, ◌++◌, length, Some, None, is_some, slice_get, slice_set, position, IsNone, IsTrue}
 use Rattle.std.specs.Int.{is_in_range}
 use Rattle.std.specs.List.{All, remove}
@@ -40,10 +41,12 @@ use Rattle.ep_judge.specs.Tables.{row_of}
 
 -- ---- what stays
 
+-- The definitions stay.
 pub record KeepsEvents (old new : Tables) : Type 0 where
   pub events : new.events ≡ old.events
   pub known : definitions_of new.rows ≡ definitions_of old.rows
 
+-- Which threads are there stays.
 pub record KeepsThreads (old new : Tables) : Type 0 where
   pub threads : new.threads ≡ old.threads
   pub last_thread : new.last_thread ≡ old.last_thread
@@ -53,6 +56,7 @@ pub record KeepsSlots (old new : Tables) : Type 0 where
   pub table : new.table ≡ old.table
   pub last_session : new.last_session ≡ old.last_session
 
+-- What the tables have of sessions stays.
 pub record KeepsSessions (old new : Tables) : Type 0 where
   pub present : new.present ≡ old.present
   pub slots : KeepsSlots old new
@@ -73,15 +77,18 @@ pub record ChangesOwn (thread : ℕ) (Changes : ℕ → ToldRows → ToldRows �
 abbrev pub FitsSlots : Tables → ℕ → Type 0
 FitsSlots tables row = ((told_of tables.rows).row row).due < 2 ^ SESSIONS
 
+-- A Begin: the thread's row begins the write.
 pub record MakesBegin (thread stamp : ℕ) (write : Write) (old new : Tables) : Type 0 where
   pub own : ChangesOwn thread (λ row. Begins row stamp write) old new
   pub due : FitsSlots new own.row
   pub begins : new.begins ≡ old.begins + 1
 
+-- An End: the thread's row ends its write.
 pub record MakesEnd (thread : ℕ) (old new : Tables) : Type 0 where
   pub own : ChangesOwn thread Ends old new
   pub begins : new.begins ≡ old.begins
 
+-- A Leave: the row of the thread is told that it left.
 pub record MakesLeave (thread : ℕ) (old new : Tables) : Type 0 where
   pub own : ChangesOwn thread Leaves old new
   pub begins : new.begins ≡ old.begins
@@ -183,27 +190,32 @@ pub record Points (events : List EventDef) (stamp : ℕ) (was now : Present) (ol
   pub tells : TellsIn events (Point (point_of stamp (numbers_of (rest_of was.session).named)) ∷ []) was now
   pub opened : now.opened ≡ was.opened
 
+-- An Open: the session is opened on the thread's row.
 pub record MakesOpen (session thread : ℕ) (old new : Tables) : Type 0 where
   pub row : ℕ
   pub own : row_of old thread ≡ Some row
   pub is_row : IsRow THREADS row
   pub one : ChangesOne session (OpensOn old.events.items thread row) old new
 
+-- A Steal: the session takes what the thread's row has for it.
 pub record MakesSteal (session thread : ℕ) (old new : Tables) : Type 0 where
   pub row : ℕ
   pub own : row_of old thread ≡ Some row
   pub is_row : IsRow THREADS row
   pub one : ChangesOne session (StealsOn old.events.items row) old new
 
+-- A Close: the session takes what the thread's row has for it, and is closed there.
 pub record MakesClose (session thread : ℕ) (old new : Tables) : Type 0 where
   pub row : ℕ
   pub own : row_of old thread ≡ Some row
   pub is_row : IsRow THREADS row
   pub one : ChangesOne session (ClosesOn old.events.items row) old new
 
+-- A Give: the session hands back what it took.
 abbrev pub MakesGive : ℕ → Tables → Tables → Type 0
 MakesGive session old new = ChangesOne session Gives old new
 
+-- A Point: the session's stream has one more point.
 abbrev pub MakesPoint : ℕ → ℕ → Tables → Tables → Type 0
 MakesPoint session stamp old new = ChangesOne session (Points old.events.items stamp) old new
 
@@ -259,7 +271,8 @@ pub record MakesFinish (session : ℕ) (old new : Tables) : Type 0 where
 
 -- ---- what a step needs or may find besides
 
--- A session can take the write of a thread: it is open on the thread's row with a number left, and its chunks are those of its budget.
+-- A session can take the write of a thread: it is open on the thread's row with a number left, and its chunks are those
+-- of its budget.
 pub record CanTake (thread session : ℕ) (write : Write) (tables : Tables) : Type 0 where
   pub row : ℕ
   pub own : row_of tables thread ≡ Some row
@@ -274,7 +287,8 @@ pub record CanTake (thread session : ℕ) (write : Write) (tables : Tables) : Ty
   pub events : write.event ≤ length (definitions_of tables.rows)
   pub fit : IsTrue (fits write)
 
--- Some of these entries, from the first one on, and those that were told before have more events with a stack since a point than there are stack ids.
+-- Some of these entries, from the first one on, and those that were told before have more events with a stack since a
+-- point than there are stack ids.
 abbrev pub IsSpent : List EventDef → List Entry → Present → Type 0
 IsSpent events entries was =
     (before : List ℕ) (info : TraceInfo) (told : List Entry)

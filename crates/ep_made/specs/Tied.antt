@@ -1,4 +1,5 @@
--- What holds of the tables of sessions, threads and rows whatever the steps were: each session and its slot on the rows know of each other (this project's profile).
+-- What holds of the tables of sessions, threads and rows whatever the steps were: each session and its slot on the rows
+-- know of each other (this project's profile).
 use Rattle.std.specs.Prelude.{◌≡◌, ℕ, ◌≤◌, List, [], ◌∷◌, length, true, false, None, is_some, IsTrue}
 use Rattle.std.specs.List.{list_all, AllByRecursion}
 use Rattle.std.specs.BTreeMap.{get, btree_map_len}
@@ -21,7 +22,8 @@ pub record CanBeTold (events : List EventDef) : Type 0 where
   pub valid : IsTrue (list_all is_valid_event events)
   pub distinct : AreDistinct (definition_at events)
 
--- A session that is present has its slot and number, the rows expect its hands, it knows each thread on which it was opened, and has not failed.
+-- A session that is present has its slot and number, the rows expect its hands, it knows each thread on which it was
+-- opened, and has not failed.
 pub record IsTied (rows : Rows) (present : Present) : Type 0 where
   pub slot : (rest_of present.session).seat.slot ≡ present.slot
   pub id : (rest_of present.session).seat.id ≡ present.number
@@ -35,6 +37,7 @@ abbrev pub HaveOwnSlots : List Present → Type 0
 HaveOwnSlots [] = Unit {0}
 HaveOwnSlots (present ∷ others) = (has_slot present.slot others ≡ false) × HaveOwnSlots others
 
+-- What holds of the tables whatever the steps were.
 pub record AreTied (tables : Tables) : Type 0 where
   pub known : definitions_of tables.rows ≡ tables.events.items
   pub can_be_told : CanBeTold tables.events.items

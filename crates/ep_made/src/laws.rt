@@ -15,12 +15,14 @@ ghost use Rattle.ep_made.specs.Given.{RowsRest, PendingFollows};
 
 /// Before the first step.
 pub fn tables_follow_at_the_start()
-    ensures { (events : List EventDef) (tables : Tables) → IsStart events tables → TablesFollow events [] tables }
+    ensures { (events : List EventDef) (tables : Tables) → IsStart events tables
+        → TablesFollow events [] tables }
 {}
 
 /// Once a session was accepted.
 pub fn tables_follow_an_accept()
-    ensures { (events : List EventDef) (past : Past) (session : ℕ) (config : Config) (info : TraceInfo) (old new : Tables)
+    ensures { (events : List EventDef) (past : Past) (session : ℕ) (config : Config)
+        (info : TraceInfo) (old new : Tables)
         → IsLawful events (Accept session config ∷ past) → TablesFollow events past old
         → MakesAccept session config info old new → TablesFollow events (Accept session config ∷ past) new }
 {}
@@ -48,14 +50,17 @@ pub fn tables_follow_an_open()
 
 /// Once a write began, where the rows were at rest.
 pub fn tables_follow_a_begin()
-    ensures { (events : List EventDef) (past : Past) (thread stamp : ℕ) (write : WriteValue) (old new : Tables)
-        → IsLawful events (Begin thread stamp write ∷ past) → TablesFollow events past old → RowsRest events past old
+    ensures { (events : List EventDef) (past : Past) (thread stamp : ℕ) (write : WriteValue)
+        (old new : Tables)
+        → IsLawful events (Begin thread stamp write ∷ past) → TablesFollow events past old
+        → RowsRest events past old
         → MakesBegin thread stamp write old new → TablesFollow events (Begin thread stamp write ∷ past) new }
 {}
 
 /// Once a write was shown to a session.
 pub fn tables_follow_a_show()
-    ensures { (events : List EventDef) (past : Past) (thread session : ℕ) (write : WriteValue) (old new : Tables)
+    ensures { (events : List EventDef) (past : Past) (thread session : ℕ) (write : WriteValue)
+        (old new : Tables)
         → IsLawful events (Show thread session ∷ past) → TablesFollow events past old
         → MakesShow thread session write old new → TablesFollow events (Show thread session ∷ past) new }
 {}
@@ -70,7 +75,8 @@ pub fn tables_follow_an_end()
 /// Once a session took what a thread had pending, as much as the past says.
 pub fn tables_follow_a_steal()
     ensures { (events : List EventDef) (past : Past) (session thread : ℕ) (old new : Tables)
-        → IsLawful events (Steal session thread ∷ past) → TablesFollow events past old → (makes : MakesSteal session thread old new)
+        → IsLawful events (Steal session thread ∷ past) → TablesFollow events past old
+        → (makes : MakesSteal session thread old new)
         → PendingFollows past session thread (told_of old.rows) makes.row makes.one.was.slot
         → TablesFollow events (Steal session thread ∷ past) new }
 {}
@@ -92,7 +98,8 @@ pub fn tables_follow_a_point()
 /// Once a session was closed on a thread, where it took as much as the past says.
 pub fn tables_follow_a_close()
     ensures { (events : List EventDef) (past : Past) (session thread : ℕ) (old new : Tables)
-        → IsLawful events (Close session thread ∷ past) → TablesFollow events past old → (makes : MakesClose session thread old new)
+        → IsLawful events (Close session thread ∷ past) → TablesFollow events past old
+        → (makes : MakesClose session thread old new)
         → PendingFollows past session thread (told_of old.rows) makes.row makes.one.was.slot
         → TablesFollow events (Close session thread ∷ past) new }
 {}

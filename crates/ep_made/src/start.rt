@@ -42,7 +42,8 @@ pub fn tables(alloc: Global, events: Vec<EventDef>) -> Result<Tables, AllocError
 
 // The threads that are there from the start, each with the row of its number.
 fn first_threads(alloc: Global) -> Result<BTreeMap<u32, u32>, AllocError>
-    ensures { IfOk result (λ threads. (t : ℕ) → get nat_cmp threads t ≡ (if is_in_range 1 ROWS t then Some t else None)) }
+    ensures { IfOk result (λ threads. (t : ℕ)
+        → get nat_cmp threads t ≡ (if is_in_range 1 ROWS t then Some t else None)) }
 {
     let mut threads = BTreeMap::new(alloc);
     for before in 0..THREADS {

@@ -148,7 +148,7 @@ admits-defined (Some config) None h = cc
 admits-defined (Some config) (Some def) h = (def, refl)
 
 -- So each admitted write has contents.
-numbered-long : (events : List EventDef) (stacks : Bool) (config : Option Config) (number : ℕ) (writes : List Write) → length (numbered events stacks number (filter (λ write. admits_write events config write) writes)) ≡ length (filter (λ write. admits_write events config write) writes)
+pub numbered-long : (events : List EventDef) (stacks : Bool) (config : Option Config) (number : ℕ) (writes : List Write) → length (numbered events stacks number (filter (λ write. admits_write events config write) writes)) ≡ length (filter (λ write. admits_write events config write) writes)
 numbered-long events stacks config number [] = refl
 numbered-long events stacks config number (write ∷ writes) =
     elim (cases_Bool (admits_write events config write)) [
@@ -163,7 +163,7 @@ contents-long events stacks config None to writes = refl
 contents-long events stacks config (Some first) to writes = numbered-long events stacks config 1 (drop first (take (unwrap_or to (length writes)) writes))
 
 -- No more writes are admitted than were begun.
-filter-shorter : {A : Type 0} (p : A → Bool) (xs : List A) → length (filter p xs) ≤ length xs
+pub filter-shorter : {A : Type 0} (p : A → Bool) (xs : List A) → length (filter p xs) ≤ length xs
 filter-shorter p [] = omega arith
 filter-shorter p (x ∷ xs) =
     let later = filter-shorter p xs in

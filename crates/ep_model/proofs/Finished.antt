@@ -2,7 +2,7 @@
 use Rattle.std.proofs.Common.{◌≡◌, ℕ, ◌+◌, Bool, true, false, cond, inl, inr, List, ◌∷◌, ◌++◌, length, map, filter, Some, eqb, refl, ap, sym, ◌∙◌, arith, []}
 use Rattle.std.specs.Prelude.{not, ◌&&◌, ◌||◌}
 use Rattle.std.specs.List.{list_any, list_all, AllByRecursion}
-use Rattle.std.proofs.lemmas.Bool.{and_parts, and_from, or_left, or_right, not-false, eqb-true, eq-eqb, ne_eqb, cases_Bool, cases_eq, false_from_ne_true}
+use Rattle.std.proofs.lemmas.Bool.{and_from, or_left, or_right, not-false, eqb-true, eq-eqb, ne_eqb, cases_Bool, cases_eq, false_from_ne_true}
 use Rattle.std.proofs.lemmas.List.{append-nil, length_push}
 use Rattle.ep_defs.specs.declared.event.EventDef.{EventDef}
 use Rattle.ep_defs.specs.Entry.{EventEntry, PointEntry, Entry, Event, Point}
@@ -15,7 +15,7 @@ use Rattle.ep_model.specs.History.{Past, config_of, is_present, is_finished, ope
 use Rattle.ep_model.specs.Lawful.{IsLawful, objections, was_opened}
 use Rattle.ep_model.proofs.Admitted.{contents-long}
 use Rattle.ep_model.proofs.Numbers.{AreOwn}
-use Rattle.ep_model.proofs.Lists.{any_inserted}
+use Rattle.ep_model.proofs.Lists.{any_inserted, all_more}
 use Rattle.ep_model.proofs.Objections.{none_there}
 use Rattle.ep_model.proofs.Sessions.{open_opened, open_present, finished_absent}
 use Rattle.ep_model.proofs.Tally.{pending-own}
@@ -23,7 +23,7 @@ use Rattle.ep_model.proofs.Told.{tally}
 
 -- ---- no other thread
 
-abbrev is_one_of : List ℕ → ℕ → Bool
+abbrev pub is_one_of : List ℕ → ℕ → Bool
 is_one_of threads thread = list_any (λ t. eqb t thread) threads
 
 -- An event of one of these threads, or a point that names only such.
@@ -37,11 +37,6 @@ AreAmong threads lines = AllByRecursion (λ line. speaks_of threads line ≡ tru
 among-append : (threads : List ℕ) (lines more : List Entry) → AreAmong threads lines → AreAmong threads more → AreAmong threads (lines ++ more)
 among-append threads [] more first later = later
 among-append threads (line ∷ lines) more first later = (first.0, among-append threads lines more first.1 later)
-
-all_more : {A : Type 0} (p q : A → Bool) → ((x : A) → p x ≡ true → q x ≡ true) → (xs : List A) → list_all p xs ≡ true → list_all q xs ≡ true
-all_more p q more [] h = refl
-all_more p q more (x ∷ xs) h =
-    let parts = and_parts (p x) (list_all p xs) h in and_from (q x) (list_all q xs) (more x parts.0) (all_more p q more xs parts.1)
 
 one_more : (thread : ℕ) (threads : List ℕ) (t : ℕ) → is_one_of threads t ≡ true → is_one_of (insert_ascending thread threads) t ≡ true
 one_more thread threads t h = any_inserted (λ x. eqb x t) thread threads ∙ or_right (eqb thread t) _ h
@@ -59,7 +54,7 @@ among-own thread threads (event ∷ events) there own =
     (ap (λ n. list_any (λ t. eqb t n) threads) own.0 ∙ there, among-own thread threads events there own.1)
 
 -- Those that are kept of some threads are among them.
-all_filtered : (keep : ℕ → Bool) (told : ℕ → ℕ) (all threads : List ℕ) → ((t : ℕ) → is_one_of threads t ≡ true → is_one_of all t ≡ true) → list_all (λ (named : ℕ × ℕ). is_one_of all named.0) (map (λ t. (t, told t)) (filter keep threads)) ≡ true
+pub all_filtered : (keep : ℕ → Bool) (told : ℕ → ℕ) (all threads : List ℕ) → ((t : ℕ) → is_one_of threads t ≡ true → is_one_of all t ≡ true) → list_all (λ (named : ℕ × ℕ). is_one_of all named.0) (map (λ t. (t, told t)) (filter keep threads)) ≡ true
 all_filtered keep told all [] within = refl
 all_filtered keep told all (t ∷ threads) within =
     let rest = all_filtered keep told all threads (λ x one. within x (or_right (eqb t x) _ one)) in

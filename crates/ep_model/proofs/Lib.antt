@@ -1,13 +1,14 @@
-mod Admitted
+pub mod Admitted
+pub mod Ascending
 mod Counted
 pub mod Due
-mod Finished
+pub mod Finished
 mod InOrder
 pub mod Lists
-mod Numbers
+pub mod Numbers
 pub mod Objections
 mod Others
 pub mod Sessions
 mod Spent
-mod Tally
-mod Told
+pub mod Tally
+pub mod Told

@@ -1,8 +1,8 @@
 -- Tests, and numbers that stand in lists.
-use Rattle.std.proofs.Common.{◌≡◌, ℕ, ◌+◌, Bool, true, false, inl, inr, List, ◌∷◌, length, filter, refl, ap, sym, ◌∙◌, subst, arith, []}
-use Rattle.std.specs.Prelude.{◌&&◌, ◌||◌, nat_lt, nat_le, ◌==◌, if◌then◌else◌}
-use Rattle.std.specs.List.{list_any}
-use Rattle.std.proofs.lemmas.Bool.{eqb-true, eqb-false, ne_eqb, le-leb, and_parts, or_cases, or_parts, or_left, or_right, false_from_ne_true, true≢false}
+use Rattle.std.proofs.Common.{◌≡◌, ℕ, ◌+◌, Bool, true, false, inl, inr, Option, Some, None, List, ◌∷◌, length, filter, refl, ap, sym, ◌∙◌, subst, arith, []}
+use Rattle.std.specs.Prelude.{◌&&◌, ◌||◌, is_some, nat_lt, nat_le, ◌==◌, if◌then◌else◌}
+use Rattle.std.specs.List.{list_any, list_all}
+use Rattle.std.proofs.lemmas.Bool.{eqb-true, eqb-false, ne_eqb, le-leb, eq-eqb, and_parts, and_from, or_cases, or_parts, or_left, or_right, false_from_ne_true, true≢false}
 use Rattle.ep_model.specs.History.{insert_ascending}
 
 -- ---- tests
@@ -31,6 +31,11 @@ pub and_more : (a b c : Bool) → (a && b) ≡ false → (a && b && c) ≡ false
 and_more false b c off = refl
 and_more true false c off = refl
 and_more true true c off = cc
+
+-- What is not there is nothing.
+pub none_is : {A : Type 0} (o : Option A) → is_some o ≡ false → o ≡ None
+none_is None is = refl
+none_is (Some x) is = cc
 
 -- Numbers that differ differ either way round.
 pub eqb_turn : (a b : ℕ) → (a == b) ≡ false → (b == a) ≡ false
@@ -82,6 +87,16 @@ above_none n (x ∷ xs) none =
     let off = or_parts (nat_le n x) (list_any (λ y. nat_le n y) xs) none in
     let apart : (x == n) ≡ false = ne_eqb x n (λ same. true≢false (sym (le-leb n x (omega arith)) ∙ off.0)) in
     ap (λ v. v || has n xs) apart ∙ above_none n xs off.1
+
+-- What passes one test passes a weaker one.
+pub all_more : {A : Type 0} (p q : A → Bool) → ((x : A) → p x ≡ true → q x ≡ true) → (xs : List A) → list_all p xs ≡ true → list_all q xs ≡ true
+all_more p q more [] h = refl
+all_more p q more (x ∷ xs) h =
+    let parts = and_parts (p x) (list_all p xs) h in and_from (q x) (list_all q xs) (more x parts.0) (all_more p q more xs parts.1)
+
+-- The first of a list stands in it.
+pub has_first : (x : ℕ) (xs : List ℕ) → has x (x ∷ xs) ≡ true
+has_first x xs = or_left (x == x) (has x xs) (eq-eqb x x refl)
 
 -- ---- a number that is inserted
 

@@ -6,7 +6,7 @@ use Rattle.std.proofs.Math.Nat.{add-mod_right, mod-eq_of_lt}
 use Rattle.ep_defs.specs.Entry.{EventEntry, Event}
 use Rattle.ep_defs.specs.Gaps.{Sighting, Known, sightings, distance, missing}
 
--- The numbers of these events rise from above the first up to the last, and so many are left out.
+-- The numbers of these events rise from above the first up to the last, and this many are left out.
 abbrev pub Runs : ℕ → List EventEntry → ℕ → ℕ → Type 0
 Runs first [] last left = first + left ≡ last
 Runs first (event ∷ events) last left =
@@ -49,7 +49,7 @@ distance-on from more few =
 abbrev pub AreOwn : ℕ → List EventEntry → Type 0
 AreOwn thread events = AllByRecursion (λ event. event.thread ≡ thread) events
 
--- What is seen of such events: some number, up to which so many were left out.
+-- What is seen of such events: some number, up to which this many were left out.
 pub record Sees (thread first last left : ℕ) (events : List EventEntry) : Type 0 where
   pub seen : ℕ
   pub done : ℕ

@@ -2,6 +2,7 @@
 use Rattle.std.proofs.Common.{◌≡◌, ℕ, zero, suc, ◌+◌, ◌*◌, ◌≤◌, true, false, [], ◌∷◌, Some, refl, ap, ◌∙◌, arith}
 use Rattle.std.specs.Prelude.{nat_lt, nat_le}
 use Rattle.std.proofs.lemmas.Bool.{le-ltb, lt-leb}
+use Rattle.ep_defs.specs.declared.limits.TheConstants.{CHUNK_BYTES, SCHEDULE_WRITES}
 use Rattle.ep_defs.specs.Samples.{write_e}
 use Rattle.ep_model.specs.declared.step.Step.TheVariants as step
 use Rattle.ep_model.specs.Chunks.{is_refused, refused, is_hand_full}
@@ -53,9 +54,9 @@ first =
 next : (n : ℕ) (past : Past) → n ≤ 962 → Filled n past → Filled (suc n) (step.End 1 ∷ step.Show 1 1 ∷ step.Begin 1 n (write_e 1) ∷ past)
 next n past few h =
     let begun = step.Begin 1 n (write_e 1) ∷ past in
-    let room : nat_lt 65536 (68 * n + 68) ≡ false = le-ltb 65536 (68 * n + 68) (omega arith) in
+    let room : nat_lt CHUNK_BYTES (68 * n + 68) ≡ false = le-ltb CHUNK_BYTES (68 * n + 68) (omega arith) in
     let written : is_refused 1 1 begun ≡ false = refused-counted 1 1 begun ∙ rw (h.chunks_one, h.used_are, room) refl in
-    let below : nat_le 2147483646 n ≡ false = lt-leb 2147483646 n (omega arith) in
+    let below : nat_le SCHEDULE_WRITES n ≡ false = lt-leb SCHEDULE_WRITES n (omega arith) in
     record {
       held_one = rw (h.chunks_one, h.used_are, room) (omega (arith, h.held_one));
       none_in_hand = rw (h.chunks_one, h.used_are, room) h.none_in_hand;

@@ -52,7 +52,7 @@ pending-own events session thread (step.Close s t ∷ past) =
 pending-own events session thread (_ ∷ past) = pending-own events session thread past
 
 -- The entries of a thread's own events tell their contents.
-events_of-own : (thread : ℕ) (events : List EventEntry) → AreOwn thread events → events_of thread (map Event events) ≡ map contents_of events
+pub events_of-own : (thread : ℕ) (events : List EventEntry) → AreOwn thread events → events_of thread (map Event events) ≡ map contents_of events
 events_of-own thread [] own = refl
 events_of-own thread (event ∷ events) own = rw (eq-eqb event.thread thread own.0, events_of-own thread events own.1) refl
 

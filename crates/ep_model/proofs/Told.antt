@@ -74,7 +74,7 @@ named-opened events session thread past lawful h =
     [ inl inside ↦ open_opened session thread past inside | inr awaits ↦ awaits-opened events session thread past lawful awaits ]
 
 -- What is not kept is not among those that are.
-any_dropped : (keep : ℕ → Bool) (n : ℕ) → keep n ≡ false → (xs : List ℕ) → list_any (λ x. eqb x n) (filter keep xs) ≡ false
+pub any_dropped : (keep : ℕ → Bool) (n : ℕ) → keep n ≡ false → (xs : List ℕ) → list_any (λ x. eqb x n) (filter keep xs) ≡ false
 any_dropped keep n dropped [] = refl
 any_dropped keep n dropped (x ∷ xs) =
     elim (cases_Bool (keep x)) [

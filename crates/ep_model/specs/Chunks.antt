@@ -1,4 +1,5 @@
--- Which Shows a session's budget of chunks has room for (this project's profile, after the buffers of a session in the EventPipe sources of dotnet/runtime).
+-- Which Shows a session's budget of chunks has room for (this project's profile, after the buffers of a session in the
+-- EventPipe sources of dotnet/runtime).
 use Rattle.std.specs.Prelude.{ℕ, ◌+◌, Bool, true, false, ◌&&◌, ◌||◌, not, List, [], ◌∷◌, ◌++◌, nat_lt, nat_le, ◌==◌, if◌then◌else◌}
 use Rattle.std.specs.List.{list_any}
 use Rattle.std.specs.Option.{option_map_or}
@@ -49,7 +50,8 @@ last_chunk thread (Written t size begins ∷ later) =
     (if (t == thread) && not (list_any (begins_for thread) later) then size else 0) + last_chunk thread later
 last_chunk thread (_ ∷ later) = last_chunk thread later
 
--- A Show of the thread needs a chunk where no written Show stands since the last Steal, or where the last chunk lacks the room.
+-- A Show of the thread needs a chunk where no written Show stands since the last Steal, or where the last chunk lacks
+-- the room.
 abbrev pub needs_chunk_after : List Turn → ℕ → ℕ → Bool
 needs_chunk_after turns thread size = not (has_pending thread turns) || nat_lt CHUNK_BYTES (last_chunk thread turns + size)
 

@@ -1,4 +1,5 @@
--- What a session's stream tells (the NetTrace format document of PerfView, version 4: events and sequence points; what stands between them is this project's profile).
+-- What a session's stream tells (the NetTrace format document of PerfView, version 4: events and sequence points; what
+-- stands between them is this project's profile).
 use Rattle.std.specs.Prelude.{ℕ, ◌+◌, Bool, false, ◌&&◌, ◌||◌, not, List, [], ◌∷◌, ◌++◌, map, filter, Option, Some, None, ◌==◌, if◌then◌else◌}
 use Rattle.std.specs.List.{flat_map}
 use Rattle.std.specs.Int.{w64, to_le_bytes}

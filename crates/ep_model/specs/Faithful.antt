@@ -1,4 +1,5 @@
--- What a session's entries have to tell: of each thread the writes that were admitted, less those that were refused (this project's theorem; sequence numbers and points as in the NetTrace format document of PerfView, version 4).
+-- What a session's entries have to tell: of each thread the writes that were admitted, less those that were refused
+-- (this project's theorem; sequence numbers and points as in the NetTrace format document of PerfView, version 4).
 use Rattle.std.specs.Prelude.{◌≡◌, ℕ, ◌+◌, Bool, true, not, List, [], ◌∷◌, ◌++◌, length, map, filter, Option, Some, None, ◌==◌, if◌then◌else◌}
 use Rattle.std.specs.List.{list_any, list_all, flat_map, last_or, AllByRecursion}
 use Rattle.ep_defs.specs.Definitions.{definition_at}
@@ -19,7 +20,8 @@ pub record Contents : Type 0 where
   pub stack : List ℕ
   pub payload : List ℕ
 
--- What a session has of a thread: the writes that it admits, with the numbers 1, 2, 3, .., and the numbers of those that were refused.
+-- What a session has of a thread: the writes that it admits, with the numbers 1, 2, 3, .., and the numbers of those
+-- that were refused.
 pub record Share : Type 0 where
   pub thread : ℕ
   pub admitted : List Contents
@@ -67,7 +69,8 @@ pub record AreFaithful (shares : List Share) (entries : List Entry) : Type 0 whe
   pub alone : AllByRecursion (λ entry. is_among shares entry ≡ true) entries
   -- what is missing is what was refused
   pub missing : AllByRecursion (λ share. gaps share.thread entries ≡ length share.refused) shares
-  -- each thread is named by a point; the last that names it gives the number of its admitted writes, and stands after its events
+  -- each thread is named by a point; the last that names it gives the number of its admitted writes, and stands after
+  -- its events
   pub told : AllByRecursion (λ share. last_sighting share.thread entries ≡ Some (Known (length share.admitted))) shares
   -- a point at the end
   pub front : List Entry

@@ -153,7 +153,8 @@ admits_write definitions config write =
 abbrev pub admitted_from : List EventDef → Option Config → ℕ → List Write → List Write
 admitted_from definitions config from writes = filter (λ write. admits_write definitions config write) (drop from writes)
 
--- The writes of a thread that a session gets, between its opening and its closing there; none where it was never opened.
+-- The writes of a thread that a session gets, between its opening and its closing there; none where it was never
+-- opened.
 abbrev pub admitted : List EventDef → ℕ → ℕ → Past → List Write
 admitted definitions session thread past =
     option_map_or

@@ -128,7 +128,8 @@ abbrev pub unlawful : ℕ → Option Kind → Option Unlawful → Option Unlawfu
 unlawful number None later = later
 unlawful number (Some kind) later = Some (record { step = number; kind = kind })
 
--- The first of the steps that can't be made after the past and the steps before it, the first of them having this number.
+-- The first of the steps that can't be made after the past and the steps before it, the first of them having this
+-- number.
 abbrev pub first_unlawful : List EventDef → ℕ → Past → List Step → Option Unlawful
 first_unlawful definitions number past [] = None
 first_unlawful definitions number past (step ∷ steps) =

@@ -4,7 +4,8 @@ use Rattle.ep_defs.specs.declared.session.Marks.{Marks}
 use Rattle.ep_model.specs.Chunks.{refused, written}
 use Rattle.ep_model.specs.History.{Past, opened, opened_at, to_of}
 
--- The thread's writes where the session was opened and where it was closed, and of those that it admitted how many were written and how many refused.
+-- The thread's writes where the session was opened and where it was closed, and of those that it admitted how many were
+-- written and how many refused.
 abbrev pub marks_on : ℕ → ℕ → Past → Marks
 marks_on session thread past =
     record {

@@ -3,6 +3,7 @@ use Rattle.std.specs.Prelude.{ℕ, List, codes}
 use Rattle.ep_model.specs.declared.step.Kind.{Kind}
 use Rattle.ep_model.specs.declared.step.Kind.TheVariants as kind
 
+-- The name of a kind, as an error line has it.
 abbrev pub step_kind_name : Kind → List ℕ
 step_kind_name kind.SessionNumber = codes "SessionNumber"
 step_kind_name kind.BadConfig = codes "BadConfig"

@@ -1,4 +1,5 @@
--- What the types of the code say of each step: its numbers have 32 bits, stamps 64, and the parts of a configuration and of a write their own.
+-- What the types of the code say of each step: its numbers have 32 bits, stamps 64, and the parts of a configuration
+-- and of a write their own.
 use Rattle.std.specs.Prelude.{◌^◌, ◌<◌}
 use Rattle.ep_defs.specs.Ranges.{ConfigFits, WriteFits}
 use Rattle.ep_model.specs.declared.step.Step.{Step}

@@ -12,7 +12,7 @@ use Rattle.ep_model.specs.declared.step.Kind.TheVariants as kind
 use Rattle.ep_model.specs.declared.step.Step.{Step}
 use Rattle.ep_model.specs.declared.step.Step.TheVariants.{Accept, Enter, Leave, Open, Begin, Show, End, Steal, Give, Point as PointStep, Close, Finish}
 
--- So many chunks, stacks or none, and one rule for P with these keywords, up to level 4.
+-- This many chunks, stacks or none, and one rule for P with these keywords, up to level 4.
 abbrev pub config_with : ℕ → Bool → ℕ → Config
 config_with chunks stackwalk keywords =
     record { rules = record { name = codes "P"; keywords = keywords; level = 4 } ∷ []; chunks = chunks; stackwalk = stackwalk; rundown = false }
@@ -21,7 +21,7 @@ config_with chunks stackwalk keywords =
 abbrev pub no_chunks : Config
 no_chunks = config_with 0 true 1
 
--- A write of the event with this number, with these frames and so many bytes of payload.
+-- A write of the event with this number, with these frames and this many bytes of payload.
 abbrev pub write_with : ℕ → List ℕ → ℕ → Write
 write_with event frames payload = record { event = event; activity = zero_id; related = zero_id; frames = frames; payload = replicate payload 0 }
 
@@ -41,10 +41,12 @@ start = Accept 1 (config_p 1) ∷ Open 1 1 ∷ []
 abbrev pub shown_at : ℕ → Write → List Step
 shown_at stamp write = Begin 1 stamp write ∷ Show 1 1 ∷ End 1 ∷ []
 
+-- The sample event as a thread told it, with this number, stamp and stack.
 abbrev pub told_by : ℕ → ℕ → ℕ → List ℕ → Entry
 told_by thread number stamp stack =
     Event (record { thread = thread; number = number; stamp = stamp; def = event_e 4 1; activity = zero_id; related = zero_id; stack = stack; payload = [] })
 
+-- A point that names these threads.
 abbrev pub point_at : ℕ → List (ℕ × ℕ) → Entry
 point_at stamp threads = Point (record { stamp = stamp; threads = threads })
 
@@ -67,6 +69,7 @@ stolen_in_write =
 abbrev pub named_once : List Step
 named_once = start ++ shown_at 100 (write_e 1) ++ Close 1 1 ∷ Give 1 ∷ PointStep 1 150 ∷ Finish 1 200 ∷ []
 
+-- What its session tells: the second point names no thread.
 abbrev pub named_once_told : List Entry
 named_once_told = told_by 1 1 100 [] ∷ point_at 150 ((1, 1) ∷ []) ∷ point_at 200 [] ∷ []
 
@@ -81,6 +84,7 @@ abbrev pub one_frame : Bool → List Step
 one_frame stackwalk =
     Accept 1 (config_with 16 stackwalk 1) ∷ Open 1 1 ∷ [] ++ shown_at 100 with_frame ++ Close 1 1 ∷ Give 1 ∷ Finish 1 200 ∷ []
 
+-- What its session tells, with this stack.
 abbrev pub one_frame_told : List ℕ → List Entry
 one_frame_told stack = told_by 1 1 100 stack ∷ point_at 200 ((1, 1) ∷ []) ∷ []
 
@@ -90,6 +94,7 @@ one_frame_told stack = told_by 1 1 100 stack ∷ point_at 200 ((1, 1) ∷ []) �
 abbrev pub half_chunk : Write
 half_chunk = write_with 1 [] 40000
 
+-- A session with a budget of one chunk, open on two threads.
 abbrev pub one_chunk : List Step
 one_chunk = Accept 1 (config_with 1 true 1) ∷ Open 1 1 ∷ Open 1 2 ∷ []
 
@@ -115,7 +120,8 @@ given_early = one_chunk ++ shown_at 1 half_chunk ++ Give 1 ∷ Steal 1 1 ∷ [] 
 abbrev pub stolen_elsewhere : List Step
 stolen_elsewhere = one_chunk ++ shown_at 1 half_chunk ++ Steal 1 2 ∷ Give 1 ∷ [] ++ shown_at 2 half_chunk
 
--- Thread 2 is refused while thread 1 has the chunk; a Steal from it takes nothing, so that one from thread 1 can follow.
+-- Thread 2 is refused while thread 1 has the chunk; a Steal from it takes nothing, so that one from thread 1 can
+-- follow.
 abbrev pub refused_elsewhere : List Step
 refused_elsewhere =
     one_chunk ++ shown_at 1 (write_e 1) ++ Begin 2 2 (write_e 1) ∷ Show 2 1 ∷ End 2 ∷ Steal 1 2 ∷ Steal 1 1 ∷ []
@@ -126,7 +132,7 @@ one_refused =
     one_chunk ++ shown_at 1 half_chunk ++ shown_at 2 half_chunk ++ shown_at 3 (write_e 1)
     ++ Close 1 1 ∷ Give 1 ∷ Close 1 2 ∷ Finish 1 9 ∷ []
 
--- So many writes of 68 bytes of thread 1 after a past, each shown to session 1; the first at stamp 0.
+-- This many writes of 68 bytes of thread 1 after a past, each shown to session 1; the first at stamp 0.
 abbrev pub writes_after : Past → ℕ → Past
 writes_after past zero = past
 writes_after past (suc n) = End 1 ∷ Show 1 1 ∷ Begin 1 n (write_e 1) ∷ writes_after past n
@@ -147,6 +153,7 @@ abbrev pub numbers_in : Entry → List ℕ
 numbers_in (Event event) = event.number ∷ []
 numbers_in (Point point) = []
 
+-- The numbers of the events that are told, in order.
 abbrev pub numbers_told : List Entry → List ℕ
 numbers_told entries = flat_map numbers_in entries
 
@@ -158,6 +165,7 @@ came_and_went =
     Accept 1 (config_p 1) ∷ Leave 1 ∷ Enter 257 ∷ Open 1 257 ∷ Begin 257 100 (write_e 1) ∷ Show 257 1 ∷ End 257 ∷ Leave 257
     ∷ Steal 1 257 ∷ Give 1 ∷ Close 1 257 ∷ Finish 1 200 ∷ []
 
+-- What its session tells.
 abbrev pub came_and_went_told : List Entry
 came_and_went_told = told_by 257 1 100 [] ∷ point_at 200 ((257, 1) ∷ []) ∷ []
 
@@ -179,7 +187,8 @@ full_hand = start ++ shown_at 100 (write_e 1) ++ Steal 1 1 ∷ []
 abbrev pub all_sessions : List Step
 all_sessions = map (λ session. Accept session (config_p 1)) (range_with_len 1 64)
 
--- Each kind, and each two kinds of which both are there at once, with the list whose last step has it. (That a session is opened on a million threads, and a schedule has two thousand million writes, is not computed.)
+-- Each kind, and each two kinds of which both are there at once, with the list whose last step has it. (That a session
+-- is opened on a million threads, and a schedule has two thousand million writes, is not computed.)
 abbrev pub refusals : List (Kind × List Step)
 refusals =
     -- Accept
@@ -264,5 +273,6 @@ abbrev pub keywords_in : Entry → List (ℕ × ℕ)
 keywords_in (Event event) = (event.def.keywords, event.number) ∷ []
 keywords_in (Point point) = []
 
+-- The keywords and the number of each event that is told.
 abbrev pub keywords_told : List Entry → List (ℕ × ℕ)
 keywords_told entries = flat_map keywords_in entries

@@ -6,7 +6,7 @@ use ep_defs::{Config, Write};
 
 /// One step of the traced program or of a tool. Sessions have numbers above 0. Threads 1 to 256 are
 /// there from the start, and others come.
-#[derive(Debug, Drop)]
+#[derive(Debug, PartialEq, Eq, Drop)]
 pub enum Step {
     /// A session is accepted.
     Accept {
@@ -119,9 +119,9 @@ impl Kind {
 }
 
 /// The first step of a schedule that can't be made.
-#[derive(Clone, Copy, Debug)]
+#[derive(Clone, Copy, Debug, PartialEq, Eq)]
 pub struct Unlawful {
-    /// From 1.
+    /// The 1-based number of the step.
     pub step: u64,
     pub kind: Kind,
 }

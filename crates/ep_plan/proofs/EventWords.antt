@@ -8,7 +8,7 @@ use Rattle.ep_defs.specs.Event.{is_valid_event, is_same_event}
 use Rattle.ep_defs.specs.declared.limits.TheConstants.{EVENTS}
 use Rattle.ep_plan.specs.declared.cursor.Cursor.{Cursor}
 use Rattle.ep_plan.specs.declared.line.LineFault.{LineFault}
-use Rattle.ep_plan.specs.declared.line.LineFault.TheVariants.{Bad as Refused}
+use Rattle.ep_plan.specs.declared.line.LineFault.TheVariants.{Bad as BadLine}
 use Rattle.ep_plan.specs.declared.line.LineKind.{LineKind}
 use Rattle.ep_plan.specs.declared.line.LineKind.TheVariants as kind
 use Rattle.ep_plan.specs.Lines.{Part, Index, Bad, bad_at, first_bad, fault_of, order_fault, number_of, event_parts, definition_of, definition_fault, definition_bad, event_bad}
@@ -54,9 +54,9 @@ judged events def same h k =
     ∙ ap (λ is. if is then Some kind.Same else None) k
 
 -- A fault of the whole line.
-pub whole-line : {T : Type 0} (line : ℕ) (judged : Option Bad) (fault : LineFault) (found : LineKind) → fault ≡ Refused line 1 found → judged ≡ Some (bad_at 1 found) → (at column : ℕ) (why : LineKind) → ◌≡◌ {A = Result T LineFault} (Err fault) (Err (Refused at column why)) → (at ≡ line) × (judged ≡ Some (bad_at column why))
+pub whole-line : {T : Type 0} (line : ℕ) (judged : Option Bad) (fault : LineFault) (found : LineKind) → fault ≡ BadLine line 1 found → judged ≡ Some (bad_at 1 found) → (at column : ℕ) (why : LineKind) → ◌≡◌ {A = Result T LineFault} (Err fault) (Err (BadLine at column why)) → (at ≡ line) × (judged ≡ Some (bad_at column why))
 whole-line line judged fault found told bad at column why e =
-    let same : ◌≡◌ {A = LineFault} (Refused line 1 found) (Refused at column why) = cc in
+    let same : ◌≡◌ {A = LineFault} (BadLine line 1 found) (BadLine at column why) = cc in
     let place : at ≡ line = cc in
     let answer : bad_at 1 found ≡ bad_at column why = cc in
     (place, bad ∙ ap Some answer)

@@ -1,10 +1,10 @@
--- What the words behind the first one are, and what they spell.
-use Rattle.std.proofs.Common.{◌≡◌, if◌then◌else◌, option_map, ℕ, ◌+◌, Bool, true, false, List, [], ◌∷◌, length, find, codes, Option, Some, None, Result, Ok, Err, OnOk, IfOk, subst, refl, sym, ap, ◌∙◌}
+-- What the words after the first one are, and what they spell.
+use Rattle.std.proofs.Common.{◌≡◌, if◌then◌else◌, option_map, ℕ, ◌+◌, Bool, true, false, List, [], ◌∷◌, length, find, Option, Some, None, Result, Ok, Err, OnOk, IfOk, subst, refl, sym, ap, ◌∙◌}
 use Rattle.std.specs.Result.{MatchResult, IsOkAnd}
 use Rattle.ep_defs.proofs.Sameness.{text-means}
 use Rattle.ep_model.specs.declared.step.Step.{Step}
 use Rattle.ep_plan.specs.declared.line.LineFault.{LineFault}
-use Rattle.ep_plan.specs.declared.line.LineFault.TheVariants.{Bad as Refused}
+use Rattle.ep_plan.specs.declared.line.LineFault.TheVariants.{Bad as BadLine}
 use Rattle.ep_plan.specs.declared.line.LineKind.{LineKind}
 use Rattle.ep_plan.specs.declared.line.LineKind.TheVariants as kind
 use Rattle.ep_defs.specs.declared.event.EventDef.{EventDef}
@@ -67,9 +67,9 @@ unfolding definition_of
 definition-is words p i v l k n f def cut provider id version level keywords name fields = rw (cut, provider, id, version, level, keywords, name, fields) refl
 
 -- A fault at the first word of a line.
-pub no-word : {T : Type 0} (words : Cursor) (first : List ℕ) (fault : LineFault) → fault ≡ Refused words.line 1 kind.Word → step_bad words.past first (left words) ≡ Some (bad_at 1 kind.Word) → (at column : ℕ) (why : LineKind) → ◌≡◌ {A = Result T LineFault} (Err fault) (Err (Refused at column why)) → (at ≡ words.line) × (step_bad words.past first (left words) ≡ Some (bad_at column why))
+pub no-word : {T : Type 0} (words : Cursor) (first : List ℕ) (fault : LineFault) → fault ≡ BadLine words.line 1 kind.Word → step_bad words.past first (left words) ≡ Some (bad_at 1 kind.Word) → (at column : ℕ) (why : LineKind) → ◌≡◌ {A = Result T LineFault} (Err fault) (Err (BadLine at column why)) → (at ≡ words.line) × (step_bad words.past first (left words) ≡ Some (bad_at column why))
 no-word words first fault told bad at column why e =
-    let same : ◌≡◌ {A = LineFault} (Refused words.line 1 kind.Word) (Refused at column why) = cc in
+    let same : ◌≡◌ {A = LineFault} (BadLine words.line 1 kind.Word) (BadLine at column why) = cc in
     let line : at ≡ words.line = cc in
     let answer : bad_at 1 kind.Word ≡ bad_at column why = cc in
     (line, bad ∙ ap Some answer)

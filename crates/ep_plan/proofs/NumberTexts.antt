@@ -9,7 +9,7 @@ use Rattle.std.proofs.lemmas.Bool.{cases_Bool, cond-true, cond-false, and_from, 
 use Rattle.std.proofs.lemmas.Fmt.{digits_is_IsNumeral, decimal_is_IsNumeral, length-decimal-le}
 use Rattle.ep_plan.specs.declared.limits.TheConstants.{DECIMAL_DIGITS, HEX_DIGITS}
 use Rattle.ep_plan.specs.Words.{at_most, numeral_in, number_in, hex_in, number_text, hex_text}
-use Rattle.ep_plan.proofs.Lacks.{lacks}
+use Rattle.ep_plan.proofs.Separated.{lacks}
 use Rattle.ep_plan.proofs.Numerals.{numeral_in-true, at_most-below}
 
 -- ---- lengths

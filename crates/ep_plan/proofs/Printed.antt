@@ -5,11 +5,11 @@ use Rattle.std.proofs.lemmas.List.{append-nil, take_more, take_all, map-append}
 use Rattle.ep_defs.specs.declared.session.Config.{Config}
 use Rattle.ep_defs.specs.declared.session.Rule.{Rule}
 use Rattle.ep_plan.specs.Words.{space, number_text, rule_text}
-use Rattle.ep_model.specs.declared.step.Step.TheVariants as step
 use Rattle.ep_plan.specs.Printing.{spaced, number_words, step_words}
-use Rattle.ep_plan.proofs.Texts.{join-push}
+use Rattle.ep_plan.proofs.Separated.{join-push}
+use Rattle.ep_model.specs.declared.step.Step.TheVariants as step
 
--- ---- words behind others
+-- ---- words after others
 
 pub spaced-append : (xs ys : List (List ℕ)) → spaced (xs ++ ys) ≡ spaced xs ++ spaced ys
 spaced-append [] ys = refl
@@ -26,7 +26,7 @@ word-more start line next words word h more =
 pub no-words : (start : List ℕ) → start ≡ start ++ spaced []
 no-words start = sym (append-nil start)
 
--- The words of a line are the first one and those behind it.
+-- The words of a line are the first one and those after it.
 join-spaced : (first : List ℕ) (words : List (List ℕ)) → join_with_byte space (first ∷ words) ≡ first ++ spaced words
 join-spaced first [] = sym (append-nil first)
 join-spaced first (word ∷ words) = ap (λ rest. first ++ space ∷ rest) (join-spaced word words)
@@ -36,7 +36,7 @@ join-more first xs ys =
     let behind : List ℕ → List ℕ = λ text. text ++ spaced ys in
     join-spaced first (xs ++ ys) ∙ ap (λ rest. first ++ rest) (spaced-append xs ys) ∙ sym (append_assoc first (spaced xs) (spaced ys)) ∙ ap behind (sym (join-spaced first xs))
 
--- Words were written behind a line.
+-- Words were written after a line.
 pub line-more : (start line next first : List ℕ) (xs ys : List (List ℕ)) → line ≡ start ++ join_with_byte space (first ∷ xs) → next ≡ line ++ spaced ys → next ≡ start ++ join_with_byte space (first ∷ (xs ++ ys))
 line-more start line next first xs ys h more =
     let behind : List ℕ → List ℕ = λ text. text ++ spaced ys in
@@ -74,7 +74,7 @@ rule-more start line next rules rule count within is h more =
 pub word-all : (start line : List ℕ) (rules : List Rule) (count : ℕ) → length rules ≤ count → line ≡ start ++ spaced (map rule_text (take count rules)) → line ≡ start ++ spaced (map rule_text rules)
 word-all start line rules count all h = h ∙ ap (λ rs. start ++ spaced (map rule_text rs)) (take_all count rules all)
 
--- Words were written behind a line, where there was memory.
+-- Words were written after a line, where there was memory.
 pub ok-line : {T E : Type 0} (r : Result T E) (start line next first : List ℕ) (xs ys : List (List ℕ)) → line ≡ start ++ join_with_byte space (first ∷ xs) → OnOk r (next ≡ line ++ spaced ys) → OnOk r (next ≡ start ++ join_with_byte space (first ∷ (xs ++ ys)))
 ok-line (Ok x) start line next first xs ys h more = line-more start line next first xs ys h more
 ok-line (Err e) start line next first xs ys h more = tt

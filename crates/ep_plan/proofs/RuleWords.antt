@@ -7,18 +7,18 @@ use Rattle.ep_plan.specs.declared.cursor.Cursor.{Cursor}
 use Rattle.ep_plan.specs.Lines.{more_than_one, Rule, Bad, first_bad}
 use Rattle.ep_plan.specs.Words.{rule_in, all_in, with_first}
 use Rattle.ep_plan.specs.Cursor.{left, column_of, bad_left, Took}
-use Rattle.ep_plan.proofs.Reading.{is-end}
+use Rattle.ep_plan.proofs.CursorWords.{is-end}
 
 -- What the words left spell, behind the rules so far.
 abbrev pub behind : List RuleValue → List (List ℕ) → Option (List RuleValue)
 behind rules words = option_map (λ more. rules ++ more) (all_in rule_in words)
 
-behind-none : (o : Option (List RuleValue)) → o ≡ option_map (λ more. [] ++ more) o
+pub behind-none : (o : Option (List RuleValue)) → o ≡ option_map (λ more. [] ++ more) o
 behind-none None = refl
 behind-none (Some rules) = refl
 
 -- One more rule.
-behind-first : (rules : List RuleValue) (rule : RuleValue) (o : Option (List RuleValue)) → option_map (λ more. rules ++ more) (with_first (Some rule) o) ≡ option_map (λ more. (rules ++ rule ∷ []) ++ more) o
+pub behind-first : (rules : List RuleValue) (rule : RuleValue) (o : Option (List RuleValue)) → option_map (λ more. rules ++ more) (with_first (Some rule) o) ≡ option_map (λ more. (rules ++ rule ∷ []) ++ more) o
 behind-first rules rule None = refl
 behind-first rules rule (Some more) = ap Some (sym (append_assoc rules (rule ∷ []) more))
 

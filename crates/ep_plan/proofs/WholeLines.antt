@@ -4,13 +4,13 @@ use Rattle.std.proofs.lemmas.Bool.Decides.{nat_tests}
 use Rattle.ep_defs.specs.declared.event.EventDef.{EventDef}
 use Rattle.ep_defs.specs.Event.{is_same_text}
 use Rattle.ep_plan.specs.declared.limits.TheConstants.{LINE_BYTES}
-use Rattle.ep_plan.specs.declared.line.LineKind.TheVariants as kind
-use Rattle.ep_plan.specs.declared.line.Line.TheVariants as line
 use Rattle.ep_plan.specs.Lines.{Bad, bad_at, is_blank, bad_of, words_bad, event_bad, step_bad, Means, IsLine}
 use Rattle.ep_plan.specs.Words.{space, words_of}
 use Rattle.ep_plan.specs.Cursor.{has_word}
 use Rattle.ep_plan.proofs.Forms.{no-verb}
-use Rattle.ep_plan.proofs.Reading.{parts-some}
+use Rattle.ep_plan.proofs.CursorWords.{parts-some}
+use Rattle.ep_plan.specs.declared.line.LineKind.TheVariants as kind
+use Rattle.ep_plan.specs.declared.line.Line.TheVariants as line
 
 pub long : (events : List EventDef) (stepped : Bool) (text : List ℕ) → LINE_BYTES < length text → bad_of events stepped text ≡ Some (bad_at 1 kind.Long)
 unfolding bad_of

@@ -7,9 +7,9 @@ use Rattle.hex.specs.Hex.{IsBytes, encode_lower, lower_digits}
 use Rattle.hex.proofs.HexLemmas.{length-encode_with}
 use Rattle.ep_defs.specs.declared.session.Rule.{Rule}
 use Rattle.ep_plan.specs.Words.{colon, comma, space, is_name, is_name_byte, words_of, id_text, payload_text, frames_text, rule_text, hex_text, number_text}
-use Rattle.ep_plan.proofs.Lacks.{lacks, all_lack, lacks-join, parts_at-join}
+use Rattle.ep_plan.proofs.Separated.{lacks, all_lack, lacks-join, parts_at-join}
 use Rattle.ep_plan.proofs.NumberTexts.{hex_text-lacks, number_text-lacks, hex_text-some, number_text-some}
-use Rattle.ep_plan.proofs.ReadBack.{AreBelow, name-lacks, encoded-lacks, hex_texts-lack}
+use Rattle.ep_plan.proofs.PrintThenReadWord.{AreBelow, name-lacks, encoded-lacks, hex_texts-lack}
 
 -- One word of a line.
 pub record IsWord (text : List ℕ) : Type 0 where

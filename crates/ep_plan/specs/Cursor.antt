@@ -4,7 +4,7 @@ use Rattle.std.specs.Borrow.{Bor}
 use Rattle.std.specs.declared.alloc.AllocError.{AllocError}
 use Rattle.ep_plan.specs.declared.cursor.Cursor.{Cursor}
 use Rattle.ep_plan.specs.declared.line.LineFault.{LineFault}
-use Rattle.ep_plan.specs.declared.line.LineFault.TheVariants.{Bad as Refused}
+use Rattle.ep_plan.specs.declared.line.LineFault.TheVariants.{Bad as BadLine}
 use Rattle.ep_plan.specs.declared.line.LineKind.{LineKind}
 use Rattle.ep_plan.specs.Lines.{Part, Form, Bad, bad_at, first_bad, spelling_fault, unless}
 use Rattle.ep_plan.specs.Words.{space, parts_behind}
@@ -17,7 +17,7 @@ left cursor = parts_behind space (option_copied cursor.rest)
 abbrev pub column_of : Cursor → ℕ
 column_of cursor = cursor.past - length (unwrap_or (option_copied cursor.rest) [])
 
--- The first word that is bad among those left, which have to be these parts and at most so many rules.
+-- The first word that is bad among those left, which have to be these parts and at most this many rules.
 unfoldable pub bad_left : Cursor → List Part → ℕ → Option Bad
 bad_left cursor parts more_rules = first_bad cursor.past (column_of cursor) parts more_rules (left cursor)
 
@@ -58,7 +58,7 @@ pub record IsBad (part : Part) (cursor : Cursor) (line column : ℕ) (kind : Lin
 
 -- Where a line is refused, this holds of the line's number, the column and the kind.
 abbrev pub IfBad : {T : Type 0} → Result T LineFault → (ℕ → ℕ → LineKind → Type 0) → Type 0
-IfBad result Holds = (line column : ℕ) (kind : LineKind) → result ≡ Err (Refused line column kind) → Holds line column kind
+IfBad result Holds = (line column : ℕ) (kind : LineKind) → result ≡ Err (BadLine line column kind) → Holds line column kind
 
 -- The line of these words is bad there.
 abbrev pub IsBadAt : Cursor → Option Bad → ℕ → ℕ → LineKind → Type 0

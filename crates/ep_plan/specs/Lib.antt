@@ -1,4 +1,6 @@
-pub mod Cursor
+-- to be believed
+pub mod Words
 pub mod Lines
 pub mod Printing
-pub mod Words
+-- what private fields stand for
+pub mod Cursor

@@ -41,9 +41,10 @@ pub record Form : Type 0 where
   pub name : List ℕ
   -- these parts, each in a word
   pub parts : List Part
-  -- and after them at most so many rules
+  -- and after them at most this many rules
   pub more_rules : ℕ
 
+-- A line with a fixed number of parts.
 abbrev pub form : List ℕ → List Part → Form
 form name parts = record { name = name; parts = parts; more_rules = 0 }
 
@@ -71,6 +72,7 @@ event_parts next = Index next ∷ definition_parts
 abbrev pub write_parts : List Part
 write_parts = Number ∷ Id ∷ Id ∷ Frames ∷ Payload ∷ []
 
+-- The words after `begin`.
 abbrev pub begin_parts : List Part
 begin_parts = Number ∷ Stamp ∷ write_parts
 
@@ -90,6 +92,7 @@ form_of verb.Point = form (codes "point") (Number ∷ Stamp ∷ [])
 form_of verb.Close = form (codes "close") (Number ∷ Number ∷ [])
 form_of verb.Finish = form (codes "finish") (Number ∷ Stamp ∷ [])
 
+-- The first words that a line of a step can have.
 abbrev pub verbs : List Verb
 verbs =
     verb.Accept ∷ verb.Accept3 ∷ verb.Enter ∷ verb.Leave ∷ verb.Open ∷ verb.Begin ∷ verb.Show ∷ verb.End ∷ verb.Steal
@@ -116,6 +119,7 @@ kind_name kind.Same = codes "Same"
 abbrev pub number_of : List ℕ → Option ℕ
 number_of word = number_in (2 ^ 32 - 1) word
 
+-- A number of 64 bits.
 abbrev pub stamp_of : List ℕ → Option ℕ
 stamp_of word = number_in (2 ^ 64 - 1) word
 
@@ -160,11 +164,12 @@ pub record Bad : Type 0 where
   pub column : ℕ
   pub kind : LineKind
 
+-- Bad at this column, for this reason.
 abbrev pub bad_at : ℕ → LineKind → Bad
 bad_at column kind = record { column = column; kind = kind }
 
 -- The first word that is wrong, missing or left over, in a line that ends before this column. The words left begin at
--- the second column; they have to be these parts, and then at most so many rules.
+-- the second column; they have to be these parts, and then at most this many rules.
 unfoldable pub first_bad : ℕ → ℕ → List Part → ℕ → List (List ℕ) → Option Bad
 first_bad past column [] more_rules [] = None
 first_bad past column (part ∷ parts) more_rules [] = Some (bad_at past kind.Word)
@@ -187,6 +192,7 @@ step_bad past first words =
 -- ---- what words spell together
 
 infixl 10 ◌>>=◌
+-- The next word is read where this one spells something.
 abbrev pub ◌>>=◌ : {A B : Type 0} → Option A → (A → Option B) → Option B
 o >>= f = option_and_then f o
 
@@ -240,6 +246,7 @@ abbrev pub is_blank : List ℕ → Bool
 is_blank [] = true
 is_blank (byte ∷ text) = byte == hash
 
+-- Where the words of a line are bad, by their first one.
 unfoldable pub words_bad : List EventDef → Bool → ℕ → List (List ℕ) → Option Bad
 words_bad events stepped past [] = None
 words_bad events stepped past (first ∷ words) =

@@ -9,7 +9,7 @@ use Rattle.ep_model.specs.declared.step.Step.TheVariants as step
 use Rattle.ep_plan.specs.declared.limits.TheConstants.{LINE_BYTES}
 use Rattle.ep_plan.specs.Words.{space, is_name, number_text, id_text, frames_text, payload_text, rule_text}
 
--- Words behind others, each after a space.
+-- Words after others, each after a space.
 abbrev pub spaced : List (List ℕ) → List ℕ
 spaced words = flat_map (λ word. space ∷ word) words
 
@@ -45,6 +45,7 @@ step_text made = join_with_byte space (step_words made)
 abbrev pub has_rules : List Rule → Bool
 has_rules rules = is_in_range 1 RULES (length rules) && list_all (λ rule. is_name rule.name) rules
 
+-- The text has a word for each part of the step: of an Accept it has no word for rundown.
 abbrev pub has_parts : Step → Bool
 has_parts (step.Accept session config) = has_rules config.rules && not config.rundown
 has_parts _ = true

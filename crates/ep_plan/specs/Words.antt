@@ -19,12 +19,15 @@ use Rattle.ep_plan.specs.declared.limits.TheConstants.{DECIMAL_DIGITS, HEX_DIGIT
 abbrev pub space : ℕ
 space = 32
 
+-- `#`.
 abbrev pub hash : ℕ
 hash = 35
 
+-- `,`.
 abbrev pub comma : ℕ
 comma = 44
 
+-- `:`.
 abbrev pub colon : ℕ
 colon = 58
 
@@ -32,7 +35,7 @@ colon = 58
 abbrev pub parts_at : ℕ → List ℕ → List (List ℕ)
 parts_at separator text = slice_split (λ byte. byte == separator) text
 
--- The parts behind such a byte, where there is one.
+-- The parts after such a byte, where there is one.
 abbrev pub parts_behind : ℕ → Option (List ℕ) → List (List ℕ)
 parts_behind separator None = []
 parts_behind separator (Some rest) = parts_at separator rest

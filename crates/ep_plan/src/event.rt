@@ -18,7 +18,9 @@ pub(crate) fn read_event(
     stepped: bool,
 ) -> Result<(u32, EventDef), LineFault>
     requires behind_event { BeginsAt 7 words.old }
-    ensures read { IfOk result (λ read. (number : List ℕ) × (rest : List (List ℕ)) × (left words.old ≡ number ∷ rest) × (number_of number ≡ Some read.0) × (definition_of rest ≡ Some read.1)) }
+    ensures read { IfOk result (λ read. (number : List ℕ) × (rest : List (List ℕ))
+        × (left words.old ≡ number ∷ rest) × (number_of number ≡ Some read.0)
+        × (definition_of rest ≡ Some read.1)) }
     ensures good { OnOk result (event_bad events.now stepped words.old.past (left words.old) ≡ None) }
     ensures bad { IfBad result (IsBadAt words.old (event_bad events.now stepped words.old.past (left words.old))) }
 {

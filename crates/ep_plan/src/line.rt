@@ -7,7 +7,7 @@ ghost use Rattle.ep_defs.specs.Event.{is_valid_event, is_same_event};
 ghost use Rattle.ep_plan.specs.declared.line.Line.{Line};
 ghost use Rattle.ep_plan.specs.declared.line.Line.TheVariants.{Event};
 ghost use Rattle.ep_plan.specs.declared.line.LineKind.{LineKind};
-ghost use Rattle.ep_plan.specs.declared.line.LineFault.TheVariants.{Bad as Refused, OutOfMemory};
+ghost use Rattle.ep_plan.specs.declared.line.LineFault.TheVariants.{Bad as BadLine, OutOfMemory};
 ghost use Rattle.ep_plan.specs.Lines.{kind_name, bad_of, is_blank, IsLine};
 
 use crate::cursor::Cursor;
@@ -50,7 +50,7 @@ impl LineKind {
 }
 
 /// What a line means.
-#[derive(Debug, Drop)]
+#[derive(Debug, PartialEq, Eq, Drop)]
 pub enum Line {
     /// An empty line, or a comment.
     Blank,
@@ -60,7 +60,7 @@ pub enum Line {
 }
 
 /// Why a line was not read.
-#[derive(Clone, Copy, Debug)]
+#[derive(Clone, Copy, Debug, PartialEq, Eq)]
 pub enum LineFault {
     /// The line's number and the 1-based byte column of its first bad word.
     Bad {
@@ -89,8 +89,9 @@ pub fn read_line(
     stepped: bool,
 ) -> Result<Line, LineFault>
     ensures read { IfOk result (λ read. IsLine events.now stepped text.now read) }
-    ensures bad { (at column : ℕ) (kind : LineKind) → result ≡ Err (Refused at column kind)
-        → (at ≡ line) × (bad_of events.now stepped text.now ≡ Some (record { column = column; kind = kind })) }
+    ensures bad { (at column : ℕ) (kind : LineKind) → result ≡ Err (BadLine at column kind)
+        → (at ≡ line)
+        × (bad_of events.now stepped text.now ≡ Some (record { column = column; kind = kind })) }
 {
     if text.len() > LINE_BYTES {
         return Err(LineFault::Bad {
@@ -123,7 +124,11 @@ fn is_blank(text: &[u8]) -> bool
 
 /// A good line means one thing; a definition in it is the next one, valid and unlike those before it.
 pub fn a_line_means_one_thing()
-    ensures one { (events : List EventDef) (stepped : _) (text : List ℕ) (a b : Line) → IsLine events stepped text a → IsLine events stepped text b → a ≡ b }
-    ensures event { (events : List EventDef) (stepped : _) (text : List ℕ) (index : ℕ) (def : EventDef) → IsLine events stepped text (Event index def)
-        → (stepped ≡ false) × (index ≡ length events + 1) × (index ≤ EVENTS) × IsTrue (is_valid_event def) × (list_any (λ other. is_same_event other def) events ≡ false) }
+    ensures one { (events : List EventDef) (stepped : _) (text : List ℕ) (a b : Line)
+        → IsLine events stepped text a → IsLine events stepped text b → a ≡ b }
+    ensures event { (events : List EventDef) (stepped : _) (text : List ℕ) (index : ℕ)
+        (def : EventDef) → IsLine events stepped text (Event index def)
+        → (stepped ≡ false) × (index ≡ length events + 1) × (index ≤ EVENTS)
+        × IsTrue (is_valid_event def)
+        × (list_any (λ other. is_same_event other def) events ≡ false) }
 {}

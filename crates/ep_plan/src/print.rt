@@ -21,7 +21,8 @@ pub fn print_step(alloc: Global, step: &Step) -> Result<Vec<u8>, AllocError>
     requires { IsTrue (can_print step.now) }
     ensures text { IfOk result (λ text. text.items ≡ step_text step.now) }
     // what is printed is read back as that step
-    ensures read { IfOk result (λ text. (events : List EventDef) (stepped : _) → IsLine events stepped text.items (StepLine step.now)) }
+    ensures read { IfOk result (λ text. (events : List EventDef) (stepped : _)
+        → IsLine events stepped text.items (StepLine step.now)) }
 {
     step_fits(step);
     let mut line = Vec::new(alloc);
@@ -81,14 +82,16 @@ fn put_accept(line: &mut Vec<u8>, session: u32, config: &Config) -> Result<(), A
 
 // Appends a verb and two numbers below 2 ^ 32.
 fn put_pair(line: &mut Vec<u8>, verb: Verb, first: u32, second: u32) -> Result<(), AllocError>
-    ensures { OnOk result (line.new.items ≡ line.old.items ++ join_with_byte space (number_words (form_of verb).name (first ∷ second ∷ []))) }
+    ensures { OnOk result (line.new.items
+        ≡ line.old.items ++ join_with_byte space (number_words (form_of verb).name (first ∷ second ∷ []))) }
 {
     put_numbers(line, verb, &[u64::from(first), u64::from(second)])
 }
 
 // Appends a verb and numbers.
 fn put_numbers(line: &mut Vec<u8>, verb: Verb, numbers: &[u64]) -> Result<(), AllocError>
-    ensures { OnOk result (line.new.items ≡ line.old.items ++ join_with_byte space (number_words (form_of verb).name numbers.now)) }
+    ensures { OnOk result (line.new.items
+        ≡ line.old.items ++ join_with_byte space (number_words (form_of verb).name numbers.now)) }
 {
     line.extend_from_slice(verb.name())?;
     for number in numbers {
@@ -120,7 +123,8 @@ fn put_rule_word(line: &mut Vec<u8>, rule: &Rule) -> Result<(), AllocError>
 
 // Appends what a write has beside its event.
 fn put_write(line: &mut Vec<u8>, write: &Write) -> Result<(), AllocError>
-    ensures { OnOk result (line.new.items ≡ line.old.items ++ spaced (id_text write.now.activity ∷ id_text write.now.related ∷ frames_text write.now.frames ∷ payload_text write.now.payload ∷ [])) }
+    ensures { OnOk result (line.new.items ≡ line.old.items
+        ++ spaced (id_text write.now.activity ∷ id_text write.now.related ∷ frames_text write.now.frames ∷ payload_text write.now.payload ∷ [])) }
 {
     put_id_word(line, &write.activity)?;
     put_id_word(line, &write.related)?;

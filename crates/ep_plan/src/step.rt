@@ -66,7 +66,8 @@ fn one_number(words: &mut Cursor) -> Result<u32, LineFault>
 
 // Two numbers, and nothing more.
 fn two_numbers(words: &mut Cursor) -> Result<(u32, u32), LineFault>
-    ensures read { IfOk result (λ pair. (name : List ℕ) → SpellNumbers name (name ∷ left words.old) pair.0 pair.1) }
+    ensures read { IfOk result (λ pair. (name : List ℕ)
+        → SpellNumbers name (name ∷ left words.old) pair.0 pair.1) }
     ensures good { OnOk result (bad_left words.old (Number ∷ Number ∷ []) 0 ≡ None) }
     ensures bad { IfBad result (IsBadAt words.old (bad_left words.old (Number ∷ Number ∷ []) 0)) }
 {
@@ -78,7 +79,8 @@ fn two_numbers(words: &mut Cursor) -> Result<(u32, u32), LineFault>
 
 // A number and a stamp, and nothing more.
 fn number_and_stamp(words: &mut Cursor) -> Result<(u32, u64), LineFault>
-    ensures read { IfOk result (λ pair. (name : List ℕ) → SpellStamp name (name ∷ left words.old) pair.0 pair.1) }
+    ensures read { IfOk result (λ pair. (name : List ℕ)
+        → SpellStamp name (name ∷ left words.old) pair.0 pair.1) }
     ensures good { OnOk result (bad_left words.old (Number ∷ Stamp ∷ []) 0 ≡ None) }
     ensures bad { IfBad result (IsBadAt words.old (bad_left words.old (Number ∷ Stamp ∷ []) 0)) }
 {

@@ -1,5 +1,5 @@
 -- Each step of a shared pool keeps the rule.
-use Rattle.std.proofs.Common.{◌≡◌, ◌≢◌, ℕ, zero, suc, ◌+◌, ◌<◌, ◌≤◌, List, [], ◌∷◌, ◌++◌, length, set, refl, sym, ap, ◌∙◌, subst, ⊎_elim, inl, inr, Option, Some, None, length-append, arith}
+use Rattle.std.proofs.Common.{◌≡◌, ◌≢◌, ℕ, zero, suc, ◌+◌, ◌<◌, ◌≤◌, List, [], ◌∷◌, ◌++◌, length, set, refl, sym, ap, ◌∙◌, subst, ⊎_elim, inr, Option, Some, None, length-append, arith}
 use Rattle.std.specs.Prelude.{IfNone, MatchOption}
 use Rattle.std.proofs.lemmas.List.Elements.{All-nil, All-cons, All-head, All-tail, All-append}
 use mathlib.Core.Option.{some, some-ne-none, some-injective}
@@ -10,8 +10,7 @@ use Rattle.ep_chunk.specs.Record.{Record}
 use Rattle.ep_pool.specs.declared.steps.Known.{Known}
 use Rattle.ep_pool.specs.declared.steps.Known.TheVariants.{Unborn, Spent, Staked}
 use Rattle.ep_pool.specs.Free.{IsOneEmpty}
-use Rattle.ep_pool.specs.Shared.{PoolName}
-use Rattle.ep_pool.specs.Deals.{total_of, seats_of, share_of, taken_of, given_of, together, Fits, IsDealt, Deals, Moment, WereFree, IsStaked, seat_of, born, took, gave, parted, apart, joined, levelled}
+use Rattle.ep_pool.specs.Deals.{total_of, seats_of, share_of, taken_of, given_of, together, Fits, IsDealt, Deals, Moment, IsStaked, born, took, gave, parted, apart, joined, levelled}
 
 abbrev Queue : Type 0
 Queue = List (List (List Record))
@@ -133,10 +132,6 @@ forked total seats free known seat k l r d at fits_l fits_r share balance = reco
       omega arith;
   fitting = fits_snoc total seats (set known seat l) r fits_r (fits_set total seats known seat l fits_l d.fitting);
 }
-
--- a pool begins with no seat and an empty queue
-pub begins : Deals [] (Unborn ∷ [])
-begins = (All-nil IsOneEmpty, inl (refl, refl))
 
 -- the first seat of a pool comes
 pub births : (seat total seats : ℕ) (k : Known) → k ≡ Unborn → 0 < seats → Forks Deals seat k Spent (born total seats k)

@@ -1,4 +1,5 @@
--- The rule of a shared pool, over the chunks in its queue and over what each seat knows. All of it is this project's own.
+-- The rule of a shared pool, over the chunks in its queue and over what each seat knows. All of it is this project's
+-- own.
 use Rattle.std.specs.Prelude.{◌≡◌, ℕ, ◌+◌, ◌-◌, ◌<◌, ◌⊎◌, List, [], ◌∷◌, length, All}
 use mathlib.Core.Option.{some}
 use lib.ListN.{get_elem?}
@@ -38,13 +39,14 @@ abbrev pub together : (Known → ℕ) → List Known → ℕ
 together f [] = 0
 together f (k ∷ known) = f k + together f known
 
--- What a seat knows of its pool of so many chunks and shares is so. A seat without a share has taken and given nothing.
+-- What a seat knows of its pool of this many chunks and shares is so. A seat without a share has taken and given
+-- nothing.
 abbrev pub Fits : ℕ → ℕ → Known → Type 0
 Fits total seats Unborn = ⊥
 Fits total seats Spent = Unit {0}
 Fits total seats (Staked s) = (s.total ≡ total) × (s.seats ≡ seats) × (0 < s.share)
 
--- A moment of a pool of so many chunks and shares, at which so many chunks were free.
+-- A moment of a pool of this many chunks and shares, at which this many chunks were free.
 pub record IsDealt (total seats free : ℕ) (known : List Known) : Type 0 where
   -- those that are free, and those taken less those given, are all
   pub counted : free + together taken_of known ≡ total + together given_of known
@@ -58,7 +60,7 @@ Deals queue known =
     All IsOneEmpty queue
     × (((known ≡ Unborn ∷ []) × (queue ≡ [])) ⊎ ((total : ℕ) × (seats : ℕ) × IsDealt total seats (length queue) known))
 
--- There was a moment at which so many chunks were free and a seat knew this.
+-- There was a moment at which this many chunks were free and a seat knew this.
 abbrev pub Moment : Known → ℕ → Type 0
 Moment k free = (known : List Known) × IsDealt (total_of k) (seats_of k) free known × ((seat : ℕ) × (get_elem? known seat ≡ some k))
 
@@ -66,7 +68,7 @@ Moment k free = (known : List Known) × IsDealt (total_of k) (seats_of k) free k
 abbrev pub known_of : SeatState → Known
 known_of s = Staked (record { total = s.total; seats = s.seats; share = s.share; taken = s.taken; given = s.given })
 
--- At one moment of a call so many chunks of this seat's pool were free, so that all others were out.
+-- At one moment of a call this many chunks of this seat's pool were free, so that all others were out.
 abbrev pub WereFree : SeatState → ℕ → Type 0
 WereFree s free = Moment (known_of s) free
 

@@ -7,7 +7,7 @@ use Rattle.ep_chunk.specs.Record.{Record}
 abbrev pub IsOneEmpty : List (List Record) → Type 0
 IsOneEmpty chain = chain ≡ [] ∷ []
 
--- The free chunks of a pool of so many, each a chain of its own, for all of which there is room.
+-- The free chunks of a pool of this many, each a chain of its own, for all of which there is room.
 pub record IsFree (total : ℕ) (free : Vec (List (List Record))) : Type 0 where
   pub within : vec_len free ≤ total
   pub few : total < 2 ^ 32

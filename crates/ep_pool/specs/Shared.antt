@@ -11,8 +11,8 @@ pub record SharedPool : Type 0 where
   pub pool : PoolName
   pub total : ℕ
 
--- a seat of a pool: the chunks and the shares of the whole pool, the shares of this seat, and how many chunks were taken
--- and given through it
+-- a seat of a pool: the chunks and the shares of the whole pool, the shares of this seat, and how many chunks were
+-- taken and given through it
 pub record SeatState : Type 0 where
   pub pool : PoolName
   pub total : ℕ

@@ -6,8 +6,8 @@
 //! crossbeam_queue, in whose ruled queue the free chunks of a shared pool stand.
 //!
 //! Its one contract: of a pool, the free chunks and those that are out make its total; a chunk that is taken is empty;
-//! none is given where none is free, and no chunk is lost. Only `new` takes memory. `specs/Counts` says what a pool with
-//! one owner is, `specs/Shared` and `specs/Deals` one that is shared.
+//! none is given where none is free, and no chunk is lost. Only `new` takes memory. `specs/Counts` says what a pool
+//! with one owner is, `specs/Shared` and `specs/Deals` one that is shared.
 #![tactic(auto)]
 
 mod limits;

@@ -29,7 +29,7 @@ impl Model for OwnPool {
 }
 
 impl OwnPool {
-    /// A pool of so many chunks, all of them free and reserved.
+    /// A pool of this many chunks, all of them free and reserved.
     pub fn new(alloc: Global, chunks: u32) -> Result<OwnPool, AllocError>
         ensures { IfOk result (λ pool. pool ≡ record { total = chunks; free = chunks }) }
     {

@@ -36,7 +36,8 @@ impl Model for Pool {
 }
 
 impl Pool {
-    /// A pool of so many chunks, all of them free and reserved, and its first seat, which has all of so many shares.
+    /// A pool of this many chunks, all of them free and reserved, and its first seat, which has all of this many
+    /// shares.
     pub fn new<R: Wait>(
         rt: &R,
         alloc: Global,
@@ -71,14 +72,15 @@ impl Pool {
         Ok((pool, seat))
     }
 
-    /// A chain of one empty chunk. None only where no chunk was free at one moment of the call, so that all were out. It
-    /// takes no memory.
+    /// A chain of one empty chunk. None only where no chunk was free at one moment of the call, so that all were out.
+    /// It takes no memory.
     pub fn take<R: Wait>(&self, rt: &R, seat: &mut PoolSeat) -> Option<Chain>
         requires own { IsSeatOf self.now seat.old }
         requires few { seat.old.taken < SEAT_COUNTS }
         ensures one { IfSome result (λ chain. chain ≡ [] ∷ []) }
         ensures none { IfNone result (WereFree seat.old 0) }
-        ensures all { seat.old.share ≡ seat.old.seats → IfNone result (seat.old.taken ≡ seat.old.total + seat.old.given) }
+        ensures all { seat.old.share ≡ seat.old.seats
+            → IfNone result (seat.old.taken ≡ seat.old.total + seat.old.given) }
         ensures seat { seat.new ≡ record seat.old { taken = seat.old.taken + (if is_some result then 1 else 0) } }
     {
         let got = self.queue.pop_as::<Taking, R>(rt, &mut seat.pass);
@@ -143,7 +145,8 @@ impl Pool {
     pub fn free<R: Wait>(&self, rt: &R, seat: &mut PoolSeat) -> u32
         requires { IsSeatOf self.now seat.old }
         ensures free { WereFree seat.old result }
-        ensures all { seat.old.share ≡ seat.old.seats → result + seat.old.taken ≡ seat.old.total + seat.old.given }
+        ensures all { seat.old.share ≡ seat.old.seats
+            → result + seat.old.taken ≡ seat.old.total + seat.old.given }
         ensures seat { seat.new ≡ seat.old }
     {
         self.queue.len_as::<Counting, R>(rt, &mut seat.pass) as u32

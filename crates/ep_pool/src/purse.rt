@@ -14,7 +14,7 @@ pub trait Purse {
     // Whether one more chunk can be counted as taken.
     ghost can_take: { Self → Type 0 };
 
-    // Whether so many chunks can be counted as given back.
+    // Whether this many chunks can be counted as given back.
     ghost can_give: { Self → ℕ → Type 0 };
 
     // At one moment between these two states no chunk was free.

@@ -81,17 +81,19 @@ impl<R: Wait> Purse for Seated<'_, R> {
         × (new.seat.ghost_name ≡ old.seat.ghost_name)
         × (new.seat.now ≡ record old.seat.now { taken = new.seat.now.taken }) };
 
-    /// A chain of one empty chunk. None only where no chunk was free at one moment of the call, so that all were out. It
-    /// takes no memory, and may wait.
+    /// A chain of one empty chunk. None only where no chunk was free at one moment of the call, so that all were out.
+    /// It takes no memory, and may wait.
     fn take(&mut self) -> Option<Chain> {
         self.pool.take(self.rt, self.seat)
     }
 
     /// Gives the chunks of a chain back. It takes no memory, and may wait.
     fn give(&mut self, chain: Chain)
-        requires { IsSeatOf self.old.pool.now self.old.seat.now × (self.old.seat.now.given + length chain < SEAT_COUNTS) }
+        requires { IsSeatOf self.old.pool.now self.old.seat.now
+            × (self.old.seat.now.given + length chain < SEAT_COUNTS) }
         ensures seat { self.new.seat.now ≡ record self.old.seat.now { given = self.old.seat.now.given + length chain } }
-        ensures same { (self.new.pool.now ≡ self.old.pool.now) × (self.new.seat.ghost_name ≡ self.old.seat.ghost_name) }
+        ensures same { (self.new.pool.now ≡ self.old.pool.now)
+            × (self.new.seat.ghost_name ≡ self.old.seat.ghost_name) }
     {
         self.pool.give(self.rt, self.seat, chain);
     }

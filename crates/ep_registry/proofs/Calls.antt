@@ -3,6 +3,7 @@ use Rattle.std.proofs.Common.{◌≡◌, ℕ, zero, suc, ◌+◌, ◌-◌, ◌<�
 use Rattle.std.specs.Prelude.{position}
 use Rattle.std.proofs.lemmas.List.Quantifiers.{position-Some}
 use Rattle.std.proofs.lemmas.List.{length-set, length-replicate}
+use Rattle.ep_table.proofs.Places.{get-set, get-set_other}
 use Rattle.ep_tie.specs.Tied.{Tied}
 use Rattle.ep_table.specs.Sessions.{Sessions, is_free, accepted_by, after_accept, after_stop, after_free}
 use Rattle.ep_table.specs.declared.limits.TheConstants.{SLOTS}
@@ -20,13 +21,13 @@ use Rattle.ep_registry.specs.declared.session.Stage.TheVariants as stage
 use Rattle.ep_registry.specs.declared.hold.Hold.{Hold}
 use Rattle.ep_registry.specs.declared.server.Mark.{Mark}
 use Rattle.ep_registry.specs.Items.{item, with_item}
-use Rattle.ep_registry.specs.Recorded.{Recorded, nothing_recorded, goes_on, is_serving, may_end, stopped, staged, opened, changed_at, decided, after_accepting, stopped_as, answer_to, after_stopping, after_failing, after_end, after_opening, found, after_looking}
+use Rattle.ep_registry.specs.Recorded.{Recorded, nothing_recorded, is_serving, may_end, stopped, staged, opened, changed_at, decided, after_accepting, stopped_as, answer_to, after_stopping, after_failing, after_end, after_opening, found, after_looking}
 use Rattle.ep_registry.specs.Kept.{is_on, is_session, IsKept}
 use Rattle.ep_registry.specs.Places.{numbered}
 use Rattle.ep_registry.specs.Held.{hold_of, hold_at, stage_found}
 use Rattle.ep_registry.specs.Registered.{Desk, IsTied, IsMarked, is_of, is_early, counted_if}
-use Rattle.ep_registry.proofs.Items.{get-set, get-set-other, count-item}
-use Rattle.ep_registry.proofs.Methods.{set-same, serving-on}
+use Rattle.ep_registry.proofs.Items.{count-item}
+use Rattle.ep_registry.proofs.Methods.{set-same, serving-on, may-on}
 use Rattle.ep_registry.proofs.Tied.{held-entry, held-set, held-same, marked-keeps, told-tied, changed-tied, put-changes, begun-tied}
 
 -- ---- the tie of the decisions
@@ -37,9 +38,6 @@ book-set book x y e = rw e refl
 -- A registry whose server's half shows these decisions.
 abbrev told : Desk → Recorded → Desk
 told d r = record d { recorded = r; book = set d.book 0 (Some r.decisions) }
-
-told-is : (d : Desk) (r : Recorded) → IsTied d → told d r ≡ record d { recorded = r; book = Some r.decisions ∷ [] }
-told-is d r t = rw (book-set d.book d.recorded.decisions r.decisions t.book) refl
 
 pub passed : (d : Desk) (x : Decision) → IsTied d → IsTied (told d (decided d.recorded x))
 passed d x t = rw (book-set d.book d.recorded.decisions (d.recorded.decisions ++ x ∷ []) t.book) (told-tied d d.recorded.table (d.recorded.decisions ++ x ∷ []) d.recorded.ended t)
@@ -74,9 +72,6 @@ seated d slot id spare t k room unclosed h s =
     (begun-tied d (after_accept d.recorded.table) (d.recorded.decisions ++ decision.Accepted (length d.recorded.sessions + 1) ∷ []) d.recorded.ended (length d.recorded.decisions + 1) slot t
     (session-room d.recorded k room) unclosed)
 
-pub filled : (d : Desk) → IsTied d → accepted_by d.recorded.table ≡ accepted.Full → IsTied (told d (after_accepting d.recorded))
-filled d t h = rw h (passed d decision.Full t)
-
 -- ---- a session is stopped
 
 changed-same : (d : Desk) (table : Sessions) (decisions : List Decision) (id conn count : ℕ) (o : Option Entry) → IsTied d → item d.recorded.sessions id ≡ o →
@@ -108,9 +103,6 @@ put d hold = record d { holds = set d.holds (CONNECTIONS - hold.id) (Some (Some 
 one-stage : (hold : Hold) (id : ℕ) (e : Entry) (to : Stage) (count : ℕ) → hold ≡ hold_of id e → (let k : Hold = record hold { stage = to } in k) ≡ hold_of id (staged to count e)
 one-stage hold id e to count h = ap (λ (k : Hold). let m : Hold = record k { stage = to } in m) h
 
-hold-id : (sessions : List Entry) (id : ℕ) (hold : Hold) → hold_at sessions id ≡ Some hold → hold.id ≡ id
-hold-id sessions id hold h = let e = held-entry sessions id hold h in ap (λ (k : Hold). k.id) e.2
-
 failed-stage : (e : Entry) (count : ℕ) → e.early ≡ false → is_early (staged stage.Failed count e) ≡ is_early e
 failed-stage e count h = rw h refl
 
@@ -129,19 +121,6 @@ failed-tied d hold t last h serves early =
 over-early : (e : Entry) (to : Stage) (count : ℕ) → is_session (staged to count e) ≡ is_session e → is_early (staged to count e) ≡ is_early e
 over-early e to count h = ap (λ b. e.early && b) h
 
-may-session : (x : Fate) (t : Stage) → may_end x t ≡ true → goes_on t ≡ true
-may-session (fate.Requested c) stage.Serving h = cc
-may-session (fate.Requested c) (stage.Ending y) h = refl
-may-session (fate.Requested c) (stage.Over y) h = cc
-may-session (fate.Requested c) stage.Failed h = cc
-may-session fate.ProgramEnd stage.Serving h = cc
-may-session fate.ProgramEnd (stage.Ending y) h = refl
-may-session fate.ProgramEnd (stage.Over y) h = cc
-may-session fate.ProgramEnd stage.Failed h = cc
-may-session fate.LinkFault t h = h
-may-session fate.TooLong t h = h
-may-session fate.OutOfMemory t h = h
-
 on-session : (e : Entry) → is_on e ≡ true → is_session e ≡ true
 on-session e h = by_stage e.stage refl
   where
@@ -158,7 +137,7 @@ ended-tied d hold x t last h may =
     let f : Entry = staged (stage.Over x) (length d.recorded.decisions) e.0 in
     let same = one-stage hold hold.id e.0 (stage.Over x) (length d.recorded.decisions) e.2 in
     let was : may_end x e.0.stage ≡ true = sym (ap (λ (k : Hold). may_end x k.stage) e.2) ∙ may in
-    let some : is_session e.0 ≡ true = on-session e.0 (may-session x e.0.stage was) in
+    let some : is_session e.0 ≡ true = on-session e.0 (may-on x e.0.stage was) in
     rw (t.book, same, e.1)
     (changed-tied d (after_free d.recorded.table e.0.slot) d.recorded.decisions d.recorded.ended hold.id e.0 f (set d.holds (CONNECTIONS - hold.id) (Some (Some (hold_of hold.id f)))) t
     (put-changes d hold.id e.0 f t last e.1 refl (λ q. absurd (let no : false ≡ true = q in cc)) (over-early e.0 (stage.Over x) (length d.recorded.decisions) (sym some))))
@@ -236,7 +215,7 @@ opened-tied d hold early t last h serves fresh = rw (e.1, same) (record {
       omega (arith, c, b, ap one-if before, ap one-if after, early-count early);
   role =
       λ role l.
-      let m : slice_get (set d.marks SLOTS mark) role ≡ slice_get d.marks role = get-set-other d.marks SLOTS role mark (λ q. absurd (omega (arith, q, l))) in
+      let m : slice_get (set d.marks SLOTS mark) role ≡ slice_get d.marks role = get-set_other d.marks SLOTS role mark (λ q. absurd (omega (arith, q, l))) in
       rw m (marked-keeps d desk role (slice_get d.marks role) refl (λ q. q) (λ q n. none role n) (t.role role l));
   some = t.some;
 })
@@ -285,9 +264,6 @@ opened-tied d hold early t last h serves fresh = rw (e.1, same) (record {
 
 -- ---- all writers have ended
 
-pub writers-ended : (d : Desk) → IsTied d → IsTied (record d { recorded = record d.recorded { ended = true } })
-writers-ended d t = rw t.book (told-tied d d.recorded.table d.recorded.decisions true t)
-
 -- ---- the server and the roles end
 
 pub closed-tied : (d : Desk) → IsTied d → IsTied (record d { closed = true; marks = set d.marks SLOTS (Some (record { count = d.early; left = true })) })
@@ -302,7 +278,7 @@ closed-tied d t = record {
   early = t.early;
   role =
       λ role l.
-      let m : slice_get (set d.marks SLOTS mark) role ≡ slice_get d.marks role = get-set-other d.marks SLOTS role mark (λ q. absurd (omega (arith, q, l))) in
+      let m : slice_get (set d.marks SLOTS mark) role ≡ slice_get d.marks role = get-set_other d.marks SLOTS role mark (λ q. absurd (omega (arith, q, l))) in
       rw m (marked-keeps d (record d { closed = true; marks = set d.marks SLOTS mark }) role (slice_get d.marks role) refl (λ q. refl) (λ q n. n) (t.role role l));
   some = t.some;
 }
@@ -339,7 +315,7 @@ start-tied d nothing book holds spare marks unclosed early some = record {
   role =
       λ role l.
       let other : slice_get (set (replicate (SLOTS + 1) mark) SLOTS server) role ≡ slice_get (replicate (SLOTS + 1) mark) role =
-      get-set-other (replicate (SLOTS + 1) mark) SLOTS role server (λ q. absurd (omega (arith, q, l))) in
+      get-set_other (replicate (SLOTS + 1) mark) SLOTS role server (λ q. absurd (omega (arith, q, l))) in
       let at : slice_get d.marks role ≡ Some mark = ap (λ (m : List (Option Mark)). slice_get m role) marks ∙ other ∙ get-replicate (SLOTS + 1) role mark (omega (arith, l)) in
       let own : IsMarked d role (Some mark) = (refl, λ q. absurd (let no : false ≡ true = q in cc)) in
       subst (IsMarked d role) (sym at) own;

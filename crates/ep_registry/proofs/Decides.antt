@@ -1,22 +1,13 @@
 -- What the server's half shows of a decision.
 use Rattle.std.proofs.Common.{◌≡◌, ℕ, List, [], ◌∷◌, ◌++◌, refl, ◌∙◌}
-use Rattle.ep_table.specs.Sessions.{accepted_by}
-use Rattle.ep_table.specs.declared.table.Accepted.{Accepted}
 use Rattle.ep_table.specs.declared.table.Accepted.TheVariants as accepted
 use Rattle.ep_table.specs.declared.table.StopAnswer.{StopAnswer}
 use Rattle.ep_table.specs.declared.table.StopAnswer.TheVariants as answer
 use Rattle.ep_registry.specs.declared.decision.Decision.{Decision}
 use Rattle.ep_registry.specs.declared.decision.Decision.TheVariants as decision
 use Rattle.ep_registry.specs.Registered.{ServerHalf}
-use Rattle.ep_registry.specs.Recorded.{Recorded, accepted_as, after_accepting, stopped_as, answer_to, after_stopping}
-use Rattle.ep_registry.specs.Held.{begun_as, accept_decides, stop_decides}
-
-accepted-as-decides : (r : Recorded) (a : Accepted) → (accepted_as r a).decisions ≡ r.decisions ++ accept_decides (begun_as r a) ∷ []
-accepted-as-decides r (accepted.Seat slot id) = refl
-accepted-as-decides r accepted.Full = refl
-
-pub accepted-decides : (r : Recorded) → (after_accepting r).decisions ≡ r.decisions ++ accept_decides (begun_as r (accepted_by r.table)) ∷ []
-accepted-decides r = accepted-as-decides r (accepted_by r.table)
+use Rattle.ep_registry.specs.Recorded.{Recorded, stopped_as, answer_to, after_stopping}
+use Rattle.ep_registry.specs.Held.{stop_decides}
 
 stopped-as-decides : (r : Recorded) (a : StopAnswer) → (stopped_as r a).decisions ≡ r.decisions ++ stop_decides a ∷ []
 stopped-as-decides r (answer.Ticket ticket) = refl
@@ -24,12 +15,6 @@ stopped-as-decides r (answer.NotLive id) = refl
 
 pub stopped-decides : (r : Recorded) (id : ℕ) → (after_stopping r id).decisions ≡ r.decisions ++ stop_decides (answer_to r id) ∷ []
 stopped-decides r id = stopped-as-decides r (answer_to r id)
-
-pub seat-decides : (r : Recorded) (slot id : ℕ) → accepted_by r.table ≡ accepted.Seat slot id → (after_accepting r).decisions ≡ r.decisions ++ decision.Accepted id ∷ []
-seat-decides r slot id h = rw h refl
-
-pub full-decides : (r : Recorded) → accepted_by r.table ≡ accepted.Full → (after_accepting r).decisions ≡ r.decisions ++ decision.Full ∷ []
-full-decides r h = rw h refl
 
 pub decided-as : (ds es : List Decision) (x y : Decision) → es ≡ ds → y ≡ x → ds ++ x ∷ [] ≡ es ++ y ∷ []
 decided-as ds es x y a b = rw (a, b) refl

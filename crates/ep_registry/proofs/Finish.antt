@@ -1,6 +1,7 @@
 -- What is kept, when every slot is free.
-use Rattle.std.proofs.Common.{◌≡◌, ℕ, zero, suc, ◌+◌, Bool, true, false, ◌&&◌, Option, Some, None, List, get_or, eqb, refl, ap, sym, ◌∙◌, arith, count_by}
+use Rattle.std.proofs.Common.{◌≡◌, ℕ, zero, suc, ◌+◌, Bool, true, false, ◌&&◌, Option, Some, None, List, get_or, refl, ap, sym, ◌∙◌, arith, count_by}
 use Rattle.std.proofs.lemmas.Option.{slice_get_within, get_or_from_slice_get}
+use Rattle.std.proofs.lemmas.Bool.{eqb-true}
 use Rattle.ep_table.specs.Sessions.{held_count}
 use Rattle.ep_table.proofs.Places.{counts_one}
 use Rattle.ep_registry.specs.declared.decision.Decision.{Decision}
@@ -14,12 +15,9 @@ use Rattle.ep_registry.specs.Recorded.{Recorded, goes_on}
 use Rattle.ep_registry.specs.Kept.{is_on, is_stopped_by, is_number, is_fit, is_fitting, accepts, stops, is_borne, IsKept}
 use Rattle.ep_registry.specs.Told.{is_over_after, AreTold}
 
-one-number : (n m : ℕ) → eqb n m ≡ true → n ≡ m
-one-number n m h = grind arith
-
 accepts-is : (n : ℕ) (d : Decision) → accepts n d ≡ true → d ≡ decision.Accepted n
 accepts-is n decision.Nothing h = cc
-accepts-is n (decision.Accepted x) h = ap decision.Accepted (one-number x n h)
+accepts-is n (decision.Accepted x) h = ap decision.Accepted (eqb-true x n h)
 accepts-is n decision.Full h = cc
 accepts-is n (decision.Ticket x) h = cc
 accepts-is n (decision.Refused x) h = cc
@@ -28,7 +26,7 @@ stops-is : (n : ℕ) (d : Decision) → stops n d ≡ true → d ≡ decision.Ti
 stops-is n decision.Nothing h = cc
 stops-is n (decision.Accepted x) h = cc
 stops-is n decision.Full h = cc
-stops-is n (decision.Ticket x) h = ap decision.Ticket (one-number x n h)
+stops-is n (decision.Ticket x) h = ap decision.Ticket (eqb-true x n h)
 stops-is n (decision.Refused x) h = cc
 
 -- What passes as one decision alone does is that decision.
@@ -65,7 +63,7 @@ over-after ended conn None t h off fits = cc
 over-after ended conn (Some n) stage.Serving h off fits = cc
 over-after ended conn (Some n) (stage.Ending x) h off fits = cc
 over-after ended conn (Some n) (stage.Over (fate.Requested other)) h off fits =
-    let a : n ≡ conn = one-number n conn h in let b : n ≡ other = one-number n other fits in let c : other ≡ conn = omega arith in rw c (grind arith)
+    let a : n ≡ conn = eqb-true n conn h in let b : n ≡ other = eqb-true n other fits in let c : other ≡ conn = omega arith in rw c (grind arith)
 over-after true conn (Some n) (stage.Over fate.ProgramEnd) h off fits = cc
 over-after false conn (Some n) (stage.Over fate.ProgramEnd) h off fits = cc
 over-after ended conn (Some n) (stage.Over fate.LinkFault) h off fits = refl
@@ -75,7 +73,7 @@ over-after ended conn (Some n) stage.Failed h off fits = cc
 
 number-is : (conn : ℕ) (ticket : Option ℕ) → is_number conn ticket ≡ true → ticket ≡ Some conn
 number-is conn None h = cc
-number-is conn (Some n) h = ap Some (one-number n conn h)
+number-is conn (Some n) h = ap Some (eqb-true n conn h)
 
 program-is : (ended : Bool) (ticket : Option ℕ) → is_fit ended ticket fate.ProgramEnd ≡ true → (ticket ≡ None) × (ended ≡ true)
 program-is true None h = (refl, refl)

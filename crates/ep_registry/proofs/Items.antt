@@ -4,19 +4,8 @@ use Rattle.std.proofs.lemmas.Grind.{common_steps}
 use Rattle.std.proofs.lemmas.Bool.Decides.{eqb_tells}
 use Rattle.std.proofs.lemmas.Option.{slice_get_within, get_or_from_slice_get}
 use Rattle.std.proofs.lemmas.List.Sums.{sum_by-set, sum_by-append}
+use Rattle.ep_table.proofs.Places.{get-set, get-set_other}
 use Rattle.ep_registry.specs.Items.{item, with_item, passes}
-
-pub get-set : {A : Type 0} (xs : List A) (i : ℕ) (y : A) → i < length xs → slice_get (set xs i y) i ≡ Some y
-get-set [] i y l = absurd (omega arith)
-get-set (x ∷ xs) zero y l = refl
-get-set (x ∷ xs) (suc i) y l = get-set xs i y (omega arith)
-
-pub get-set-other : {A : Type 0} (xs : List A) (i k : ℕ) (y : A) → k ≢ i → slice_get (set xs i y) k ≡ slice_get xs k
-get-set-other [] i k y n = refl
-get-set-other (x ∷ xs) zero zero y n = absurd (n refl)
-get-set-other (x ∷ xs) zero (suc k) y n = refl
-get-set-other (x ∷ xs) (suc i) zero y n = refl
-get-set-other (x ∷ xs) (suc i) (suc k) y n = get-set-other xs i k y (λ e. n (ap suc e))
 
 pub get-snoc : {A : Type 0} (xs : List A) (k : ℕ) (x y : A) → slice_get xs k ≡ Some x → slice_get (xs ++ y ∷ []) k ≡ Some x
 get-snoc [] k x y e = cc
@@ -51,7 +40,7 @@ item-set xs (suc k) x y e = let p : suc k - 1 ≡ k = omega arith in rw p (get-s
 pub item-set-other : {A : Type 0} (xs : List A) (n m : ℕ) (x y : A) → item xs n ≡ Some x → m ≢ n → item (with_item xs n y) m ≡ item xs m
 item-set-other xs zero m x y e d = cc
 item-set-other xs (suc k) zero x y e d = refl
-item-set-other xs (suc k) (suc m) x y e d = let p : suc k - 1 ≡ k = omega arith in rw p (get-set-other xs k m y (λ h. d (ap suc h)))
+item-set-other xs (suc k) (suc m) x y e d = let p : suc k - 1 ≡ k = omega arith in rw p (get-set_other xs k m y (λ h. d (ap suc h)))
 
 pub item-snoc : {A : Type 0} (xs : List A) (n : ℕ) (x y : A) → item xs n ≡ Some x → item (xs ++ y ∷ []) n ≡ Some x
 item-snoc xs zero x y e = cc

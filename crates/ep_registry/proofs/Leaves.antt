@@ -6,13 +6,12 @@ use Rattle.std.proofs.lemmas.List.{length-set}
 use Rattle.std.proofs.lemmas.List.Sums.{count_by-le-length}
 use Rattle.std.proofs.lemmas.Option.{slice_get_within, get_or_from_slice_get}
 use Rattle.ep_table.specs.declared.limits.TheConstants.{SLOTS}
-use Rattle.ep_table.proofs.Places.{counts_one}
+use Rattle.ep_table.proofs.Places.{counts_one, get-set, get-set_other}
 use Rattle.ep_registry.specs.declared.limits.TheConstants.{CONNECTIONS}
 use Rattle.ep_registry.specs.declared.session.Entry.{Entry}
 use Rattle.ep_registry.specs.declared.server.Mark.{Mark}
 use Rattle.ep_registry.specs.Kept.{is_on}
 use Rattle.ep_registry.specs.Registered.{Desk, IsTied, IsMarked, RoleHalf, ServerHalf, mark_of, AreLeft, AreMarked, is_of, is_early}
-use Rattle.ep_registry.proofs.Items.{get-set, get-set-other}
 use Rattle.ep_registry.proofs.Methods.{count-first}
 use Rattle.ep_registry.proofs.Tied.{marked-keeps}
 
@@ -48,7 +47,7 @@ left-tied d number roles t l same closed none = record {
   spare = t.spare;
   few = t.few;
   marks = length-set d.marks number mark ∙ t.marks;
-  server = get-set-other d.marks number SLOTS mark (λ q. absurd (omega (arith, q, l))) ∙ t.server;
+  server = get-set_other d.marks number SLOTS mark (λ q. absurd (omega (arith, q, l))) ∙ t.server;
   early = t.early;
   role = λ role within. by_test role within (eqb_tells role number);
   some = t.some;
@@ -67,7 +66,7 @@ left-tied d number roles t l same closed none = record {
         let own : IsMarked desk number (Some mark) = (same, λ _. (closed, none)) in
         rw h.1 (subst (IsMarked desk number) (sym put) own)
     by_test role within (inr h) =
-        let m : slice_get (set d.marks number mark) role ≡ slice_get d.marks role = get-set-other d.marks number role mark h.1 in
+        let m : slice_get (set d.marks number mark) role ≡ slice_get d.marks role = get-set_other d.marks number role mark h.1 in
         rw m (marked-keeps d desk role (slice_get d.marks role) refl (λ q. q) (λ q n. n) (t.role role within))
 
 -- ---- counts

@@ -1,17 +1,19 @@
 -- What each call makes of what is kept.
-use Rattle.std.proofs.Common.{◌≡◌, ◌≢◌, ℕ, zero, suc, ◌+◌, ◌-◌, ◌<◌, ◌≤◌, Bool, true, false, ◌&&◌, ◌||◌, not, Option, Some, None, is_some, List, [], ◌∷◌, ◌++◌, length, get_or, set, slice_get, eqb, nat_lt, position, replicate, refl, ap, sym, ◌∙◌, arith, ◌⊎◌, inl, inr, cond, count_by, subst, length-append}
+use Rattle.std.proofs.Common.{◌≡◌, ◌≢◌, ℕ, zero, suc, ◌+◌, ◌-◌, ◌<◌, ◌≤◌, Bool, true, false, ◌||◌, not, Option, Some, None, is_some, List, [], ◌∷◌, ◌++◌, length, get_or, set, slice_get, eqb, nat_lt, position, replicate, refl, ap, sym, ◌∙◌, arith, ◌⊎◌, inl, inr, cond, count_by, subst, length-append}
 use Rattle.std.proofs.lemmas.Grind.{common_steps}
 use Rattle.std.proofs.lemmas.List.{length-set}
 use Rattle.std.proofs.lemmas.List.Sums.{sum_by-append}
 use Rattle.std.proofs.lemmas.List.Quantifiers.{position-Some}
 use Rattle.std.proofs.lemmas.Option.{slice_get_within, slice_get-get_or, get_or_from_slice_get}
+use Rattle.std.proofs.lemmas.Bool.{and_parts, eqb-true, or_right}
+use Rattle.std.proofs.Math.Bool.{and-false}
 use Rattle.ep_table.specs.declared.limits.TheConstants.{SLOTS}
 use Rattle.ep_table.specs.declared.table.Seat.{Seat}
 use Rattle.ep_table.specs.Sessions.{Sessions, held_count, is_free, is_live_as, after_accept, after_stop, accepted_by, stop_answer, is_held}
 use Rattle.ep_table.specs.declared.table.Accepted.TheVariants as accepted
 use Rattle.ep_table.specs.declared.table.StopAnswer.TheVariants as answer
 use Rattle.ep_table.specs.declared.table.StopTicket.{StopTicket}
-use Rattle.ep_table.proofs.Places.{position-None, counts_one}
+use Rattle.ep_table.proofs.Places.{position-None, counts_one, get-set}
 use Rattle.ep_registry.specs.declared.limits.TheConstants.{CONNECTIONS}
 use Rattle.ep_registry.specs.declared.decision.Decision.{Decision}
 use Rattle.ep_registry.specs.declared.decision.Decision.TheVariants as decision
@@ -23,7 +25,7 @@ use Rattle.ep_registry.specs.declared.session.Stage.TheVariants as stage
 use Rattle.ep_registry.specs.Items.{item, with_item, passes}
 use Rattle.ep_registry.specs.Recorded.{Recorded, nothing_recorded, goes_on, is_serving, is_failed, can_stop, may_end, is_ending_as, is_same, begun, stopped, staged, opened, gone_at}
 use Rattle.ep_registry.specs.Kept.{is_on, is_session, is_in, accepts, stops, is_last, is_borne, is_asked_by, is_earlier, is_stopped_by, was_not_live, is_below, is_fit, is_fitting, seat_of, IsSession, IsKept}
-use Rattle.ep_registry.proofs.Items.{get-set, get-snoc-is, item-at, item-within, item-set, item-set-is, item-last, passes-set, passes-snoc}
+use Rattle.ep_registry.proofs.Items.{get-snoc-is, item-at, item-within, item-set, item-set-is, item-last, passes-set, passes-snoc}
 use Rattle.ep_registry.proofs.Borne.{borne-set}
 use Rattle.ep_registry.proofs.Steps.{Moves, moved, decided-kept, begun-kept, seat-on}
 
@@ -54,9 +56,6 @@ nothing-kept = record {
     free slot seat at = absurd (all_free SLOTS slot seat at)
 
 -- ---- one session's changes
-
-one-number : (n m : ℕ) → eqb n m ≡ true → n ≡ m
-one-number n m h = grind arith
 
 -- A change that keeps who asked for it, its slot, its ticket, and that it is a session, and since when it could be stopped no more.
 pub record Grows (r : Recorded) (e f : Entry) : Type 0 where
@@ -118,10 +117,6 @@ opened-kept r id e early k there serves =
 
 -- ---- a session goes to another stage
 
-and-true : (a b : Bool) → (a && b) ≡ true → (a ≡ true) × (b ≡ true)
-and-true true b h = (refl, h)
-and-true false b h = cc
-
 on-session : (t : Stage) → goes_on t ≡ true → not (is_failed t) ≡ true
 on-session stage.Serving h = refl
 on-session (stage.Ending x) h = refl
@@ -173,7 +168,8 @@ staged-moves r id e to k there on some out fits =
 
 -- ---- a session ends
 
-may-on : (x : Fate) (t : Stage) → may_end x t ≡ true → goes_on t ≡ true
+-- A session that may end goes on until then.
+pub may-on : (x : Fate) (t : Stage) → may_end x t ≡ true → goes_on t ≡ true
 may-on (fate.Requested c) stage.Serving h = cc
 may-on (fate.Requested c) (stage.Ending y) h = refl
 may-on (fate.Requested c) (stage.Over y) h = cc
@@ -258,8 +254,8 @@ live_in (Some (Some seat)) = seat.live
 live-seat : (id : ℕ) (o : Option Seat) → is_live_as id o ≡ true → o ≡ Some (record { id = id; live = true })
 live-seat id None h = cc
 live-seat id (Some seat) h =
-    let b = and-true seat.live (eqb seat.id id) h in
-    let i : seat.id ≡ id = one-number seat.id id b.1 in
+    let b = and_parts seat.live (eqb seat.id id) h in
+    let i : seat.id ≡ id = eqb-true seat.id id b.1 in
     ap (λ (s : Seat). let q : Option Seat = Some s in q) (ap2 seat.live seat.id b.0 i)
   where
     ap2 : (live : Bool) (n : ℕ) → live ≡ true → n ≡ id → (let a : Seat = record { id = n; live = live } in a) ≡ record { id = id; live = true }
@@ -287,15 +283,15 @@ passes-is p xs n x h e = rw e at h
 pub live-facts : (r : Recorded) (id slot : ℕ) (e : Entry) → IsKept r → position (is_live_as id) r.table.seats ≡ Some slot → item r.sessions id ≡ Some e →
     (e.slot ≡ slot) × (can_stop e ≡ true)
 live-facts r id slot e k h there =
-    let b = and-true (eqb e.slot slot) (is_on e) (passes-is (is_in slot) r.sessions id e (live-known r id slot k h) there) in
-    let same : e.slot ≡ slot = one-number e.slot slot b.0 in
+    let b = and_parts (eqb e.slot slot) (is_on e) (passes-is (is_in slot) r.sessions id e (live-known r id slot k h) there) in
+    let same : e.slot ≡ slot = eqb-true e.slot slot b.0 in
     let seat = (k.known id e there).seat b.1 ∙ ap Some (seat-on id e b.1) in
     let live = live-at r id slot h in (same, sym (ap live_in seat) ∙ ap (λ n. live_in (slice_get r.table.seats n)) same ∙ ap live_in live)
 
 -- A session that can be stopped is found.
 pub can-find : (r : Recorded) (id : ℕ) (e : Entry) → IsKept r → item r.sessions id ≡ Some e → can_stop e ≡ true → position (is_live_as id) r.table.seats ≢ None
 can-find r id e k there can none =
-    let b = and-true (is_serving e.stage) (not (is_some e.ticket)) can in
+    let b = and_parts (is_serving e.stage) (not (is_some e.ticket)) can in
     let on : is_on e ≡ true = serving-on e.stage b.0 in
     let seat : slice_get r.table.seats e.slot ≡ Some (seat_of id e) = (k.known id e there).seat on in
     let l = slice_get_within r.table.seats e.slot (seat_of id e) seat in
@@ -315,10 +311,6 @@ can-fits ended conn (stage.Ending x) h = cc
 can-fits ended conn (stage.Over x) h = cc
 can-fits ended conn stage.Failed h = cc
 
-and-false : (b : Bool) → (b && false) ≡ false
-and-false true = refl
-and-false false = refl
-
 not-some : (o : Option ℕ) → not (is_some o) ≡ true → o ≡ None
 not-some None h = refl
 not-some (Some x) h = cc
@@ -333,7 +325,7 @@ pub stopped-kept : (r : Recorded) (id slot : ℕ) (e : Entry) → IsKept r → l
     })
 stopped-kept r id slot e k room h there =
     let facts = live-facts r id slot e k h there in
-    let b = and-true (is_serving e.stage) (not (is_some e.ticket)) facts.1 in
+    let b = and_parts (is_serving e.stage) (not (is_some e.ticket)) facts.1 in
     let s = k.known id e there in
     let on : is_on e ≡ true = serving-on e.stage b.0 in
     let none : e.ticket ≡ None = not-some e.ticket b.1 in
@@ -388,10 +380,6 @@ stopped-kept r id slot e k room h there =
 
 -- ---- a stop is refused
 
-or-true : (a b : Bool) → b ≡ true → (a || b) ≡ true
-or-true true b h = refl
-or-true false b h = h
-
 -- Nobody that is not found can be stopped.
 pub refused-borne : (r : Recorded) (id : ℕ) → IsKept r → position (is_live_as id) r.table.seats ≡ None → is_borne r.sessions (length r.decisions + 1) (decision.Refused id) ≡ true
 refused-borne r id k none = by_case (item r.sessions id) refl
@@ -402,7 +390,7 @@ refused-borne r id k none = by_case (item r.sessions id) refl
         let l : n ≤ length r.decisions = p n h in
         let b : nat_lt n (length r.decisions + 1) ≡ true = grind arith in
         let w : is_below (length r.decisions + 1) e.gone ≡ true = rw h b in
-        or-true (nat_lt (length r.decisions + 1) e.conn) (is_below (length r.decisions + 1) e.gone) w
+        or_right (nat_lt (length r.decisions + 1) e.conn) (is_below (length r.decisions + 1) e.gone) w
 
     by_can : (e : Entry) (b : Bool) → item r.sessions id ≡ Some e → can_stop e ≡ b → was_not_live (length r.decisions + 1) e ≡ true
     by_can e true there can = absurd (can-find r id e k there can none)
@@ -589,7 +577,7 @@ ended-kept r k = record {
 
 accepts-one : (n m : ℕ) (d : Decision) → accepts n d ≡ true → accepts m d ≡ true → n ≡ m
 accepts-one n m decision.Nothing h g = cc
-accepts-one n m (decision.Accepted x) h g = sym (one-number x n h) ∙ one-number x m g
+accepts-one n m (decision.Accepted x) h g = sym (eqb-true x n h) ∙ eqb-true x m g
 accepts-one n m decision.Full h g = cc
 accepts-one n m (decision.Ticket x) h g = cc
 accepts-one n m (decision.Refused x) h g = cc
@@ -604,7 +592,7 @@ accepts-no n m (decision.Refused x) h = cc
 -- The session of a decision that accepts was asked for by its connection.
 asked-of : (sessions : List Entry) (conn n : ℕ) (d : Decision) → accepts n d ≡ true → is_borne sessions conn d ≡ true → passes (is_asked_by conn) (item sessions n) ≡ true
 asked-of sessions conn n decision.Nothing h b = cc
-asked-of sessions conn n (decision.Accepted x) h b = ap (λ m. passes (is_asked_by conn) (item sessions m)) (sym (one-number x n h)) ∙ b
+asked-of sessions conn n (decision.Accepted x) h b = ap (λ m. passes (is_asked_by conn) (item sessions m)) (sym (eqb-true x n h)) ∙ b
 asked-of sessions conn n decision.Full h b = cc
 asked-of sessions conn n (decision.Ticket x) h b = cc
 asked-of sessions conn n (decision.Refused x) h b = cc
@@ -663,8 +651,8 @@ failed-kept r id e d k there serves last accepted = moved r id e f ds k (record 
         let p = place-before (length r.decisions) (item-within r.decisions (length r.decisions) d last).0 in
         let at : slice_get r.decisions p.0 ≡ Some d = sym (item-at r.decisions p.0) ∙ ap (item r.decisions) (sym p.1) ∙ last in
         let c = asked-of r.sessions (p.0 + 1) id d accepted (k.borne p.0 d at) in
-        let t = and-true (eqb e.conn (p.0 + 1)) (is_session e) (passes-is (is_asked_by (p.0 + 1)) r.sessions id e c there) in
-        one-number e.conn (p.0 + 1) t.0 ∙ sym p.1
+        let t = and_parts (eqb e.conn (p.0 + 1)) (is_session e) (passes-is (is_asked_by (p.0 + 1)) r.sessions id e c there) in
+        eqb-true e.conn (p.0 + 1) t.0 ∙ sym p.1
 
     no-ticket : e.ticket ≡ None
     no-ticket = by_ticket e.ticket refl

@@ -1,32 +1,18 @@
 -- Halves by their places.
-use Rattle.std.proofs.Common.{◌≡◌, ◌≢◌, ℕ, zero, suc, ◌+◌, ◌<◌, true, false, Option, Some, None, IfSome, List, [], ◌∷◌, ◌++◌, length, length-append, replicate, set, slice_get, eqb, refl, ap, sym, ◌∙◌, arith, ◌⊎◌, inl, inr}
+use Rattle.std.proofs.Common.{◌≡◌, ◌≢◌, ℕ, zero, suc, ◌+◌, ◌<◌, true, false, Option, Some, None, IfSome, List, [], ◌∷◌, ◌++◌, length, replicate, set, slice_get, eqb, refl, ap, sym, ◌∙◌, arith, ◌⊎◌, inl, inr}
 use Rattle.std.proofs.lemmas.Grind.{common_steps}
 use Rattle.std.proofs.lemmas.Bool.Decides.{eqb_tells}
 use Rattle.std.proofs.lemmas.List.{length-set, map-append, replicate-append-replicate}
 use Rattle.std.proofs.lemmas.Option.{slice_get_within}
+use Rattle.ep_table.proofs.Places.{get-set, get-set_other}
 use Rattle.ep_tie.specs.Tied.{Tied}
 use Rattle.ep_registry.specs.declared.hold.Hold.{Hold}
 use Rattle.ep_registry.specs.Held.{AreInSlots}
 use Rattle.ep_registry.specs.Places.{AreInPlace, value_of, values_of, numbered}
-use Rattle.ep_registry.proofs.Items.{get-set, get-set-other, get-snoc-is}
+use Rattle.ep_registry.proofs.Items.{get-snoc-is}
 
 pub in-place-snoc : {V : Type 0} (halves : List (Tied V)) (half : Tied V) → AreInPlace halves → half.place ≡ length halves → AreInPlace (halves ++ half ∷ [])
 in-place-snoc halves half h p place x at = elim (get-snoc-is halves place x half at) [ inl t ↦ rw (t.0, t.1) p | inr t ↦ h place x t ]
-
-pub in-place-set : {V : Type 0} (halves : List (Tied V)) (k : ℕ) (half : Tied V) → AreInPlace halves → half.place ≡ k → AreInPlace (set halves k half)
-in-place-set {V} halves k half h p place x at = by_test (eqb_tells place k)
-  where
-    some-same : (y z : Tied V) → Some y ≡ Some z → y ≡ z
-    some-same y z e = grind (arith, common_steps)
-
-    by_test : ((eqb place k ≡ true) × (place ≡ k)) ⊎ ((eqb place k ≡ false) × (place ≢ k)) → x.place ≡ place
-    by_test (inl t) =
-        let n = length-set halves k half in
-        let l : place < length (set halves k half) = slice_get_within (set halves k half) place x at in
-        let put : slice_get (set halves k half) k ≡ Some half = get-set halves k half (omega (arith, n, l, t.1)) in
-        let is : x ≡ half = some-same x half (sym at ∙ ap (slice_get (set halves k half)) t.1 ∙ put) in
-        ap (λ (z : Tied V). z.place) is ∙ p ∙ sym t.1
-    by_test (inr t) = h place x (sym (get-set-other halves k place half t.1) ∙ at)
 
 pub values-snoc : {V : Type 0} (halves : List (Tied V)) (half : Tied V) (n : ℕ) (v : Option V) → values_of halves ≡ replicate n v → half.value ≡ v →
     values_of (halves ++ half ∷ []) ≡ replicate (n + 1) v
@@ -38,10 +24,6 @@ values-snoc {V} halves half n v h e =
 
 pub numbered-snoc : {V : Type 0} (n : ℕ) (v : V) → numbered n v ++ record { place = n; value = Some v } ∷ [] ≡ numbered (n + 1) v
 numbered-snoc n v = let e : n + 1 ≡ suc n = omega arith in rw e refl
-
-pub length-numbered : {V : Type 0} (n : ℕ) (v : V) → length (numbered n v) ≡ n
-length-numbered zero v = refl
-length-numbered (suc n) v = omega (arith, length-numbered n v, length-append (numbered n v) (record { place = n; value = Some v } ∷ []))
 
 pub numbered-more : {V : Type 0} (halves : List (Tied V)) (half : Tied V) (n : ℕ) (v : V) → halves ≡ numbered n v → half.place ≡ n → half.value ≡ Some v →
     halves ++ half ∷ [] ≡ numbered (n + 1) v
@@ -68,7 +50,7 @@ in-slots-set places k o h own place hold at = by_test (eqb_tells place k)
         let put : slice_get (set places k o) k ≡ Some o = get-set places k o (omega (arith, n, l, t.1)) in
         let is : o ≡ Some hold = some-place o (Some hold) (sym put ∙ ap (slice_get (set places k o)) (sym t.1) ∙ at) in
         own hold is ∙ sym t.1
-    by_test (inr t) = h place hold (sym (get-set-other places k place o t.1) ∙ at)
+    by_test (inr t) = h place hold (sym (get-set_other places k place o t.1) ∙ at)
 
 pub in-slots-put : (places : List (Option Hold)) (slot : ℕ) (hold : Hold) → AreInSlots places → hold.slot ≡ slot → AreInSlots (set places slot (Some hold))
 in-slots-put places slot hold h same = in-slots-set places slot (Some hold) h (λ x q. ap (λ (k : Hold). k.slot) (sym (some-hold hold x q)) ∙ same)

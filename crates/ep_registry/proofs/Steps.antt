@@ -3,6 +3,7 @@ use Rattle.std.proofs.Common.{◌≡◌, ◌≢◌, ℕ, ◌+◌, ◌-◌, ◌<�
 use Rattle.std.proofs.lemmas.Bool.Decides.{eqb_tells}
 use Rattle.std.proofs.lemmas.List.{length-set}
 use Rattle.std.proofs.lemmas.Option.{slice_get_within}
+use Rattle.ep_table.proofs.Places.{get-set, get-set_other}
 use Rattle.ep_table.specs.declared.table.Seat.{Seat}
 use Rattle.ep_table.specs.Sessions.{held_count}
 use Rattle.ep_registry.specs.declared.limits.TheConstants.{CONNECTIONS}
@@ -12,7 +13,7 @@ use Rattle.ep_registry.specs.declared.session.Entry.{Entry}
 use Rattle.ep_registry.specs.Items.{item, with_item, passes}
 use Rattle.ep_registry.specs.Recorded.{Recorded, can_stop, begun, decided}
 use Rattle.ep_registry.specs.Kept.{is_on, is_in, accepts, stops, is_borne, seat_of, IsSession, IsKept}
-use Rattle.ep_registry.proofs.Items.{get-set, get-set-other, get-snoc-is, item-set, item-set-is, item-snoc-is, item-last, passes-set, passes-snoc, count-item, count-place, count-snoc}
+use Rattle.ep_registry.proofs.Items.{get-snoc-is, item-set, item-set-is, item-snoc-is, item-last, passes-set, passes-snoc, count-item, count-place, count-snoc}
 use Rattle.ep_registry.proofs.Borne.{borne-snoc}
 
 -- ---- seats
@@ -104,7 +105,7 @@ moved-known r id e f decisions k m n g at =
             longer = m.longer;
             accepted = m.accepted n g.conn t.0;
             tickets = m.tickets n;
-            place = λ on. get-set-other r.table.seats e.slot g.slot (seat_of id f) (λ same. t.0 (one-seat r.table.seats n id g e on m.on (s.seat on) se same));
+            place = λ on. get-set_other r.table.seats e.slot g.slot (seat_of id f) (λ same. t.0 (one-seat r.table.seats n id g e on m.on (s.seat on) se same));
           })
           s
     ]
@@ -133,7 +134,7 @@ moved-seated r id e f decisions k m slot seat at = by_test (eqb_tells slot e.slo
     by_test : ((eqb slot e.slot ≡ true) × (slot ≡ e.slot)) ⊎ ((eqb slot e.slot ≡ false) × (slot ≢ e.slot)) → passes (is_in slot) (item (with_item r.sessions id f) seat.id) ≡ true
     by_test (inl t) = here t.1 (is_on f) refl
     by_test (inr t) =
-        let was : slice_get r.table.seats slot ≡ Some (Some seat) = sym (get-set-other r.table.seats e.slot slot (seat_of id f) t.1) ∙ at in
+        let was : slice_get r.table.seats slot ≡ Some (Some seat) = sym (get-set_other r.table.seats e.slot slot (seat_of id f) t.1) ∙ at in
         let no : eqb e.slot slot ≡ false = let d = t.1 in grind arith in
         passes-set (is_in slot) r.sessions id seat.id e f m.there (λ h. let w : false ≡ true = sym (rw no refl) ∙ h in cc) (k.seated slot seat was)
 
@@ -242,7 +243,7 @@ begun-kept r slot k room free = record {
               tickets = λ conn. passes-snoc (stops id) r.decisions conn d;
               place =
                   λ on.
-                  get-set-other r.table.seats slot e.slot (Some (record { id = r.table.next; live = true }))
+                  get-set_other r.table.seats slot e.slot (Some (record { id = r.table.next; live = true }))
                   (λ same.
                   let a : slice_get r.table.seats e.slot ≡ Some None = ap (slice_get r.table.seats) same ∙ free in
                   let o : seat_of id e ≡ Some (record { id = id; live = can_stop e }) = seat-on id e on in
@@ -279,4 +280,4 @@ begun-kept r slot k room free = record {
         rw (i, item-last r.sessions r.table.next b k.next_id, q) refl
     by_test s seat at (inr t) =
         passes-snoc (is_in s) r.sessions seat.id b
-        (k.seated s seat (sym (get-set-other r.table.seats slot s (Some (record { id = r.table.next; live = true })) t.1) ∙ at))
+        (k.seated s seat (sym (get-set_other r.table.seats slot s (Some (record { id = r.table.next; live = true })) t.1) ∙ at))

@@ -1,22 +1,23 @@
 -- A registry stays tied where one of its lists changes together with the half that shows it.
-use Rattle.std.proofs.Common.{◌≡◌, ◌≢◌, ℕ, zero, suc, ◌+◌, ◌-◌, ◌<◌, ◌≤◌, ◌%◌, Bool, true, false, ◌&&◌, Option, Some, None, List, [], ◌∷◌, ◌++◌, length, length-append, set, slice_get, eqb, refl, ap, sym, ◌∙◌, arith, ◌⊎◌, inl, inr, cond, count_by}
+use Rattle.std.proofs.Common.{◌≡◌, ◌≢◌, ℕ, zero, suc, ◌+◌, ◌-◌, ◌<◌, ◌≤◌, ◌%◌, Bool, true, false, Option, Some, None, List, [], ◌∷◌, ◌++◌, length, length-append, set, slice_get, eqb, refl, ap, sym, ◌∙◌, arith, ◌⊎◌, inl, inr, cond, count_by}
 use Rattle.std.proofs.lemmas.Grind.{common_steps}
 use Rattle.std.proofs.lemmas.Bool.Decides.{eqb_tells}
 use Rattle.std.proofs.lemmas.List.{length-set}
+use Rattle.std.proofs.lemmas.Bool.{and_parts}
+use Rattle.ep_table.proofs.Places.{get-set, get-set_other}
 use Rattle.ep_table.specs.Sessions.{Sessions}
 use Rattle.ep_registry.specs.declared.limits.TheConstants.{CONNECTIONS}
 use Rattle.ep_registry.specs.declared.decision.Decision.{Decision}
 use Rattle.ep_registry.specs.declared.session.Entry.{Entry}
-use Rattle.ep_registry.specs.declared.session.Fate.{Fate}
 use Rattle.ep_registry.specs.declared.hold.Hold.{Hold}
 use Rattle.ep_registry.specs.declared.server.Mark.{Mark}
-use Rattle.ep_registry.specs.Items.{item, with_item, passes}
+use Rattle.ep_registry.specs.Items.{item, with_item}
 use Rattle.ep_registry.specs.Places.{numbered}
-use Rattle.ep_registry.specs.Recorded.{is_serving, may_end, begun}
-use Rattle.ep_registry.specs.Kept.{is_on, is_serving_entry}
+use Rattle.ep_registry.specs.Recorded.{begun}
+use Rattle.ep_registry.specs.Kept.{is_on}
 use Rattle.ep_registry.specs.Held.{hold_of, hold_at, AreHeld}
 use Rattle.ep_registry.specs.Registered.{Desk, IsTied, IsMarked, is_of, is_early}
-use Rattle.ep_registry.proofs.Items.{get-set, get-set-other, item-within, item-set, item-set-other, item-last, count-item, count-snoc}
+use Rattle.ep_registry.proofs.Items.{item-within, item-set, item-set-other, item-last, count-item, count-snoc}
 
 -- ---- what a meeting shows
 
@@ -44,17 +45,6 @@ held-entry sessions id hold h = by_case (item sessions id) refl
     by_case None e = absurd (let n : hold_at sessions id ≡ None = rw e refl in let q : Some hold ≡ None = sym h ∙ n in cc)
     by_case (Some x) e = let n : hold_at sessions id ≡ Some (hold_of id x) = rw e refl in let q : Some hold ≡ Some (hold_of id x) = sym h ∙ n in (x, e, grind (arith, common_steps))
 
-pub serves-at : (sessions : List Entry) (id : ℕ) (hold : Hold) → hold_at sessions id ≡ Some hold → is_serving hold.stage ≡ true → passes is_serving_entry (item sessions id) ≡ true
-serves-at sessions id hold h s =
-    let e = held-entry sessions id hold h in
-    let q : is_serving e.0.stage ≡ true = sym (ap (λ (k : Hold). is_serving k.stage) e.2) ∙ s in rw e.1 q
-
-pub ends-at : (sessions : List Entry) (id : ℕ) (hold : Hold) (fate : Fate) → hold_at sessions id ≡ Some hold → may_end fate hold.stage ≡ true →
-    passes (λ (e : Entry). may_end fate e.stage) (item sessions id) ≡ true
-ends-at sessions id hold fate h s =
-    let e = held-entry sessions id hold h in
-    let q : may_end fate e.0.stage ≡ true = sym (ap (λ (k : Hold). may_end fate k.stage) e.2) ∙ s in rw e.1 q
-
 -- ---- the ties of sessions
 
 pub held-set : (holds : List (Option (Option Hold))) (sessions : List Entry) (id : ℕ) (e f : Entry) → length holds ≡ CONNECTIONS → id ≤ CONNECTIONS → AreHeld holds sessions →
@@ -69,7 +59,7 @@ held-set holds sessions id e f all last h there n first' last' = by_test (eqb_te
     by_test (inl t) = rw t.1 (put ∙ rw (item-set sessions id e f there) refl)
     by_test (inr t) =
         let w = item-within sessions id e there in
-        get-set-other holds (CONNECTIONS - id) (CONNECTIONS - n) (Some (Some (hold_of id f))) (λ q. t.1 (omega (arith, q, w.0))) ∙ h n first' last'
+        get-set_other holds (CONNECTIONS - id) (CONNECTIONS - n) (Some (Some (hold_of id f))) (λ q. t.1 (omega (arith, q, w.0))) ∙ h n first' last'
         ∙ rw (item-set-other sessions id n e f there t.1) refl
 
 pub held-same : (holds : List (Option (Option Hold))) (sessions : List Entry) (id : ℕ) (e f : Entry) → AreHeld holds sessions → item sessions id ≡ Some e →
@@ -105,14 +95,10 @@ held-snoc holds sessions f all room h n first last = by_test (eqb_tells n (lengt
         slice_get (set holds (CONNECTIONS - (length sessions + 1)) (Some (Some (hold_of (length sessions + 1) f)))) (CONNECTIONS - n) ≡ Some (Some (hold_at (sessions ++ f ∷ []) n))
     by_test (inl t) = rw t.1 (put ∙ rw (item-last sessions (length sessions + 1) f refl) refl)
     by_test (inr t) =
-        get-set-other holds (CONNECTIONS - (length sessions + 1)) (CONNECTIONS - n) (Some (Some (hold_of (length sessions + 1) f))) (λ q. t.1 (omega (arith, q)))
+        get-set_other holds (CONNECTIONS - (length sessions + 1)) (CONNECTIONS - n) (Some (Some (hold_of (length sessions + 1) f))) (λ q. t.1 (omega (arith, q)))
         ∙ h n first last ∙ rw (item-snoc-other sessions n f t.1) refl
 
 -- ---- the marks of the roles
-
-and-true : (a b : Bool) → (a && b) ≡ true → (a ≡ true) × (b ≡ true)
-and-true true b h = (refl, h)
-and-true false b h = cc
 
 pub marked-keeps : (d d' : Desk) (role : ℕ) (o : Option (Option Mark)) → d'.roles ≡ d.roles → (d.closed ≡ true → d'.closed ≡ true) →
     (d.closed ≡ true → count_by (is_of d.roles role) d.recorded.sessions ≡ 0 → count_by (is_of d'.roles role) d'.recorded.sessions ≡ 0) → IsMarked d role o → IsMarked d' role o
@@ -137,7 +123,7 @@ count-off p sessions id e f there keeps none = by_case (p f) refl (p e) refl
 
 is-of-keeps : (roles role : ℕ) (e f : Entry) → f.slot ≡ e.slot → (is_on f ≡ true → is_on e ≡ true) → is_of roles role f ≡ true → is_of roles role e ≡ true
 is-of-keeps roles role e f slot on h =
-    let b = and-true (eqb (f.slot % roles) role) (is_on f) h in
+    let b = and_parts (eqb (f.slot % roles) role) (is_on f) h in
     let q : eqb (e.slot % roles) role ≡ true = ap (λ s. eqb (s % roles) role) (sym slot) ∙ b.0 in
     rw (q, on b.1) refl
 

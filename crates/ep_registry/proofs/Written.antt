@@ -1,6 +1,7 @@
 -- The program ends once all writers have.
 use Rattle.std.proofs.Common.{◌≡◌, ℕ, zero, suc, ◌-◌, ◌<◌, Bool, true, false, ◌&&◌, not, is_some, Option, Some, None, List, [], ◌∷◌, length, map, replicate, set, slice_get, if◌then◌else◌, refl, ap, sym, ◌∙◌, arith}
 use Rattle.std.specs.List.{list_all}
+use Rattle.std.proofs.lemmas.Bool.{and_parts}
 use Rattle.ep_table.specs.Sessions.{accepted_by, after_stop}
 use Rattle.ep_table.specs.declared.table.Accepted.{Accepted}
 use Rattle.ep_table.specs.declared.table.Accepted.TheVariants as accepted
@@ -65,14 +66,10 @@ none-there (suc n) l = refl
 
 -- ---- all have ended
 
-and-true : (a b : Bool) → (a && b) ≡ true → (a ≡ true) × (b ≡ true)
-and-true true b h = (refl, h)
-and-true false b h = cc
-
 pub each-there : (there : List Bool) (k : ℕ) → all_there there ≡ true → k < length there → slice_get there k ≡ Some true
 each-there [] k h l = absurd (omega arith)
-each-there (b ∷ bs) zero h l = let p = and-true b (all_there bs) h in ap (λ (x : Bool). let q : Option Bool = Some x in q) p.0
-each-there (b ∷ bs) (suc k) h l = let p = and-true b (all_there bs) h in each-there bs k p.1 (omega (arith, l))
+each-there (b ∷ bs) zero h l = let p = and_parts b (all_there bs) h in ap (λ (x : Bool). let q : Option Bool = Some x in q) p.0
+each-there (b ∷ bs) (suc k) h l = let p = and_parts b (all_there bs) h in each-there bs k p.1 (omega (arith, l))
 
 -- A session ends with the program only once it has ended.
 pub program-ended : (r : Recorded) (hold : Hold) → IsKept r → hold_at r.sessions hold.id ≡ Some hold → hold.stage ≡ stage.Ending fate.ProgramEnd → r.ended ≡ true
@@ -81,7 +78,7 @@ program-ended r hold k h ends =
     let q : e.0.stage ≡ stage.Ending fate.ProgramEnd = sym (ap (λ (x : Hold). x.stage) e.2) ∙ ends in
     let f : is_fitting r.ended e.0.ticket e.0.stage ≡ true = (k.known hold.id e.0 e.1).fate in
     let g : is_fitting r.ended e.0.ticket (stage.Ending fate.ProgramEnd) ≡ true = rw q at f in
-    (and-true r.ended (not (is_some e.0.ticket)) g).0
+    (and_parts r.ended (not (is_some e.0.ticket)) g).0
 
 -- ---- which writers have ended
 

@@ -25,9 +25,11 @@ pub record IsHolder (hold : Hold) (half : Tied (Option Hold)) : Type 0 where
   pub place : half.place ≡ CONNECTIONS - hold.id
   pub value : half.value ≡ Some (Some hold)
 
+-- What whoever has a session knows of it.
 abbrev pub hold_of : ℕ → Entry → Hold
 hold_of id e = record { id = id; conn = e.conn; slot = e.slot; stage = e.stage; early = e.early }
 
+-- The same where there is such a session.
 abbrev pub held_as : ℕ → Option Entry → Option Hold
 held_as id None = None
 held_as id (Some e) = Some (hold_of id e)

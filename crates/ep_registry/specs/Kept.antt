@@ -14,6 +14,7 @@ use Rattle.ep_registry.specs.declared.limits.TheConstants.{CONNECTIONS}
 use Rattle.ep_registry.specs.Items.{item, passes, passes_or_none}
 use Rattle.ep_registry.specs.Recorded.{Recorded, goes_on, is_serving, is_failed, can_stop}
 
+-- The session goes on.
 abbrev pub is_on : Entry → Bool
 is_on e = goes_on e.stage
 
@@ -21,6 +22,7 @@ is_on e = goes_on e.stage
 abbrev pub is_session : Entry → Bool
 is_session e = not (is_failed e.stage)
 
+-- Its stream is being written.
 abbrev pub is_serving_entry : Entry → Bool
 is_serving_entry e = is_serving e.stage
 
@@ -30,6 +32,7 @@ is_serving_entry e = is_serving e.stage
 abbrev pub is_asked_by : ℕ → Entry → Bool
 is_asked_by conn e = (e.conn == conn) && is_session e
 
+-- It is a session of an earlier connection.
 abbrev pub is_earlier : ℕ → Entry → Bool
 is_earlier conn e = nat_lt e.conn conn && is_session e
 
@@ -38,6 +41,7 @@ abbrev pub is_number : ℕ → Option ℕ → Bool
 is_number n None = false
 is_number n (Some m) = m == n
 
+-- This connection has stopped it.
 abbrev pub is_stopped_by : ℕ → Entry → Bool
 is_stopped_by conn e = is_number conn e.ticket
 
@@ -50,9 +54,9 @@ is_below n (Some m) = nat_lt m n
 abbrev pub was_not_live : ℕ → Entry → Bool
 was_not_live conn e = nat_lt conn e.conn || is_below conn e.gone
 
--- The sessions bear the decision on this connection out: an accepted session was asked for by it, a full table had all of its slots
--- held by sessions of earlier connections, a ticket's session was stopped by it, and a refused stop names no session that was live
--- then.
+-- The sessions bear the decision on this connection out: an accepted session was asked for by it, a full table had all
+-- of its slots held by sessions of earlier connections, a ticket's session was stopped by it, and a refused stop names
+-- no session that was live then.
 abbrev pub is_borne : List Entry → ℕ → Decision → Bool
 is_borne sessions conn decision.Nothing = true
 is_borne sessions conn (decision.Accepted id) = passes (is_asked_by conn) (item sessions id)
@@ -62,6 +66,7 @@ is_borne sessions conn (decision.Refused id) = passes_or_none (was_not_live conn
 
 -- ---- sessions
 
+-- The decision accepts a session with this id.
 abbrev pub accepts : ℕ → Decision → Bool
 accepts id decision.Nothing = false
 accepts id (decision.Accepted other) = other == id
@@ -73,6 +78,7 @@ accepts id (decision.Refused other) = false
 abbrev pub is_last : List Decision → ℕ → Bool
 is_last decisions id = passes (accepts id) (item decisions (length decisions))
 
+-- The decision stops the session with this id.
 abbrev pub stops : ℕ → Decision → Bool
 stops id decision.Nothing = false
 stops id (decision.Accepted other) = false
@@ -80,7 +86,8 @@ stops id decision.Full = false
 stops id (decision.Ticket other) = other == id
 stops id (decision.Refused other) = false
 
--- A session is ended by its ticket, or by the program's end, once all writers have ended and where it has no ticket, or by a fault.
+-- A session is ended by its ticket, or by the program's end, once all writers have ended and where it has no ticket, or
+-- by a fault.
 abbrev pub is_fit : Bool → Option ℕ → Fate → Bool
 is_fit ended ticket (fate.Requested conn) = is_number conn ticket
 is_fit ended ticket fate.ProgramEnd = ended && not (is_some ticket)
@@ -88,6 +95,7 @@ is_fit ended ticket fate.LinkFault = true
 is_fit ended ticket fate.TooLong = true
 is_fit ended ticket fate.OutOfMemory = true
 
+-- The stage fits what is known: whether all writers have ended, and who stopped the session.
 abbrev pub is_fitting : Bool → Option ℕ → Stage → Bool
 is_fitting ended ticket stage.Serving = true
 is_fitting ended ticket (stage.Ending fate) = is_fit ended ticket fate

@@ -13,7 +13,7 @@ module _ {V : Type 0} where
   abbrev pub values_of : List (Tied V) → List (Option V)
   values_of halves = map value_of halves
 
-  -- So many halves, by place from 0, all with this value.
+  -- This many halves, by place from 0, all with this value.
   abbrev pub numbered : ℕ → V → List (Tied V)
   numbered zero v = []
   numbered (suc n) v = numbered n v ++ record { place = n; value = Some v } ∷ []

@@ -1,5 +1,5 @@
--- What a registry holds as a value: the table, what was decided on each connection and what became of each session, and what each
--- step makes of them (this project's profile; the slots and ids are those of ep_table).
+-- What a registry holds as a value: the table, what was decided on each connection and what became of each session, and
+-- what each step makes of them (this project's profile; the slots and ids are those of ep_table).
 use Rattle.std.specs.Prelude.{ℕ, ◌+◌, Bool, true, false, ◌&&◌, not, Option, Some, None, is_some, List, [], ◌∷◌, ◌++◌, length, ◌==◌, if◌then◌else◌}
 use Rattle.ep_table.specs.Sessions.{Sessions, no_sessions, accepted_by, after_accept, stop_answer, after_stop, after_free}
 use Rattle.ep_table.specs.declared.table.Accepted.{Accepted}
@@ -22,6 +22,7 @@ pub record Recorded : Type 0 where
   pub sessions : List Entry
   pub ended : Bool
 
+-- The registry before the first connection.
 abbrev pub nothing_recorded : Recorded
 nothing_recorded = record { table = no_sessions; decisions = []; sessions = []; ended = false }
 
@@ -34,12 +35,14 @@ goes_on (stage.Ending fate) = true
 goes_on (stage.Over fate) = false
 goes_on stage.Failed = false
 
+-- Its stream is being written.
 abbrev pub is_serving : Stage → Bool
 is_serving stage.Serving = true
 is_serving (stage.Ending fate) = false
 is_serving (stage.Over fate) = false
 is_serving stage.Failed = false
 
+-- Its start failed.
 abbrev pub is_failed : Stage → Bool
 is_failed stage.Serving = false
 is_failed (stage.Ending fate) = false
@@ -66,6 +69,7 @@ is_same fate.LinkFault other = true
 is_same fate.TooLong other = true
 is_same fate.OutOfMemory other = true
 
+-- It is ending so, and not over.
 abbrev pub is_ending_as : Fate → Stage → Bool
 is_ending_as fate stage.Serving = false
 is_ending_as fate (stage.Ending found) = is_same fate found
@@ -91,12 +95,15 @@ abbrev pub gone_at : ℕ → Option ℕ → Option ℕ
 gone_at count None = Some count
 gone_at count (Some before) = Some before
 
+-- The session once this connection has stopped it, after this many decisions.
 abbrev pub stopped : ℕ → ℕ → Entry → Entry
 stopped conn count e = record e { ticket = Some conn; gone = gone_at count e.gone }
 
+-- The session at this stage, to which it came after this many decisions.
 abbrev pub staged : Stage → ℕ → Entry → Entry
 staged to count e = record e { stage = to; gone = gone_at count e.gone }
 
+-- The session once it was opened on the rows, early or not.
 abbrev pub opened : Bool → Entry → Entry
 opened early e = record e { early = early }
 
@@ -105,6 +112,7 @@ abbrev pub changed_at : (Entry → Entry) → List Entry → ℕ → Option Entr
 changed_at change sessions id None = sessions
 changed_at change sessions id (Some e) = with_item sessions id (change e)
 
+-- The sessions with one of them changed, where there is one of that id.
 abbrev pub changed : List Entry → ℕ → (Entry → Entry) → List Entry
 changed sessions id change = changed_at change sessions id (item sessions id)
 
@@ -125,6 +133,7 @@ accepted_as r (accepted.Seat slot id) =
     }
 accepted_as r accepted.Full = decided r decision.Full
 
+-- The registry once a connection was accepted as a session, or refused.
 abbrev pub after_accepting : Recorded → Recorded
 after_accepting r = accepted_as r (accepted_by r.table)
 
@@ -139,9 +148,11 @@ stopped_as r (answer.Ticket ticket) =
     }
 stopped_as r (answer.NotLive id) = decided r (decision.Refused id)
 
+-- What a stop of this id is answered.
 abbrev pub answer_to : Recorded → ℕ → StopAnswer
 answer_to r id = stop_answer r.table id (length r.decisions + 1)
 
+-- The registry once a stop of this id was answered.
 abbrev pub after_stopping : Recorded → ℕ → Recorded
 after_stopping r id = stopped_as r (answer_to r id)
 
@@ -163,6 +174,7 @@ abbrev pub after_failing : Recorded → ℕ → Recorded
 after_failing r id =
     record (freed r id stage.Failed) { decisions = with_item r.decisions (length r.decisions) decision.Nothing }
 
+-- The registry once the session is over, so, and its slot is free.
 abbrev pub after_end : Recorded → ℕ → Fate → Recorded
 after_end r id fate = freed r id (stage.Over fate)
 
@@ -177,10 +189,12 @@ abbrev pub fate_by : Bool → Option ℕ → Option Fate
 fate_by ended (Some conn) = Some (fate.Requested conn)
 fate_by ended None = if ended then Some fate.ProgramEnd else None
 
+-- Who stopped the session, if anybody did.
 abbrev pub ticket_of : Option Entry → Option ℕ
 ticket_of None = None
 ticket_of (Some e) = e.ticket
 
+-- How the session is found to end, if it is.
 abbrev pub found : Recorded → ℕ → Option Fate
 found r id = fate_by r.ended (ticket_of (item r.sessions id))
 
@@ -196,5 +210,6 @@ looked_at r id None =
     then record r { table = after_stop r.table id; sessions = ending r id fate.ProgramEnd }
     else r
 
+-- The registry once a role has looked whether the session is to end.
 abbrev pub after_looking : Recorded → ℕ → Recorded
 after_looking r id = looked_at r id (ticket_of (item r.sessions id))

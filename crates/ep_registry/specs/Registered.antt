@@ -13,8 +13,8 @@ use Rattle.ep_registry.specs.Places.{numbered}
 use Rattle.ep_registry.specs.Held.{AreHeld}
 use Rattle.ep_registry.specs.Written.{all_there}
 
--- What a registry is to its callers: what was decided, whether the server has ended, how many roles there are, which writers
--- have ended by thread, and which sessions wait for their roles by slot.
+-- What a registry is to its callers: what was decided, whether the server has ended, how many roles there are, which
+-- writers have ended by thread, and which sessions wait for their roles by slot.
 pub record Registered : Type 0 where
   pub recorded : Recorded
   pub closed : Bool
@@ -24,24 +24,29 @@ pub record Registered : Type 0 where
 
 -- ---- halves
 
+-- What the server's half shows.
 pub record ServerHalf : Type 0 where
   pub decisions : List Decision
   pub early : ℕ
   pub left : Bool
 
+-- What a role's half shows.
 pub record RoleHalf : Type 0 where
   pub number : ℕ
   pub roles : ℕ
   pub left : Bool
 
+-- What the registry keeps of the server.
 abbrev pub mark_of : ServerHalf → Mark
 mark_of s = record { count = s.early; left = s.left }
 
+-- The decisions, none where nothing is shown.
 abbrev pub list_in : Option (List Decision) → List Decision
 list_in None = []
 list_in (Some decisions) = decisions
 
--- The server's half of the decisions is that of the first place, and its mark is that of the last, after those of the roles.
+-- The server's half of the decisions is that of the first place, and its mark is that of the last, after those of the
+-- roles.
 pub record IsServer (book : Tied (List Decision)) (mark : Mark) (half : Tied Mark) : Type 0 where
   pub book_place : book.place ≡ 0
   pub book_value : book.value ≡ Some (list_in book.value)
@@ -83,6 +88,7 @@ IsMarked d role (Some None) = ⊥
 IsMarked d role (Some (Some mark)) =
     (mark.count ≡ d.roles) × (mark.left ≡ true → (d.closed ≡ true) × (count_by (is_of d.roles role) d.recorded.sessions ≡ 0))
 
+-- The halves of the registry show what it has recorded.
 pub record IsTied (d : Desk) : Type 0 where
   -- The server's half shows the decisions.
   pub book : d.book ≡ Some d.recorded.decisions ∷ []

@@ -20,6 +20,7 @@ ends_after conn fate.LinkFault = true
 ends_after conn fate.TooLong = true
 ends_after conn fate.OutOfMemory = true
 
+-- The session is over, ended by this connection or by a fault of its own.
 abbrev pub is_over_after : ℕ → Stage → Bool
 is_over_after conn stage.Serving = false
 is_over_after conn (stage.Ending x) = false
@@ -31,7 +32,7 @@ pub record AreTold (decisions : List Decision) (sessions : List Entry) (ended : 
   -- An accepted session was asked for by its connection, and the other way round.
   pub accepted : (conn id : ℕ) → item decisions conn ≡ Some (decision.Accepted id) → passes (is_asked_by conn) (item sessions id) ≡ true
   pub asked : (id : ℕ) (e : Entry) → item sessions id ≡ Some e → is_session e ≡ true → item decisions e.conn ≡ Some (decision.Accepted id)
-  -- All slots were held only where so many sessions of earlier connections began.
+  -- All slots were held only where this many sessions of earlier connections began.
   pub full : (conn : ℕ) → item decisions conn ≡ Some decision.Full → SLOTS ≤ count_by (is_earlier conn) sessions
   -- No ticket was passed over: its session was ended by it, or by a fault of its own.
   pub granted : (conn id : ℕ) → item decisions conn ≡ Some (decision.Ticket id) →

@@ -7,9 +7,11 @@ use Rattle.ep_tie.specs.Tied.{Tied}
 abbrev pub there_in : List (Option (Tied ℕ)) → List Bool
 there_in halves = map is_some halves
 
+-- The writer has ended.
 abbrev pub is_there : Bool → Bool
 is_there b = b
 
+-- All writers have ended.
 abbrev pub all_there : List Bool → Bool
 all_there there = list_all is_there there
 

@@ -25,7 +25,7 @@ impl<N: Named, V> Model for Ends<N, V> {
 }
 
 impl<N: Named, V> Ends<N, V> {
-    /// So many ties of a new set, all with this value, and their other halves by place.
+    /// This many ties of a new set, all with this value, and their other halves by place.
     pub fn new(
         alloc: Global,
         blank: Blank<V>,
@@ -34,7 +34,8 @@ impl<N: Named, V> Ends<N, V> {
     ) -> Result<(Ends<N, V>, Vec<Right<N, V>>), AllocError>
         requires named { blank.ties ≡ N.ties }
         requires room { count ≤ blank.places }
-        ensures { IfOk result (λ made. (made.0 ≡ replicate count (Some value.now)) × (made.1.items ≡ numbered count value.now)) }
+        ensures { IfOk result (λ made. (made.0 ≡ replicate count (Some value.now))
+            × (made.1.items ≡ numbered count value.now)) }
     {
         let (ties, mut maker) = blank.open::<N>();
         let mut halves = Vec::new(alloc);

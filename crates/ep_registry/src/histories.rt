@@ -85,7 +85,8 @@ struct Sets {
 
 impl Sets {
     fn new(alloc: Global) -> Result<Sets, AllocError>
-        ensures { IfOk result (λ sets. (sets.book.places ≡ 1) × (sets.holds.places ≡ CONNECTIONS) × (sets.marks.places ≡ SLOTS + 1) × (sets.rows.places ≡ 2)) }
+        ensures { IfOk result (λ sets. (sets.book.places ≡ 1) × (sets.holds.places ≡ CONNECTIONS)
+            × (sets.marks.places ≡ SLOTS + 1) × (sets.rows.places ≡ 2)) }
     {
         Ok(Sets {
             book: Blank::new(alloc, 1)?,
@@ -370,8 +371,10 @@ fn open<B: Named, S: Named, R: Named, T: Program>(
     alloc: Global,
     sets: Sets,
 ) -> Result<(Run<B, S, R, T>, Vec<Right<R, Mark>>), AllocError>
-    requires named { (sets.book.ties ≡ B.ties) × (sets.holds.ties ≡ S.ties) × (sets.marks.ties ≡ R.ties) × (sets.rows.ties ≡ T.ties) }
-    requires room { (sets.book.places ≡ 1) × (sets.holds.places ≡ CONNECTIONS) × (sets.marks.places ≡ SLOTS + 1) × (sets.rows.places ≡ 2) }
+    requires named { (sets.book.ties ≡ B.ties) × (sets.holds.ties ≡ S.ties)
+        × (sets.marks.ties ≡ R.ties) × (sets.rows.ties ≡ T.ties) }
+    requires room { (sets.book.places ≡ 1) × (sets.holds.places ≡ CONNECTIONS)
+        × (sets.marks.places ≡ SLOTS + 1) × (sets.rows.places ≡ 2) }
     requires program { (T.threads ≡ 2) × (T.writes ≡ 0) }
     ensures server { IfOk result (λ made. made.0.server ≡ record { decisions = []; early = 0; left = false }) }
     ensures roles { IfOk result (λ made. made.1.items ≡ numbered SLOTS (record { count = 2; left = false })) }
@@ -398,8 +401,10 @@ fn whole<B: Named, S: Named, R: Named, T: Program>(
     sets: Sets,
     steps: &[Step],
 ) -> Result<Told, AllocError>
-    requires named { (sets.book.ties ≡ B.ties) × (sets.holds.ties ≡ S.ties) × (sets.marks.ties ≡ R.ties) × (sets.rows.ties ≡ T.ties) }
-    requires room { (sets.book.places ≡ 1) × (sets.holds.places ≡ CONNECTIONS) × (sets.marks.places ≡ SLOTS + 1) × (sets.rows.places ≡ 2) }
+    requires named { (sets.book.ties ≡ B.ties) × (sets.holds.ties ≡ S.ties)
+        × (sets.marks.ties ≡ R.ties) × (sets.rows.ties ≡ T.ties) }
+    requires room { (sets.book.places ≡ 1) × (sets.holds.places ≡ CONNECTIONS)
+        × (sets.marks.places ≡ SLOTS + 1) × (sets.rows.places ≡ 2) }
     requires program { (T.threads ≡ 2) × (T.writes ≡ 0) }
 {
     let (mut run, roles) = open::<B, S, R, T>(rt.alloc(), sets)?;

@@ -97,7 +97,8 @@ impl Journal {
         answer
     }
 
-    /// The start of the session that was accepted last has failed: its slot is free, and its connection began no session.
+    /// The start of the session that was accepted last has failed: its slot is free, and its connection began no
+    /// session.
     pub fn fail(&mut self, id: u64)
         requires last { IsTrue (is_last self.old.decisions id) }
         requires serves { IsTrue (passes is_serving_entry (item self.old.sessions id)) }
@@ -120,7 +121,8 @@ impl Journal {
         self.sessions.set(id, Entry { early, ..entry });
     }
 
-    /// Whether the session of this id is to end, and as what. Once the program's end is found, no stop of it is granted.
+    /// Whether the session of this id is to end, and as what. Once the program's end is found, no stop of it is
+    /// granted.
     pub fn look(&mut self, id: u64) -> Option<Fate>
         requires { IsTrue (passes is_serving_entry (item self.old.sessions id)) }
         ensures answer { result ≡ found self.old id }
@@ -215,7 +217,7 @@ impl Journal {
         }
     }
 
-    /// How many sessions of this role go on, where there are so many roles.
+    /// How many sessions of this role go on, where there are this many roles.
     pub fn serving(&self, roles: u32, role: u32) -> u32
         requires { 0 < roles }
         ensures value { result ≡ count_by (is_of roles role) self.now.sessions }

@@ -1,4 +1,5 @@
-//! The registry as the server, the writers and the roles use it: a call is made with the caller's half of a tie, and changes it.
+//! The registry as the server, the writers and the roles use it: a call is made with the caller's half of a tie, and
+//! changes it.
 ghost use Rattle.std.specs.Prelude.{◌≡◌, ◌+◌, ◌<◌, ◌≤◌, [], ◌∷◌, ◌++◌, ◌-◌, IfOk, IfSome, replicate, slice_get, IsTrue, Some, None, length, slice_set, true, false, ◌&&◌, ◌==◌, count_by};
 ghost use Rattle.ep_table.specs.declared.limits.TheConstants.{SLOTS};
 ghost use Rattle.ep_table.specs.Sessions.{accepted_by};
@@ -79,9 +80,16 @@ impl<B: Named, S: Named, R: Named, T: Program, P: Fits<W>, W: Drop> Registry<B, 
         requires room { (0 < book.places) × (CONNECTIONS ≤ holds.places) × (SLOTS < marks.places) }
         requires roles { (0 < roles) × (roles ≤ SLOTS) }
         requires threads { (0 < threads) × (threads ≡ T.threads) }
-        ensures registry { IfOk result (λ made. made.registry ≡ record { recorded = nothing_recorded; closed = false; roles = roles; there = replicate threads false; waiting = replicate SLOTS None }) }
+        ensures registry { IfOk result (λ made. made.registry ≡ record {
+          recorded = nothing_recorded;
+          closed = false;
+          roles = roles;
+          there = replicate threads false;
+          waiting = replicate SLOTS None;
+        }) }
         ensures server { IfOk result (λ made. made.server ≡ record { decisions = []; early = 0; left = false }) }
-        ensures roles { IfOk result (λ made. made.roles.items ≡ numbered SLOTS (record { count = roles; left = false })) }
+        ensures roles { IfOk result (λ made. made.roles.items
+            ≡ numbered SLOTS (record { count = roles; left = false })) }
     {
         let journal = Journal::new(alloc)?;
         let writers = Writers::new(alloc, threads)?;
@@ -138,8 +146,10 @@ impl<B: Named, S: Named, R: Named, T: Program, P: Fits<W>, W: Drop> Registry<B, 
         ensures answer { result ≡ begun_as self.old.recorded (accepted_by self.old.recorded.table) }
         ensures after { self.new ≡ record self.old { recorded = after_accepting self.old.recorded } }
         ensures agreed { server.old.decisions ≡ self.old.recorded.decisions }
-        ensures half { server.new ≡ record server.old { decisions = server.old.decisions ++ accept_decides result ∷ [] } }
-        ensures begins { IfSome result (λ hold. (hold.stage ≡ stage.Serving) × (hold.early ≡ false) × (hold.conn ≡ length server.old.decisions + 1)) }
+        ensures half { server.new
+            ≡ record server.old { decisions = server.old.decisions ++ accept_decides result ∷ [] } }
+        ensures begins { IfSome result (λ hold. (hold.stage ≡ stage.Serving)
+            × (hold.early ≡ false) × (hold.conn ≡ length server.old.decisions + 1)) }
     {
         server.meet(&mut self.book);
         server.meet_mark(&mut self.marks);
@@ -169,7 +179,8 @@ impl<B: Named, S: Named, R: Named, T: Program, P: Fits<W>, W: Drop> Registry<B, 
         answer
     }
 
-    /// The start of the session that was accepted last has failed: its slot is free, and its connection began no session.
+    /// The start of the session that was accepted last has failed: its slot is free, and its connection began no
+    /// session.
     pub fn fail(&mut self, server: &mut Server<B, R>, holder: &mut Holder<S>)
         requires last { IsTrue (is_last server.old.decisions holder.old.id) }
         requires serves { IsTrue (is_serving holder.old.stage) }
@@ -177,7 +188,8 @@ impl<B: Named, S: Named, R: Named, T: Program, P: Fits<W>, W: Drop> Registry<B, 
         ensures after { self.new ≡ record self.old { recorded = after_failing self.old.recorded holder.old.id } }
         ensures agreed { server.old.decisions ≡ self.old.recorded.decisions }
         ensures known { hold_at self.old.recorded.sessions holder.old.id ≡ Some holder.old }
-        ensures half { server.new ≡ record server.old { decisions = with_item server.old.decisions (length server.old.decisions) decision.Nothing } }
+        ensures half { server.new
+            ≡ record server.old { decisions = with_item server.old.decisions (length server.old.decisions) decision.Nothing } }
         ensures failed { holder.new ≡ record holder.old { stage = stage.Failed } }
     {
         server.meet(&mut self.book);
@@ -307,9 +319,11 @@ impl<B: Named, S: Named, R: Named, T: Program, P: Fits<W>, W: Drop> Registry<B, 
 
     /// Lets the role end, where the server has ended and none of the role's sessions goes on.
     pub fn leave(&mut self, role: &mut Role<R>) -> bool
-        ensures answer { result ≡ self.old.closed && (count_by (is_of role.old.roles role.old.number) self.old.recorded.sessions == 0) }
+        ensures answer { result
+            ≡ self.old.closed && (count_by (is_of role.old.roles role.old.number) self.old.recorded.sessions == 0) }
         ensures same { self.new ≡ self.old }
-        ensures left { (result ≡ true → role.new ≡ record role.old { left = true }) × (result ≡ false → role.new ≡ role.old) }
+        ensures left { (result ≡ true → role.new ≡ record role.old { left = true })
+            × (result ≡ false → role.new ≡ role.old) }
     {
         role.meet(&mut self.marks);
         if !self.closed {
@@ -326,7 +340,8 @@ impl<B: Named, S: Named, R: Named, T: Program, P: Fits<W>, W: Drop> Registry<B, 
     pub fn finish(self, server: &mut Server<B, R>, roles: Vec<Role<R>>) -> Ended<S>
         requires roles { AreLeft roles.items }
         ensures told { AreTold result.decisions result.sessions self.recorded.ended }
-        ensures same { (result.decisions ≡ self.recorded.decisions) × (result.sessions ≡ self.recorded.sessions) }
+        ensures same { (result.decisions ≡ self.recorded.decisions)
+            × (result.sessions ≡ self.recorded.sessions) }
         ensures agreed { server.old.decisions ≡ result.decisions }
         ensures early { server.old.early ≡ count_by is_early result.sessions }
     {

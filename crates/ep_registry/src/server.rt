@@ -148,7 +148,8 @@ impl<R: Named> Role<R> {
 
     pub(crate) fn meet(&mut self, marks: &mut Ends<R, Mark>)
         requires all { SLOTS < length marks.old }
-        ensures equal { slice_get marks.old self.old.number ≡ Some (Some (record { count = self.old.roles; left = self.old.left })) }
+        ensures equal { slice_get marks.old self.old.number
+            ≡ Some (Some (record { count = self.old.roles; left = self.old.left })) }
         ensures same { (self.new ≡ self.old) × (marks.new ≡ marks.old) }
     {
         let place = self.number as usize;
@@ -157,7 +158,8 @@ impl<R: Named> Role<R> {
 
     pub(crate) fn leave(&mut self, marks: &mut Ends<R, Mark>)
         requires all { SLOTS < length marks.old }
-        ensures marks { marks.new ≡ slice_set marks.old self.old.number (Some (record { count = self.old.roles; left = true })) }
+        ensures marks { marks.new
+            ≡ slice_set marks.old self.old.number (Some (record { count = self.old.roles; left = true })) }
         ensures value { self.new ≡ record self.old { left = true } }
     {
         let mark = Mark {

@@ -111,7 +111,7 @@ impl<S: Named, P: Fits<W>, W: Drop> Waiting<S, P, W> {
     }
 }
 
-/// So many places with nothing in them.
+/// This many places with nothing in them.
 pub(crate) fn empty_places<A: Drop>(alloc: Global, count: u32) -> Result<Vec<Option<A>>, AllocError>
     ensures { IfOk result (λ places. places.items ≡ replicate count None) }
 {

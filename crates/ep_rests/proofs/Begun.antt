@@ -2,6 +2,8 @@
 use Rattle.std.proofs.Common.{◌≡◌, ℕ, ◌-◌, true, List, [], ◌∷◌, length, Option, Some, refl, ap, sym, ◌∙◌, subst, arith, if◌then◌else◌, set}
 use Rattle.std.specs.Prelude.{slice_get}
 use Rattle.std.proofs.lemmas.Bool.{false≢true}
+use Rattle.ep_table.proofs.Places.{get-set, get-set_other}
+use Rattle.ep_defs.specs.declared.limits.TheConstants.{THREADS}
 use Rattle.ep_defs.specs.declared.event.EventDef.{EventDef}
 use Rattle.ep_defs.specs.declared.session.Config.{Config}
 use Rattle.ep_defs.specs.declared.session.TraceInfo.{TraceInfo}
@@ -24,7 +26,6 @@ use Rattle.ep_kept.specs.Kept.{IsLast}
 use Rattle.ep_made.specs.Made.{MakesAccept, MakesEnter, MakesLeave, MakesOpen, MakesBegin, MakesShow, MakesEnd, MakesSteal, MakesGive, MakesPoint, MakesClose, MakesFinish, IsStart}
 use Rattle.ep_made.proofs.Follow.{each_row, own_row}
 use Rattle.ep_rests.specs.Rests.{AreAtRest, AreBegun}
-use Rattle.ep_rests.proofs.Lists.{get-set_same, get-set_other}
 use Rattle.ep_rests.proofs.Turns.{given_same, pointed_same}
 
 -- ---- a step that begins no write
@@ -44,7 +45,7 @@ stays row writing = record { writing = writing; thread = refl; stamp = refl }
 stays_as : (old new : RowState) → new ≡ old → StaysIn old new
 stays_as old new same = subst (StaysIn old) (sym same) (stays old)
 
-begun_on : (past : Past) (s : Step) (old new : ToldRows) (begun : List (Option Write)) → ((t : ℕ) → last_begun t (s ∷ past) ≡ last_begun t past) → ((r : ℕ) → IsRow 256 r → StaysIn (old.row r) (new.row r))
+begun_on : (past : Past) (s : Step) (old new : ToldRows) (begun : List (Option Write)) → ((t : ℕ) → last_begun t (s ∷ past) ≡ last_begun t past) → ((r : ℕ) → IsRow THREADS r → StaysIn (old.row r) (new.row r))
     → AreBegun past old begun → AreBegun (s ∷ past) new begun
 begun_on past s old new begun same rows h =
     record {
@@ -60,7 +61,7 @@ begun_same past s old new begun same rows h = begun_on past s old new begun same
 
 -- ---- threads
 
-pub begin_begun : (events : List EventDef) (past : Past) (thread stamp : ℕ) (write : Write) (old new : Tables) (begun : List (Option Write)) → TablesFollow events past old → (m : MakesBegin thread stamp write old new) → length begun ≡ 256
+pub begin_begun : (events : List EventDef) (past : Past) (thread stamp : ℕ) (write : Write) (old new : Tables) (begun : List (Option Write)) → TablesFollow events past old → (m : MakesBegin thread stamp write old new) → length begun ≡ THREADS
     → AreBegun past (told_of old.rows) begun → AreBegun (step.Begin thread stamp write ∷ past) (told_of new.rows) (set begun (m.own.row - 1) (Some write))
 begin_begun events past thread stamp write old new begun h m long b =
     let row = m.own.row in
@@ -72,11 +73,11 @@ begin_begun events past thread stamp write old new begun h m long b =
     let it : Begun = record { stamp = stamp; write = write } in
     record {
       kept = each_row row (BeginsRow stamp write) before after
-          (λ r R S. IsRow 256 r → S.in_write ≡ true → (w : Write) × (slice_get (set begun (row - 1) (Some write)) (r - 1) ≡ Some (Some w)) × IsLast S.thread later S.stamp w) m.own.rows.rows
+          (λ r R S. IsRow THREADS r → S.in_write ≡ true → (w : Write) × (slice_get (set begun (row - 1) (Some write)) (r - 1) ≡ Some (Some w)) × IsLast S.thread later S.stamp w) m.own.rows.rows
           (λ begins at _.
           let Last : RowState → Type 0 = λ S. IsLast S.thread later S.stamp write in (
             write,
-            get-set_same begun (row - 1) (Some write) (omega (arith, long, at.0, at.1)),
+            get-set begun (row - 1) (Some write) (omega (arith, long, at.0, at.1)),
             subst Last (sym begins.row) (ap (λ b. if b then Some it else last_begun (before.row row).thread past) own.here),
           ))
           (λ r other at writing.
@@ -92,7 +93,7 @@ pub enter_begun : (events : List EventDef) (past : Past) (thread : ℕ) (old new
 enter_begun events past thread old new begun rest m =
     let before = told_of old.rows in
     begun_on past (step.Enter thread) before (told_of new.rows) begun (λ t. refl)
-    (each_row m.row (EntersRow thread) before (told_of new.rows) (λ r R S. IsRow 256 r → StaysIn R S) m.rows.rows
+    (each_row m.row (EntersRow thread) before (told_of new.rows) (λ r R S. IsRow THREADS r → StaysIn R S) m.rows.rows
     (λ enters at writing. absurd (false≢true (sym ((rest.rows m.row at).left m.left) ∙ sym (ap (λ (R : RowState). R.in_write) enters.row) ∙ writing)))
     (λ r other at. stays (before.row r)))
 
@@ -100,21 +101,21 @@ pub leave_begun : (past : Past) (thread : ℕ) (old new : Tables) (begun : List 
 leave_begun past thread old new begun m =
     let before = told_of old.rows in
     begun_on past (step.Leave thread) before (told_of new.rows) begun (λ t. refl)
-    (each_row m.own.row LeavesRow before (told_of new.rows) (λ r R S. IsRow 256 r → StaysIn R S) m.own.rows.rows
+    (each_row m.own.row LeavesRow before (told_of new.rows) (λ r R S. IsRow THREADS r → StaysIn R S) m.own.rows.rows
     (λ leaves at. subst (StaysIn (before.row m.own.row)) (sym leaves.row) (λ writing. record { writing = writing; thread = refl; stamp = refl })) (λ r other at. stays (before.row r)))
 
 pub end_begun : (past : Past) (thread : ℕ) (old new : Tables) (begun : List (Option Write)) → MakesEnd thread old new → AreBegun past (told_of old.rows) begun → AreBegun (step.End thread ∷ past) (told_of new.rows) begun
 end_begun past thread old new begun m =
     let before = told_of old.rows in
     begun_on past (step.End thread) before (told_of new.rows) begun (λ t. refl)
-    (each_row m.own.row EndsRow before (told_of new.rows) (λ r R S. IsRow 256 r → StaysIn R S) m.own.rows.rows
+    (each_row m.own.row EndsRow before (told_of new.rows) (λ r R S. IsRow THREADS r → StaysIn R S) m.own.rows.rows
     (λ ends at writing. absurd (false≢true (sym (ap (λ (R : RowState). R.in_write) ends.row) ∙ writing))) (λ r other at. stays (before.row r)))
 
 pub show_begun : (past : Past) (thread session : ℕ) (write : Write) (old new : Tables) (begun : List (Option Write)) → MakesShow thread session write old new → AreBegun past (told_of old.rows) begun → AreBegun (step.Show thread session ∷ past) (told_of new.rows) begun
 show_begun past thread session write old new begun m =
     let before = told_of old.rows in
     begun_on past (step.Show thread session) before (told_of new.rows) begun (λ t. refl)
-    (each_row m.row (ShowsRow m.present.slot (shown_slot (is_refused m.shown) m.rows.buffer (before.row m.row).stamp write)) before (told_of new.rows) (λ r R S. IsRow 256 r → StaysIn R S) m.rows.rows
+    (each_row m.row (ShowsRow m.present.slot (shown_slot (is_refused m.shown) m.rows.buffer (before.row m.row).stamp write)) before (told_of new.rows) (λ r R S. IsRow THREADS r → StaysIn R S) m.rows.rows
     (λ shows at. subst (StaysIn (before.row m.row)) (sym shows.others) (λ writing. record { writing = writing; thread = refl; stamp = refl })) (λ r other at. stays (before.row r)))
 
 -- ---- sessions
@@ -124,14 +125,14 @@ open_begun past session thread old new begun m =
     let before = told_of old.rows in
     let was = m.one.was in
     begun_on past (step.Open session thread) before (told_of new.rows) begun (λ t. refl)
-    (each_row m.row (OpensRow old.events.items was.slot (rest_of was.session).seat.id (rest_of was.session).config) before (told_of new.rows) (λ r R S. IsRow 256 r → StaysIn R S) m.one.changes.told.rows
+    (each_row m.row (OpensRow old.events.items was.slot (rest_of was.session).seat.id (rest_of was.session).config) before (told_of new.rows) (λ r R S. IsRow THREADS r → StaysIn R S) m.one.changes.told.rows
     (λ opens at. subst (StaysIn (before.row m.row)) (sym opens.others) (λ writing. record { writing = writing; thread = refl; stamp = refl })) (λ r other at. stays (before.row r)))
 
 pub close_begun : (past : Past) (session thread : ℕ) (old new : Tables) (begun : List (Option Write)) → MakesClose session thread old new → AreBegun past (told_of old.rows) begun → AreBegun (step.Close session thread ∷ past) (told_of new.rows) begun
 close_begun past session thread old new begun m =
     let before = told_of old.rows in
     begun_on past (step.Close session thread) before (told_of new.rows) begun (λ t. refl)
-    (each_row m.row (ClosesRow m.one.was.slot) before (told_of new.rows) (λ r R S. IsRow 256 r → StaysIn R S) m.one.changes.told.rows
+    (each_row m.row (ClosesRow m.one.was.slot) before (told_of new.rows) (λ r R S. IsRow THREADS r → StaysIn R S) m.one.changes.told.rows
     (λ closes at. subst (StaysIn (before.row m.row)) (sym closes.others) (λ writing. record { writing = writing; thread = refl; stamp = refl })) (λ r other at. stays (before.row r)))
 
 pub steal_begun : (past : Past) (session thread : ℕ) (old new : Tables) (begun : List (Option Write)) → MakesSteal session thread old new → AreBegun past (told_of old.rows) begun → AreBegun (step.Steal session thread ∷ past) (told_of new.rows) begun

@@ -3,6 +3,7 @@ use Rattle.std.proofs.Common.{◌≡◌, ℕ, true, false, inl, inr, List, [], �
 use Rattle.std.specs.Prelude.{is_some, ◌==◌}
 use Rattle.std.specs.List.{list_any, AllByRecursion}
 use Rattle.std.proofs.lemmas.Bool.{eqb-true, eq-eqb, cases_eq, false≢true, false_from_ne_true}
+use Rattle.ep_defs.specs.declared.limits.TheConstants.{THREADS}
 use Rattle.ep_defs.specs.declared.event.EventDef.{EventDef}
 use Rattle.ep_defs.specs.declared.session.Config.{Config}
 use Rattle.ep_defs.specs.declared.session.TraceInfo.{TraceInfo}
@@ -57,7 +58,7 @@ begin_rests events past thread stamp write old new h m rest =
       configs = rest.configs;
       configured = sessions.configured;
       kept = sessions.kept;
-      rows = λ r is_row. each_row row (BeginsRow stamp write) before after (λ r R S. IsRow 256 r → RowAtRest events rest.configs (writes_of R.thread past) R → RowAtRest events rest.configs (writes_of S.thread later) S) changes
+      rows = λ r is_row. each_row row (BeginsRow stamp write) before after (λ r R S. IsRow THREADS r → RowAtRest events rest.configs (writes_of R.thread past) R → RowAtRest events rest.configs (writes_of S.thread later) S) changes
           (λ begins at is.
           let R = before.row row in
           let S = after.row row in
@@ -67,7 +68,7 @@ begin_rests events past thread stamp write old new h m rest =
           let R = before.row r in
           let On : List Write → Type 0 = λ ws. RowAtRest events rest.configs ws R in
           subst On (begun_elsewhere past thread stamp write R (own.others r at other)) is) r is_row (rest.rows r is_row);
-      slots = λ r s is_row slot is. each_row row (BeginsRow stamp write) before after (λ r R S. IsRow 256 r → SlotAtRest events (rest.configs s) (writes_of R.thread past) slot → SlotAtRest events (rest.configs s) (writes_of S.thread later) slot) changes
+      slots = λ r s is_row slot is. each_row row (BeginsRow stamp write) before after (λ r R S. IsRow THREADS r → SlotAtRest events (rest.configs s) (writes_of R.thread past) slot → SlotAtRest events (rest.configs s) (writes_of S.thread later) slot) changes
           (λ begins at was.
           let R = before.row row in
           let On : List Write → Type 0 = λ ws. SlotAtRest events (rest.configs s) ws slot in
@@ -92,7 +93,7 @@ enter_rests events past thread old new lawful h m rest =
       configs = rest.configs;
       configured = sessions.configured;
       kept = sessions.kept;
-      rows = λ r is_row. each_row row (EntersRow thread) before after (λ r R S. IsRow 256 r → RowAtRest events rest.configs (writes_of R.thread past) R → RowAtRest events rest.configs (writes_of S.thread past) S) changes
+      rows = λ r is_row. each_row row (EntersRow thread) before after (λ r R S. IsRow THREADS r → RowAtRest events rest.configs (writes_of R.thread past) R → RowAtRest events rest.configs (writes_of S.thread past) S) changes
           (λ enters at is.
           let On : List Write → Type 0 = λ ws. RowAtRest events rest.configs ws (after.row row) in
           let none : writes_of (after.row row).thread past ≡ [] = ap (λ (S : RowState). writes_of S.thread past) enters.row ∙ enters_unwritten events thread past lawful in
@@ -116,7 +117,7 @@ enter_rests events past thread old new lawful h m rest =
 record Anew (session slot : ℕ) (tables : Tables) : Type 0 where
   absent : list_any (λ (p : Present). p.number == session) tables.present.items ≡ false
   free : has_slot slot tables.present.items ≡ false
-  off : (r : ℕ) → IsRow 256 r → is_some (slot_of ((told_of tables.rows).row r) slot) ≡ false
+  off : (r : ℕ) → IsRow THREADS r → is_some (slot_of ((told_of tables.rows).row r) slot) ≡ false
 
 accept_anew : (events : List EventDef) (past : Past) (session : ℕ) (config : Config) (info : TraceInfo) (old new : Tables) → IsLawful events (step.Accept session config ∷ past) → TablesFollow events past old
     → (m : MakesAccept session config info old new) → Anew session m.now.slot old

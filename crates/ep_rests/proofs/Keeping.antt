@@ -1,6 +1,7 @@
 -- All stay at rest in a step that begins no write.
 use Rattle.std.proofs.Common.{◌≡◌, ℕ, List, ◌∷◌, Some, refl, ap, sym, ◌∙◌, subst}
 use Rattle.std.specs.List.{AllByRecursion}
+use Rattle.ep_defs.specs.declared.limits.TheConstants.{THREADS}
 use Rattle.ep_defs.specs.declared.event.EventDef.{EventDef}
 use Rattle.ep_defs.specs.declared.session.Config.{Config}
 use Rattle.ep_defs.specs.declared.session.Write.{Write}
@@ -76,13 +77,13 @@ rests_as events configs old new same =
 pub rests_on : (events : List EventDef) (past : Past) (s : Step) (old new : Tables) (h : AreAtRest events past old)
     → ((t : ℕ) → writes_of t (s ∷ past) ≡ writes_of t past)
     → AreConfigured h.configs (s ∷ past) new.present.items
-    → ((r : ℕ) → IsRow 256 r → RestsOn events h.configs ((told_of old.rows).row r) ((told_of new.rows).row r))
-    → ((r s : ℕ) → IsRow 256 r → (slot : SlotState) → (told_of new.rows).slot r s ≡ Some slot → SlotAtRest events (h.configs s) (writes_of ((told_of old.rows).row r).thread past) slot)
+    → ((r : ℕ) → IsRow THREADS r → RestsOn events h.configs ((told_of old.rows).row r) ((told_of new.rows).row r))
+    → ((r s : ℕ) → IsRow THREADS r → (slot : SlotState) → (told_of new.rows).slot r s ≡ Some slot → SlotAtRest events (h.configs s) (writes_of ((told_of old.rows).row r).thread past) slot)
     → AreAtRest events (s ∷ past) new
 rests_on events past s old new h same sessions rows slots =
     let before = told_of old.rows in
     let after = told_of new.rows in
-    let writes : (r : ℕ) → IsRow 256 r → writes_of (before.row r).thread past ≡ writes_of (after.row r).thread (s ∷ past) = λ r is_row.
+    let writes : (r : ℕ) → IsRow THREADS r → writes_of (before.row r).thread past ≡ writes_of (after.row r).thread (s ∷ past) = λ r is_row.
     ap (λ t. writes_of t past) (sym (rows r is_row).thread) ∙ sym (same (after.row r).thread) in
     record {
       configs = h.configs;

@@ -1,5 +1,5 @@
 -- Lists that grow, or of which one item is replaced or removed.
-use Rattle.std.proofs.Common.{◌≡◌, ℕ, zero, suc, ◌-◌, ◌<◌, Bool, false, List, [], ◌∷◌, ◌++◌, length, Some, refl, ap, sym, subst, arith, drop, set}
+use Rattle.std.proofs.Common.{◌≡◌, ℕ, zero, suc, ◌-◌, Bool, false, List, [], ◌∷◌, ◌++◌, length, Some, refl, sym, subst, arith, drop, set}
 use Rattle.std.specs.Prelude.{remove, slice_get}
 use Rattle.std.specs.List.{list_any, AllByRecursion}
 use Rattle.std.proofs.lemmas.Bool.{or_parts}
@@ -26,20 +26,6 @@ pub drop-append : {A : Type 0} (from : ℕ) (xs ys : List A) → (more : List A)
 drop-append zero xs ys = (ys, refl)
 drop-append (suc from) [] ys = (drop (suc from) ys, refl)
 drop-append (suc from) (x ∷ xs) ys = drop-append from xs ys
-
--- ---- one item in the place of another
-
-pub get-set_same : {A : Type 0} (xs : List A) (i : ℕ) (x : A) → i < length xs → slice_get (set xs i x) i ≡ Some x
-get-set_same [] i x less = absurd (omega (arith, less))
-get-set_same (y ∷ ys) zero x less = refl
-get-set_same (y ∷ ys) (suc i) x less = get-set_same ys i x (omega (arith, less))
-
-pub get-set_other : {A : Type 0} (xs : List A) (i j : ℕ) (x : A) → (j ≡ i → ⊥) → slice_get (set xs i x) j ≡ slice_get xs j
-get-set_other [] i j x off = refl
-get-set_other (y ∷ ys) zero zero x off = absurd (off refl)
-get-set_other (y ∷ ys) zero (suc j) x off = refl
-get-set_other (y ∷ ys) (suc i) zero x off = refl
-get-set_other (y ∷ ys) (suc i) (suc j) x off = get-set_other ys i j x (λ e. off (ap suc e))
 
 -- What holds of each item holds once one is replaced by another of which it holds.
 pub All-replaced : {A : Type 0} (P : A → Type 0) (xs : List A) (i : ℕ) (was now : A) → slice_get xs i ≡ Some was → (P was → P now) → AllByRecursion P xs → AllByRecursion P (set xs i now)

@@ -3,6 +3,7 @@ use Rattle.std.proofs.Common.{◌≡◌, ℕ, ◌-◌, ◌<◌, Bool, false, inl
 use Rattle.std.specs.Prelude.{slice_get, ◌==◌}
 use Rattle.std.specs.Option.{option_map_or}
 use Rattle.std.proofs.lemmas.Bool.{leb-false, and_right, cases_Bool}
+use Rattle.ep_defs.specs.declared.limits.TheConstants.{SCHEDULE_WRITES, WRITES}
 use Rattle.ep_defs.specs.declared.event.EventDef.{EventDef}
 use Rattle.ep_defs.specs.declared.session.Config.{Config}
 use Rattle.ep_defs.specs.declared.session.Write.{Write}
@@ -39,10 +40,10 @@ last_written thread (_ ∷ past) stamp write last = last_written thread past sta
 -- ---- how many writes there are
 
 -- Where a write can begin, its thread has made fewer than there are numbers.
-pub few_writes : (events : List EventDef) (past : Past) (thread stamp : ℕ) (write : Write) → IsLawful events (step.Begin thread stamp write ∷ past) → length (writes_of thread past) < 4000000000
+pub few_writes : (events : List EventDef) (past : Past) (thread stamp : ℕ) (write : Write) → IsLawful events (step.Begin thread stamp write ∷ past) → length (writes_of thread past) < WRITES
 few_writes events past thread stamp write lawful =
     let few = (none_there (objections events past (step.Begin thread stamp write)) lawful.1).1.1.1.1.0 in
-    let less = leb-false 2147483646 (begins past) few in
+    let less = leb-false SCHEDULE_WRITES (begins past) few in
     let all = writes_begun thread past in
     omega (arith, less, all)
 

@@ -2,6 +2,7 @@
 use Rattle.std.proofs.Common.{◌≡◌, ℕ, true, inl, inr, List, length, Option, Some, None, refl, ap, sym, ◌∙◌, subst, if◌then◌else◌}
 use Rattle.std.specs.Prelude.{◌&&◌, is_some, option_map, ◌==◌}
 use Rattle.std.proofs.lemmas.Bool.{eqb-true, and_parts, cases_Bool}
+use Rattle.ep_defs.specs.declared.limits.TheConstants.{THREADS}
 use Rattle.ep_defs.specs.declared.event.EventDef.{EventDef}
 use Rattle.ep_model.specs.History.{Past}
 use Rattle.ep_slot.specs.Slot.{SlotState}
@@ -14,7 +15,7 @@ use Rattle.ep_judge.specs.declared.tables.Tables.{Tables}
 use Rattle.ep_judge.specs.Tables.{TablesFollow}
 
 -- A row has a mask for each event.
-pub masks_are : (events : List EventDef) (past : Past) (tables : Tables) (r : ℕ) → TablesFollow events past tables → IsRow 256 r → length events ≡ length ((told_of tables.rows).row r).masks
+pub masks_are : (events : List EventDef) (past : Past) (tables : Tables) (r : ℕ) → TablesFollow events past tables → IsRow THREADS r → length events ≡ length ((told_of tables.rows).row r).masks
 masks_are events past tables r h is_row = ap length (sym h.known) ∙ sym (tables.rows.masks r is_row)
 
 -- What holds of the slot that is set and of each that was there, holds of each that is there.

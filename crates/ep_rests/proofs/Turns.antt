@@ -3,6 +3,7 @@ use Rattle.std.proofs.Common.{◌≡◌, ℕ, zero, suc, List, [], ◌∷◌, So
 use Rattle.std.proofs.lemmas.List.{append-nil}
 use Rattle.std.proofs.lemmas.List.Elements.{All-nil}
 use Rattle.std.proofs.lemmas.Option.{same_Some}
+use Rattle.ep_defs.specs.declared.limits.TheConstants.{THREADS}
 use Rattle.ep_defs.specs.declared.event.EventDef.{EventDef}
 use Rattle.ep_defs.specs.declared.session.Config.{Config}
 use Rattle.ep_defs.specs.declared.session.Write.{Write}
@@ -38,7 +39,7 @@ leave_rests events past thread old new h m rest =
     let before = told_of old.rows in
     let after = told_of new.rows in
     rests_on events past (step.Leave thread) old new rest (λ t. refl) (configured_still events past (step.Leave thread) old new rest (λ n. refl) m.own.sessions)
-    (each_row row LeavesRow before after (λ r R S. IsRow 256 r → RestsOn events rest.configs R S) m.own.rows.rows
+    (each_row row LeavesRow before after (λ r R S. IsRow THREADS r → RestsOn events rest.configs R S) m.own.rows.rows
     (λ leaves at. record { thread = ap (λ (R : RowState). R.thread) leaves.row; rest = λ writes is. leaves.rest events rest.configs writes (masks_are events past old row h at) is })
     (λ r other at. rests_same events rest.configs (before.row r)))
     (λ r s at slot is. rest.slots r s at slot (sym (m.own.rows.slots r s) ∙ is))
@@ -49,7 +50,7 @@ end_rests events past thread old new h m rest =
     let before = told_of old.rows in
     let after = told_of new.rows in
     rests_on events past (step.End thread) old new rest (λ t. refl) (configured_still events past (step.End thread) old new rest (λ n. refl) m.own.sessions)
-    (each_row row EndsRow before after (λ r R S. IsRow 256 r → RestsOn events rest.configs R S) m.own.rows.rows
+    (each_row row EndsRow before after (λ r R S. IsRow THREADS r → RestsOn events rest.configs R S) m.own.rows.rows
     (λ ends at. record { thread = ap (λ (R : RowState). R.thread) ends.row; rest = λ writes is. ends.rest events rest.configs writes (masks_are events past old row h at) is })
     (λ r other at. rests_same events rest.configs (before.row r)))
     (λ r s at slot is. rest.slots r s at slot (sym (m.own.rows.slots r s) ∙ is))
@@ -74,7 +75,7 @@ show_rests events past thread session write old new h m last rest =
     let shown = subst Now (append-nil writes) (m.rows.rest events rest.configs writes [] (rest.rows row m.is_row) newest (subst Was (sym (append-nil writes)) (rest.slots row place m.is_row was m.rows.was))) in
     let At : ℕ → ℕ → SlotState → Type 0 = λ r s slot. SlotAtRest events (rest.configs s) (writes_of (before.row r).thread past) slot in
     rests_on events past (step.Show thread session) old new rest (λ t. refl) (configured_still events past (step.Show thread session) old new rest (λ n. refl) m.sessions)
-    (each_row row (ShowsRow place now) before after (λ r R S. IsRow 256 r → RestsOn events rest.configs R S) m.rows.rows
+    (each_row row (ShowsRow place now) before after (λ r R S. IsRow THREADS r → RestsOn events rest.configs R S) m.rows.rows
     (λ shows at. record { thread = ap (λ (R : RowState). R.thread) shows.others; rest = λ writes is. shows.rest events rest.configs writes (masks_are events past old row h at) is })
     (λ r other at. rests_same events rest.configs (before.row r)))
     (λ r s at slot. set_slot row place (Some now) before.slot after.slot At m.rows.slots r s slot (λ there. subst (At row place) (same_Some now slot there) shown) (rest.slots r s at slot))
@@ -96,7 +97,7 @@ open_rests events past session thread old new h m rest =
     let At : ℕ → ℕ → SlotState → Type 0 = λ r s slot. SlotAtRest events (rest.configs s) (writes_of (before.row r).thread past) slot in
     rests_on events past (step.Open session thread) old new rest (λ t. refl)
     (configured_one events past (step.Open session thread) session (OpensOn old.events.items thread row) old new rest (λ n. refl) one)
-    (each_row row (OpensRow old.events.items place id config) before after (λ r R S. IsRow 256 r → RestsOn events rest.configs R S) told.rows
+    (each_row row (OpensRow old.events.items place id config) before after (λ r R S. IsRow THREADS r → RestsOn events rest.configs R S) told.rows
     (λ opens at.
     let Opened : List EventDef → Type 0 = λ es. KeepsRestOpened es place config (before.row row) (after.row row) in
     record {
@@ -138,7 +139,7 @@ close_rests events past session thread old new h m rest =
     let At : ℕ → ℕ → SlotState → Type 0 = λ r s slot. SlotAtRest events (rest.configs s) (writes_of (before.row r).thread past) slot in
     rests_on events past (step.Close session thread) old new rest (λ t. refl)
     (configured_one events past (step.Close session thread) session (ClosesOn old.events.items row) old new rest (λ n. refl) one)
-    (each_row row (ClosesRow place) before after (λ r R S. IsRow 256 r → RestsOn events rest.configs R S) told.rows
+    (each_row row (ClosesRow place) before after (λ r R S. IsRow THREADS r → RestsOn events rest.configs R S) told.rows
     (λ closes at. record { thread = ap (λ (R : RowState). R.thread) closes.others; rest = λ writes is. closes.rest events rest.configs writes (masks_are events past old row h at) is })
     (λ r other at. rests_same events rest.configs (before.row r)))
     (λ r s at slot. set_slot row place None before.slot after.slot At told.slots r s slot (λ there. absurd (cc)) (rest.slots r s at slot))

@@ -30,13 +30,14 @@ pub fn all_rest_at_the_start()
 
 // ---- steps of threads
 
-/// The thread that comes has made no write and takes a row on which nothing is open; the thread that left the row is in no
-/// write.
+/// The thread that comes has made no write and takes a row on which nothing is open; the thread that left the row is in
+/// no write.
 pub fn all_rest_after_an_enter()
     ensures rest { (events : List EventDef) (past : Past) (thread : ℕ) (old new : Tables)
         → IsLawful events (Enter thread ∷ past) → TablesFollow events past old → MakesEnter thread old new
         → AreAtRest events past old → AreAtRest events (Enter thread ∷ past) new }
-    ensures begun { (events : List EventDef) (past : Past) (thread : ℕ) (old new : Tables) (begun : List (Option Write))
+    ensures begun { (events : List EventDef) (past : Past) (thread : ℕ) (old new : Tables)
+        (begun : List (Option Write))
         → AreAtRest events past old → MakesEnter thread old new
         → AreBegun past (told_of old.rows) begun → AreBegun (Enter thread ∷ past) (told_of new.rows) begun }
 {}
@@ -53,25 +54,31 @@ pub fn all_rest_after_a_leave()
 
 /// The write is one more of its thread, and is put in the list at the row's place.
 pub fn all_rest_after_a_begin()
-    ensures rest { (events : List EventDef) (past : Past) (thread stamp : ℕ) (write : Write) (old new : Tables)
+    ensures rest { (events : List EventDef) (past : Past) (thread stamp : ℕ) (write : Write)
+        (old new : Tables)
         → TablesFollow events past old → MakesBegin thread stamp write old new
         → AreAtRest events past old → AreAtRest events (Begin thread stamp write ∷ past) new }
-    ensures begun { (events : List EventDef) (past : Past) (thread stamp : ℕ) (write : Write) (old new : Tables)
+    ensures begun { (events : List EventDef) (past : Past) (thread stamp : ℕ) (write : Write)
+        (old new : Tables)
         (begun : List (Option Write))
-        → TablesFollow events past old → (makes : MakesBegin thread stamp write old new) → length begun ≡ THREADS
+        → TablesFollow events past old → (makes : MakesBegin thread stamp write old new)
+        → length begun ≡ THREADS
         → AreBegun past (told_of old.rows) begun
         → AreBegun (Begin thread stamp write ∷ past) (told_of new.rows) (slice_set begun (makes.own.row - 1) (Some write)) }
 {}
 
 /// The write that is shown is the last of its thread, so its record has its number.
 pub fn all_rest_after_a_show()
-    ensures rest { (events : List EventDef) (past : Past) (thread session : ℕ) (write : Write) (old new : Tables)
+    ensures rest { (events : List EventDef) (past : Past) (thread session : ℕ) (write : Write)
+        (old new : Tables)
         → TablesFollow events past old → (makes : MakesShow thread session write old new)
         → IsLast thread past ((told_of old.rows).row makes.row).stamp write
         → AreAtRest events past old → AreAtRest events (Show thread session ∷ past) new }
-    ensures begun { (past : Past) (thread session : ℕ) (write : Write) (old new : Tables) (begun : List (Option Write))
+    ensures begun { (past : Past) (thread session : ℕ) (write : Write) (old new : Tables)
+        (begun : List (Option Write))
         → MakesShow thread session write old new
-        → AreBegun past (told_of old.rows) begun → AreBegun (Show thread session ∷ past) (told_of new.rows) begun }
+        → AreBegun past (told_of old.rows) begun
+        → AreBegun (Show thread session ∷ past) (told_of new.rows) begun }
 {}
 
 /// A write that ended stays the last of its thread, which is in no write then.
@@ -93,7 +100,8 @@ pub fn all_rest_after_an_open()
         → AreAtRest events past old → AreAtRest events (Open session thread ∷ past) new }
     ensures begun { (past : Past) (session thread : ℕ) (old new : Tables) (begun : List (Option Write))
         → MakesOpen session thread old new
-        → AreBegun past (told_of old.rows) begun → AreBegun (Open session thread ∷ past) (told_of new.rows) begun }
+        → AreBegun past (told_of old.rows) begun
+        → AreBegun (Open session thread ∷ past) (told_of new.rows) begun }
 {}
 
 /// A steal leaves no records.
@@ -103,7 +111,8 @@ pub fn all_rest_after_a_steal()
         → AreAtRest events past old → AreAtRest events (Steal session thread ∷ past) new }
     ensures begun { (past : Past) (session thread : ℕ) (old new : Tables) (begun : List (Option Write))
         → MakesSteal session thread old new
-        → AreBegun past (told_of old.rows) begun → AreBegun (Steal session thread ∷ past) (told_of new.rows) begun }
+        → AreBegun past (told_of old.rows) begun
+        → AreBegun (Steal session thread ∷ past) (told_of new.rows) begun }
 {}
 
 /// Chunks that are given back leave rows and slots.
@@ -123,7 +132,8 @@ pub fn all_rest_after_a_point()
         → AreAtRest events past old → AreAtRest events (Point session stamp ∷ past) new }
     ensures begun { (past : Past) (session stamp : ℕ) (old new : Tables) (begun : List (Option Write))
         → MakesPoint session stamp old new
-        → AreBegun past (told_of old.rows) begun → AreBegun (Point session stamp ∷ past) (told_of new.rows) begun }
+        → AreBegun past (told_of old.rows) begun
+        → AreBegun (Point session stamp ∷ past) (told_of new.rows) begun }
 {}
 
 /// A session that was closed on a row has no slot there.
@@ -133,7 +143,8 @@ pub fn all_rest_after_a_close()
         → AreAtRest events past old → AreAtRest events (Close session thread ∷ past) new }
     ensures begun { (past : Past) (session thread : ℕ) (old new : Tables) (begun : List (Option Write))
         → MakesClose session thread old new
-        → AreBegun past (told_of old.rows) begun → AreBegun (Close session thread ∷ past) (told_of new.rows) begun }
+        → AreBegun past (told_of old.rows) begun
+        → AreBegun (Close session thread ∷ past) (told_of new.rows) begun }
 {}
 
 // ---- a session comes and goes
@@ -148,7 +159,8 @@ pub fn all_rest_after_an_accept()
     ensures begun { (past : Past) (session : ℕ) (config : Config) (info : TraceInfo) (old new : Tables)
         (begun : List (Option Write))
         → MakesAccept session config info old new
-        → AreBegun past (told_of old.rows) begun → AreBegun (Accept session config ∷ past) (told_of new.rows) begun }
+        → AreBegun past (told_of old.rows) begun
+        → AreBegun (Accept session config ∷ past) (told_of new.rows) begun }
 {}
 
 /// The sessions that stay keep their configurations.
@@ -158,7 +170,8 @@ pub fn all_rest_after_a_finish()
         → AreAtRest events past old → AreAtRest events (Finish session stamp ∷ past) new }
     ensures begun { (past : Past) (session stamp : ℕ) (old new : Tables) (begun : List (Option Write))
         → MakesFinish session old new
-        → AreBegun past (told_of old.rows) begun → AreBegun (Finish session stamp ∷ past) (told_of new.rows) begun }
+        → AreBegun past (told_of old.rows) begun
+        → AreBegun (Finish session stamp ∷ past) (told_of new.rows) begun }
 {}
 
 // ---- what a step needs

@@ -9,6 +9,7 @@ use Rattle.std.proofs.lemmas.List.{drop-append-le, drop_all, get_or_default, get
 use Rattle.std.proofs.lemmas.List.Elements.{filter-append, All-get_or}
 use Rattle.std.specs.List.{All}
 use Rattle.std.proofs.lemmas.Option.{same_Some}
+use Rattle.ep_defs.specs.declared.limits.TheConstants.{WRITES}
 use Rattle.ep_defs.specs.declared.event.EventDef.{EventDef}
 use Rattle.ep_defs.specs.declared.session.Config.{Config}
 use Rattle.ep_defs.specs.declared.session.Write.{Write}
@@ -64,7 +65,7 @@ admitted-none events config writes =
 
 -- ---- a write
 
-begin-at : (place : ℕ) (events : List EventDef) (configs : ℕ → Config) (writes : List Write) (row : RowState) (stamp : ℕ) (write : Write) → write.event ≡ suc place → length events ≡ length row.masks → RowAtRest events configs writes row → row.in_write ≡ false → row.left ≡ false → write.event ≤ length row.masks → row.index < 4000000000 → RowAtRest events configs (writes ++ write ∷ []) (with_begin row stamp write)
+begin-at : (place : ℕ) (events : List EventDef) (configs : ℕ → Config) (writes : List Write) (row : RowState) (stamp : ℕ) (write : Write) → write.event ≡ suc place → length events ≡ length row.masks → RowAtRest events configs writes row → row.in_write ≡ false → row.left ≡ false → write.event ≤ length row.masks → row.index < WRITES → RowAtRest events configs (writes ++ write ∷ []) (with_begin row stamp write)
 begin-at place events configs writes row stamp write event count rest quiet stays within few =
     let bit : (s : ℕ) → s < 64 → bit_at (mask_of row write.event) s ≡ one_if (is_some (slot_of row s) && admits_write events (Some (configs s)) write) =
     λ s h.
@@ -95,7 +96,7 @@ begin-at place events configs writes row stamp write event count rest quiet stay
       left = λ e. absurd (false≢true (sym stays ∙ e));
     }
 
-pub begin-rests : (events : List EventDef) (configs : ℕ → Config) (writes : List Write) (row : RowState) (stamp : ℕ) (write : Write) → length events ≡ length row.masks → RowAtRest events configs writes row → row.in_write ≡ false → row.left ≡ false → 0 < write.event → write.event ≤ length row.masks → row.index < 4000000000 → RowAtRest events configs (writes ++ write ∷ []) (with_begin row stamp write)
+pub begin-rests : (events : List EventDef) (configs : ℕ → Config) (writes : List Write) (row : RowState) (stamp : ℕ) (write : Write) → length events ≡ length row.masks → RowAtRest events configs writes row → row.in_write ≡ false → row.left ≡ false → 0 < write.event → write.event ≤ length row.masks → row.index < WRITES → RowAtRest events configs (writes ++ write ∷ []) (with_begin row stamp write)
 begin-rests events configs writes row stamp write count rest quiet stays some within few =
     let e : write.event ≡ suc (write.event - 1) = omega arith in
     begin-at (write.event - 1) events configs writes row stamp write e count rest quiet stays within few

@@ -1,4 +1,6 @@
--- What holds of a thread's row whenever its lock is free, over the list of the thread's writes so far (this project's profile). The list stands nowhere: a plan says its members, or a past. The configurations, by slot, are those of the sessions that are open.
+-- What holds of a thread's row whenever its lock is free, over the list of the thread's writes so far (this project's
+-- profile). The list stands nowhere: a plan says its members, or a past. The configurations, by slot, are those of the
+-- sessions that are open.
 use Rattle.std.specs.Prelude.{◌≡◌, ℕ, ◌+◌, ◌-◌, ◌<◌, ◌≤◌, Bool, true, false, ◌&&◌, ◌==◌, if◌then◌else◌, List, [], ◌∷◌, ◌++◌, length, Some, is_some, slice_get, slice_index}
 use Rattle.std.specs.Int.{bit_at}
 use Rattle.std.specs.Option.{option_map_or, ForSome}
@@ -74,11 +76,13 @@ abbrev pub IsNumbered : List EventDef → Config → List Write → ℕ → Reco
 IsNumbered events config writes from r =
     slice_get (admitted_from events (Some config) from writes) (r.number - 1) ≡ Some (write_of r)
 
--- What holds of a slot whenever its lock is free, over all writes of the thread, also those that are to come. That its counts and numbers agree holds of every slot (`IsKept` of ep_slot).
+-- What holds of a slot whenever its lock is free, over all writes of the thread, also those that are to come. That its
+-- counts and numbers agree holds of every slot (`IsKept` of ep_slot).
 abbrev pub SlotAtRest : List EventDef → Config → List Write → SlotState → Type 0
 SlotAtRest events config writes slot = All (IsNumbered events config writes slot.from) slot.records
 
--- A slot to which a row at rest showed the last of its writes is at rest where it was before, whatever writes come after.
+-- A slot to which a row at rest showed the last of its writes is at rest where it was before, whatever writes come
+-- after.
 abbrev pub KeepsSlotRest : RowState → ℕ → Write → SlotState → SlotState → Type 0
 KeepsSlotRest row place write old new =
     (events : List EventDef) (configs : ℕ → Config) (writes more : List Write) → RowAtRest events configs writes row → slice_get writes (length writes - 1) ≡ Some write → SlotAtRest events (configs place) (writes ++ more) old → SlotAtRest events (configs place) (writes ++ more) new

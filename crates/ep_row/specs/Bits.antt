@@ -3,6 +3,7 @@ use Rattle.std.specs.Prelude.{◌≡◌, ℕ, ◌<◌, Bool, List, length, slice
 use Rattle.std.specs.Int.{bit_at}
 use Rattle.ep_defs.specs.declared.limits.TheConstants.{SESSIONS}
 
+-- A bit as a number.
 abbrev pub one_if : Bool → ℕ
 one_if b = if b then 1 else 0
 

@@ -43,7 +43,7 @@ opening_of slot = record { session = slot.session; from = slot.from; chunks = sl
 abbrev pub HasOpen : RowState → ℕ → SlotState → Type 0
 HasOpen row slot buffer = (slot_of row slot ≡ Some (opening_of buffer)) × (buffer.thread ≡ row.thread)
 
--- The row of a thread that has made no write, in a program of so many events.
+-- The row of a thread that has made no write, in a program of this many events.
 abbrev pub new_row : ℕ → ℕ → RowState
 new_row thread events =
     record {

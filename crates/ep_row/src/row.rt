@@ -57,7 +57,7 @@ impl Row {
     ghost use Rattle.ep_row.specs.Row.{new_row, slot_of, mask_of, opening_of, HasOpen, with_begin};
     ghost use Rattle.ep_row.specs.AtRest.{KeepsRest, KeepsRestWith, KeepsRestOpened, KeepsRestAnew, KeepsSlotRest, KeepsStolenRest, RestsAnew};
 
-    /// The row of a thread that has made no write, in a program of so many events.
+    /// The row of a thread that has made no write, in a program of this many events.
     pub fn new(alloc: Global, thread: u64, events: u32) -> Result<Row, AllocError>
         ensures row { IfOk result (λ row. row ≡ new_row thread events) }
         ensures rest { IfOk result RestsAnew }
@@ -151,7 +151,8 @@ impl Row {
         ensures made { IfOk result (λ made. made.0 ≡ opened session self.old.thread self.old.index config.now.chunks) }
         ensures agree { IfOk result (λ made. Agrees made.0 made.1) }
         ensures open { IfOk result (λ made. HasOpen self.new slot made.0) }
-        ensures slots { IfOk result (λ made. self.new.slots ≡ slice_set self.old.slots slot (Some (opening_of made.0))) }
+        ensures slots { IfOk result (λ made. self.new.slots
+            ≡ slice_set self.old.slots slot (Some (opening_of made.0))) }
         ensures masks { OnOk result (SetsBits slot (gets events.now config.now) self.old.masks self.new.masks) }
         ensures others { OnOk result (self.new ≡ record self.old { masks = self.new.masks; slots = self.new.slots }) }
         ensures rest { OnOk result (KeepsRestOpened events.now slot config.now self.old self.new) }

@@ -5,6 +5,7 @@ use Rattle.std.specs.List.{All}
 use Rattle.std.proofs.lemmas.Bool.{leb-true, leb-false}
 use Rattle.std.proofs.lemmas.List.Elements.{All-nil, All-cons, All-head, All-tail}
 use Rattle.std.proofs.lemmas.List.{get_or_past, length-replicate}
+use Rattle.ep_defs.specs.declared.limits.TheConstants.{THREADS}
 use Rattle.ep_defs.specs.declared.event.EventDef.{EventDef}
 use Rattle.ep_row.specs.Row.{RowState, new_row, slot_of, opening_of}
 use Rattle.ep_row.specs.declared.row.Opening.{Opening}
@@ -83,12 +84,12 @@ none_rep (suc count) zero = refl
 none_rep (suc count) (suc s) = none_rep count s
 
 -- Nothing is open on a new row.
-slots_fresh : (rows : List RowState) (events : ℕ) → length rows ≡ 256 → ((r : ℕ) → IsRow 256 r → row_at rows r ≡ new_row r events) → (r s : ℕ) → slot_of (row_at rows r) s ≡ None
+slots_fresh : (rows : List RowState) (events : ℕ) → length rows ≡ THREADS → ((r : ℕ) → IsRow THREADS r → row_at rows r ≡ new_row r events) → (r s : ℕ) → slot_of (row_at rows r) s ≡ None
 slots_fresh rows events count all zero s = none_rep 0 s
 slots_fresh rows events count all (suc place) s =
-    elim (nat_le (suc place) 256) as (λ v. nat_le (suc place) 256 ≡ v → slot_of (row_at rows (suc place)) s ≡ None) [
-      | true ↦ λ is. let most : suc place ≤ 256 = leb-true (suc place) 256 is in ap (λ (x : RowState). slot_of x s) (all (suc place) (omega arith, most)) ∙ none_rep 64 s
-      | false ↦ λ is. let past : 256 < suc place = leb-false (suc place) 256 is in ap (λ (x : RowState). slot_of x s) (get_or_past rows place no_row (omega (arith, count, past))) ∙ none_rep 0 s
+    elim (nat_le (suc place) THREADS) as (λ v. nat_le (suc place) THREADS ≡ v → slot_of (row_at rows (suc place)) s ≡ None) [
+      | true ↦ λ is. let most : suc place ≤ THREADS = leb-true (suc place) THREADS is in ap (λ (x : RowState). slot_of x s) (all (suc place) (omega arith, most)) ∙ none_rep 64 s
+      | false ↦ λ is. let past : THREADS < suc place = leb-false (suc place) THREADS is in ap (λ (x : RowState). slot_of x s) (get_or_past rows place no_row (omega (arith, count, past))) ∙ none_rep 0 s
     ]
     refl
 
@@ -102,10 +103,10 @@ no_known row s cell off none =
       thread = λ o is. absurd (none-some o (sym none ∙ is));
     }
 
-pub new_masks : (events : List EventDef) (rows : List RowState) (count : ℕ) → count ≡ length events → ((r : ℕ) → IsRow 256 r → row_at rows r ≡ new_row r count) → (r : ℕ) → IsRow 256 r → length (row_at rows r).masks ≡ length events
+pub new_masks : (events : List EventDef) (rows : List RowState) (count : ℕ) → count ≡ length events → ((r : ℕ) → IsRow THREADS r → row_at rows r ≡ new_row r count) → (r : ℕ) → IsRow THREADS r → length (row_at rows r).masks ≡ length events
 new_masks events rows count same all r is = ap (λ (x : RowState). length x.masks) (all r is) ∙ length-replicate count 0 ∙ same
 
-pub new_known : (rows : List RowState) (columns : List (Option Column)) (count : ℕ) → length rows ≡ 256 → ((r : ℕ) → IsRow 256 r → row_at rows r ≡ new_row r count) → ((s : ℕ) → slice_index_or columns s None ≡ None)
+pub new_known : (rows : List RowState) (columns : List (Option Column)) (count : ℕ) → length rows ≡ THREADS → ((r : ℕ) → IsRow THREADS r → row_at rows r ≡ new_row r count) → ((s : ℕ) → slice_index_or columns s None ≡ None)
     → (r s : ℕ) → IsKnown (row_at rows r) s (open_at columns r s)
 new_known rows columns count long all none r s = no_known (row_at rows r) s (open_at columns r s) (slots_fresh rows count long all r s) (ap (λ (c : Option Column). cell_in c r) (none s))
 

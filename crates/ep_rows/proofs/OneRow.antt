@@ -2,6 +2,7 @@
 use Rattle.std.proofs.Common.{◌≡◌, ◌≢◌, ℕ, zero, suc, ◌-◌, ◌<◌, ◌≤◌, Bool, true, false, List, [], ◌∷◌, Option, None, Some, length, refl, ap, sym, ◌∙◌, subst, arith}
 use Rattle.std.specs.Prelude.{slice_index_or, slice_set, option_map, unwrap_or, IsNone, ◌==◌, ◌&&◌, if◌then◌else◌}
 use Rattle.std.specs.List.{All}
+use Rattle.ep_defs.specs.declared.limits.TheConstants.{THREADS}
 use Rattle.ep_defs.specs.declared.event.EventDef.{EventDef}
 use Rattle.std.proofs.lemmas.Bool.{eqb-true, eqb-false, ne_eqb}
 use Rattle.std.proofs.lemmas.List.{get_or-set_same, get_or-set_other, get_or_default}
@@ -173,10 +174,10 @@ pub lent_column : (columns : List (Option Column)) (slot : ℕ) (old : Option Co
 lent_column columns slot old within at = at ∙ get_or_default columns slot old None within
 
 -- The masks of a row that changes are as long as before.
-pub masks_after : (events : List EventDef) (rows : List RowState) (row : ℕ) (old now : RowState) → 0 < row → row ≤ length rows → row ≤ 256 → old ≡ slice_index_or rows (row - 1) old → length now.masks ≡ length old.masks
-    → ((r : ℕ) → IsRow 256 r → length (row_at rows r).masks ≡ length events) → (r : ℕ) → IsRow 256 r → length (row_at (slice_set rows (row - 1) now) r).masks ≡ length events
+pub masks_after : (events : List EventDef) (rows : List RowState) (row : ℕ) (old now : RowState) → 0 < row → row ≤ length rows → row ≤ THREADS → old ≡ slice_index_or rows (row - 1) old → length now.masks ≡ length old.masks
+    → ((r : ℕ) → IsRow THREADS r → length (row_at rows r).masks ≡ length events) → (r : ℕ) → IsRow THREADS r → length (row_at (slice_set rows (row - 1) now) r).masks ≡ length events
 masks_after events rows row old now some within most at same all r is =
-    rows_kept (λ r x. IsRow 256 r → length x.masks ≡ length events) rows row now some within
+    rows_kept (λ r x. IsRow THREADS r → length x.masks ≡ length events) rows row now some within
     (λ is. same ∙ ap (λ (x : RowState). length x.masks) (lent_row rows row old some within at) ∙ all row is)
     r (all r) is
 

@@ -47,6 +47,7 @@ open_at columns row slot = cell_in (slice_index_or columns slot None) row
 abbrev pub no_chunks : PoolCounts
 no_chunks = record { total = 0; free = 0 }
 
+-- The pool of the session at a slot, empty where there is none.
 abbrev pub pool_in : Option Column → PoolCounts
 pool_in None = no_chunks
 pool_in (Some column) = column.pool
@@ -64,6 +65,7 @@ pending_in (Some column) = pending_chunks column.cells.items
 abbrev pub slot_in : Option Open → Option SlotState
 slot_in cell = option_map (λ (o : Open). o.slot) cell
 
+-- The configuration with which a session is open on a row.
 abbrev pub config_in : Option Open → Option Config
 config_in cell = option_map (λ (o : Open). o.config) cell
 

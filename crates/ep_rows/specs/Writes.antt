@@ -1,4 +1,5 @@
--- What the calls of threads make of rows that are told: the change of that row, slot or pool, and of nothing else (this project's profile).
+-- What the calls of threads make of rows that are told: the change of that row, slot or pool, and of nothing else (this
+-- project's profile).
 use Rattle.std.specs.Prelude.{◌≡◌, ℕ, ◌==◌, true, false, if◌then◌else◌, Some}
 use Rattle.ep_defs.specs.declared.session.Write.{Write}
 use Rattle.ep_pool.specs.Counts.{PoolCounts}
@@ -21,6 +22,7 @@ pub record BeginsRow (stamp : ℕ) (write : Write) (old new : RowState) : Type 0
   pub row : new ≡ with_begin old stamp write
   pub rest : KeepsRestWith write old new
 
+-- The row begins this write, and nothing else changes.
 abbrev pub Begins : ℕ → ℕ → Write → ToldRows → ToldRows → Type 0
 Begins row stamp write old new = ChangesAlone row (BeginsRow stamp write) old new
 
@@ -29,6 +31,7 @@ pub record EndsRow (old new : RowState) : Type 0 where
   pub row : new ≡ record old { in_write = false }
   pub rest : KeepsRest old new
 
+-- The row ends its write, and nothing else changes.
 abbrev pub Ends : ℕ → ToldRows → ToldRows → Type 0
 Ends row old new = ChangesAlone row EndsRow old new
 
@@ -37,6 +40,7 @@ pub record LeavesRow (old new : RowState) : Type 0 where
   pub row : new ≡ record old { left = true }
   pub rest : KeepsRest old new
 
+-- The thread of the row leaves, and nothing else changes.
 abbrev pub Leaves : ℕ → ToldRows → ToldRows → Type 0
 Leaves row old new = ChangesAlone row LeavesRow old new
 
@@ -45,6 +49,7 @@ pub record EntersRow (thread : ℕ) (old new : RowState) : Type 0 where
   pub row : new ≡ record old { thread = thread; index = 0; left = false }
   pub rest : KeepsRestAnew old new
 
+-- A thread comes to the row, and nothing else changes.
 abbrev pub Enters : ℕ → ℕ → ToldRows → ToldRows → Type 0
 Enters row thread old new = ChangesAlone row (EntersRow thread) old new
 

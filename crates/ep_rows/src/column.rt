@@ -35,7 +35,7 @@ pub(crate) struct Column {
 }
 
 impl Column {
-    /// The column of a session that is open nowhere, with so many chunks.
+    /// The column of a session that is open nowhere, with this many chunks.
     pub(crate) fn new(alloc: Global, chunks: u32) -> Result<Column, AllocError>
         ensures pool { IfOk result (λ column. column.pool ≡ record { total = chunks; free = chunks }) }
         ensures cells { IfOk result (λ column. column.cells.items ≡ []) }
@@ -64,7 +64,8 @@ impl Column {
         requires place { row ≤ vec_len self.old.cells }
         requires off { cell_at self.old.cells.items row ≡ None }
         requires empty { one.slot.pending.chunks ≡ 0 }
-        ensures cells { (r : ℕ) → cell_at self.new.cells.items r ≡ (if r == row then Some one else cell_at self.old.cells.items r) }
+        ensures cells { (r : ℕ)
+            → cell_at self.new.cells.items r ≡ (if r == row then Some one else cell_at self.old.cells.items r) }
         ensures pool { self.new.pool ≡ self.old.pool }
         ensures chunks { pending_chunks self.new.cells.items ≡ pending_chunks self.old.cells.items }
     {
@@ -80,9 +81,11 @@ impl Column {
         requires held { ForSome (cell_at self.old.cells.items number) (CanShow row.old slot self.old.pool) }
         requires fits { IsTrue (valid.fits write.now) }
         ensures shown { ShownIn slot write.now result row.old row.new self.old.pool self.new.pool (cell_at self.old.cells.items number) (cell_at self.new.cells.items number) }
-        ensures others { (r : ℕ) → cell_at self.new.cells.items r ≡ (if r == number then cell_at self.new.cells.items number else cell_at self.old.cells.items r) }
+        ensures others { (r : ℕ) → cell_at self.new.cells.items r
+            ≡ (if r == number then cell_at self.new.cells.items number else cell_at self.old.cells.items r) }
         ensures bounded { row.new.due < 2 ^ 64 }
-        ensures chunks { pending_chunks self.new.cells.items + self.new.pool.free ≡ pending_chunks self.old.cells.items + self.old.pool.free }
+        ensures chunks { pending_chunks self.new.cells.items + self.new.pool.free
+            ≡ pending_chunks self.old.cells.items + self.old.pool.free }
     {
         let place = number as usize - 1;
         show_in(&mut self.cells[place], &mut self.pool, row, slot, write)
@@ -93,9 +96,11 @@ impl Column {
         requires number { 0 < number }
         requires agree { option_map (λ o. hand_of o.slot) (cell_at self.old.cells.items number) ≡ Some hand.old }
         ensures stolen { StolenIn hand.old hand.new result (cell_at self.old.cells.items number) (cell_at self.new.cells.items number) }
-        ensures others { (r : ℕ) → cell_at self.new.cells.items r ≡ (if r == number then cell_at self.new.cells.items number else cell_at self.old.cells.items r) }
+        ensures others { (r : ℕ) → cell_at self.new.cells.items r
+            ≡ (if r == number then cell_at self.new.cells.items number else cell_at self.old.cells.items r) }
         ensures pool { self.new.pool ≡ self.old.pool }
-        ensures chunks { pending_chunks self.new.cells.items + length result.chain ≡ pending_chunks self.old.cells.items }
+        ensures chunks { pending_chunks self.new.cells.items + length result.chain
+            ≡ pending_chunks self.old.cells.items }
     {
         steal_in(&mut self.cells[number as usize - 1], hand)
     }
@@ -105,9 +110,11 @@ impl Column {
         requires number { 0 < number }
         requires some { IsSome (cell_at self.old.cells.items number) }
         ensures is { cell_at self.old.cells.items number ≡ Some result }
-        ensures others { (r : ℕ) → cell_at self.new.cells.items r ≡ (if r == number then None else cell_at self.old.cells.items r) }
+        ensures others { (r : ℕ)
+            → cell_at self.new.cells.items r ≡ (if r == number then None else cell_at self.old.cells.items r) }
         ensures pool { self.new.pool ≡ self.old.pool }
-        ensures chunks { pending_chunks self.new.cells.items + result.slot.pending.chunks ≡ pending_chunks self.old.cells.items }
+        ensures chunks { pending_chunks self.new.cells.items + result.slot.pending.chunks
+            ≡ pending_chunks self.old.cells.items }
     {
         match mem::replace(&mut self.cells[number as usize - 1], None) {
             Some(one) => one,
@@ -118,7 +125,8 @@ impl Column {
     /// Gives chunks back to the session.
     pub(crate) fn give(&mut self, chain: Chain)
         requires { length chain + pending_chunks self.old.cells.items + self.old.pool.free ≤ self.old.pool.total }
-        ensures pool { self.new.pool ≡ record self.old.pool { free = min self.old.pool.total (self.old.pool.free + length chain) } }
+        ensures pool { self.new.pool
+            ≡ record self.old.pool { free = min self.old.pool.total (self.old.pool.free + length chain) } }
         ensures cells { self.new.cells ≡ self.old.cells }
     {
         self.pool.give(chain);

@@ -45,7 +45,8 @@ fn put(column: &mut Option<Column>, number: u32, one: Open)
     requires place { HasPlace number column.old }
     requires off { cell_in column.old number ≡ None }
     requires empty { one.slot.pending.chunks ≡ 0 }
-    ensures cells { (r : ℕ) → cell_in column.new r ≡ (if r == number then Some one else cell_in column.old r) }
+    ensures cells { (r : ℕ)
+        → cell_in column.new r ≡ (if r == number then Some one else cell_in column.old r) }
     ensures pool { pool_in column.new ≡ pool_in column.old }
     ensures chunks { pending_in column.new ≡ pending_in column.old }
 {
@@ -77,7 +78,8 @@ pub(crate) fn attach(
     ensures hand { IfOk result (λ hand. hand ≡ first_hand session row.old.thread row.old.index) }
     ensures opens { OnOk result (OpensRow events.now slot session config.now row.old row.new) }
     ensures known { OnOk result (HasOpen row.new slot (opened session row.old.thread row.old.index config.now.chunks)) }
-    ensures cells { OnOk result ((r : ℕ) → cell_in column.new r ≡ (if r == number then Some (opened_with session row.old config.now) else cell_in column.old r)) }
+    ensures cells { OnOk result ((r : ℕ) → cell_in column.new r
+        ≡ (if r == number then Some (opened_with session row.old config.now) else cell_in column.old r)) }
     ensures same { OnErr result ((r : ℕ) → cell_in column.new r ≡ cell_in column.old r) }
     ensures row { OnErr result (row.new ≡ row.old) }
     ensures pool { pool_in column.new ≡ pool_in column.old }
@@ -99,7 +101,8 @@ pub(crate) fn steal(column: &mut Option<Column>, number: u32, hand: &mut Hand) -
     requires number { 0 < number }
     requires agree { option_map (λ o. hand_of o.slot) (cell_in column.old number) ≡ Some hand.old }
     ensures stolen { StolenIn hand.old hand.new result (cell_in column.old number) (cell_in column.new number) }
-    ensures others { (r : ℕ) → cell_in column.new r ≡ (if r == number then cell_in column.new number else cell_in column.old r) }
+    ensures others { (r : ℕ)
+        → cell_in column.new r ≡ (if r == number then cell_in column.new number else cell_in column.old r) }
     ensures pool { pool_in column.new ≡ pool_in column.old }
     ensures chunks { pending_in column.new + length result.chain ≡ pending_in column.old }
 {
@@ -138,7 +141,8 @@ pub(crate) fn detach(
 /// Gives chunks back to the session, which took them before.
 pub(crate) fn give(column: &mut Option<Column>, chain: Chain)
     requires { length chain ≤ (pool_in column.old).total - (pool_in column.old).free - pending_in column.old }
-    ensures pool { pool_in column.new ≡ record (pool_in column.old) { free = min (pool_in column.old).total ((pool_in column.old).free + length chain) } }
+    ensures pool { pool_in column.new
+        ≡ record (pool_in column.old) { free = min (pool_in column.old).total ((pool_in column.old).free + length chain) } }
     ensures cells { (r : ℕ) → cell_in column.new r ≡ cell_in column.old r }
     ensures chunks { pending_in column.new ≡ pending_in column.old }
 {
@@ -162,9 +166,11 @@ pub(crate) fn show(
     requires held { ForSome (cell_in column.old number) (CanShow row.old slot (pool_in column.old)) }
     requires fits { IsTrue (valid.fits write.now) }
     ensures shown { ShownIn slot write.now result row.old row.new (pool_in column.old) (pool_in column.new) (cell_in column.old number) (cell_in column.new number) }
-    ensures others { (r : ℕ) → cell_in column.new r ≡ (if r == number then cell_in column.new number else cell_in column.old r) }
+    ensures others { (r : ℕ)
+        → cell_in column.new r ≡ (if r == number then cell_in column.new number else cell_in column.old r) }
     ensures bounded { row.new.due < 2 ^ 64 }
-    ensures chunks { pending_in column.new + (pool_in column.new).free ≡ pending_in column.old + (pool_in column.old).free }
+    ensures chunks { pending_in column.new + (pool_in column.new).free
+        ≡ pending_in column.old + (pool_in column.old).free }
 {
     match column {
         Some(column) => column.show(number, row, slot, write),

@@ -110,7 +110,9 @@ impl Rows {
         ensures row { IfSome result (λ row. IsRow ROWS row) }
         ensures left { IfSome result (λ row. ((told_of self.now).row row).left ≡ true) }
         ensures off { IfSome result (λ row. All IsNone ((told_of self.now).row row).slots) }
-        ensures none { IfNone result ((r : ℕ) → IsRow ROWS r → ((told_of self.now).row r).left ≡ true → All IsNone ((told_of self.now).row r).slots → ⊥) }
+        ensures none { IfNone result ((r : ℕ) → IsRow ROWS r
+            → ((told_of self.now).row r).left ≡ true
+            → All IsNone ((told_of self.now).row r).slots → ⊥) }
     {
         let place = self
             .rows
@@ -128,11 +130,14 @@ impl Rows {
         &self.rows[row as usize - 1]
     }
 
-    /// Gives a session the slot, where none is, with so many chunks. Out of memory it has none.
+    /// Gives a session the slot, where none is, with this many chunks. Out of memory it has none.
     pub fn seat(&mut self, alloc: Global, slot: u32, chunks: u32) -> Result<(), AllocError>
         requires slot { slot < SESSIONS }
         requires off { (r : ℕ) → (told_of self.old).slot r slot ≡ None }
-        ensures seated { OnOk result (SetsPool slot (record { total = chunks; free = chunks }) (told_of self.old) (told_of self.new)) }
+        ensures seated { OnOk result (SetsPool slot (record {
+          total = chunks;
+          free = chunks;
+        }) (told_of self.old) (told_of self.new)) }
         ensures cleared { OnOk result (ClearsSlot slot self.old self.new) }
         ensures err { OnErr result (self.new ≡ self.old) }
         ensures definitions { definitions_of self.new ≡ definitions_of self.old }
@@ -212,7 +217,8 @@ impl Rows {
         requires due { bit_at ((told_of self.old).row row).due slot ≡ 1 }
         requires some { IsSome ((told_of self.old).slot row slot) }
         requires few { ForSome ((told_of self.old).slot row slot) (λ buffer. buffer.used < WRITES) }
-        requires total { ForSome ((told_of self.old).slot row slot) (λ buffer. ((told_of self.old).pool slot).total ≡ buffer.chunks) }
+        requires total { ForSome ((told_of self.old).slot row slot) (λ buffer. ((told_of self.old).pool slot).total
+            ≡ buffer.chunks) }
         requires event { 0 < write.now.event }
         requires events { write.now.event ≤ length (definitions_of self.old) }
         requires fits { IsTrue (valid.fits write.now) }
@@ -231,7 +237,7 @@ impl Rows {
     }
 }
 
-// The rows of threads 1 to `limits::THREADS`, in a program of so many events.
+// The rows of threads 1 to `limits::THREADS`, in a program of this many events.
 fn new_rows(alloc: Global, events: u32) -> Result<Vec<Row>, AllocError>
     ensures count { IfOk result (λ rows. length rows.items ≡ ROWS) }
     ensures rows { IfOk result (λ rows. (r : ℕ) → IsRow ROWS r → row_at rows.items r ≡ new_row r events) }

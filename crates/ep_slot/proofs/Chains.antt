@@ -6,6 +6,7 @@ use Rattle.std.proofs.lemmas.List.{append-nil, set_at, get_or_at}
 use Rattle.std.proofs.lemmas.List.Concat.{flat_map-append}
 use Rattle.std.proofs.lemmas.List.Elements.{All-nil, All-cons, All-head, All-tail, All-push}
 use Rattle.std.proofs.lemmas.Bool.{true≢false, false≢true, or_parts, eqb-false, ltb-true, ltb-false, ne_eqb}
+use Rattle.ep_defs.specs.declared.limits.TheConstants.{CHUNK_BYTES}
 use Rattle.ep_chunk.specs.Record.{Record, size_of, total_size}
 use Rattle.ep_chunk.proofs.Holding.{total_size-push}
 use Rattle.ep_model.specs.Budget.{Pending, needs_chunk, pending_with}
@@ -69,22 +70,22 @@ set-either chain chunk left r kept some h =
     ]
 
 -- A record is kept in the last chunk where it needs no other.
-pub room-is : (chain : List (List Record)) (chunk : List Record) (size : ℕ) (kept : Bool) → 0 < length chain → chunk ≡ slice_index_or chain (length chain - 1) chunk → (IsTrue kept ↔ (total_size chunk + size ≤ 65536)) → kept ≡ not (needs_chunk (pending_of chain) size)
+pub room-is : (chain : List (List Record)) (chunk : List Record) (size : ℕ) (kept : Bool) → 0 < length chain → chunk ≡ slice_index_or chain (length chain - 1) chunk → (IsTrue kept ↔ (total_size chunk + size ≤ CHUNK_BYTES)) → kept ≡ not (needs_chunk (pending_of chain) size)
 room-is chain chunk size kept some h fits =
     let e = ends chain some in
     let same : total_size chunk ≡ last_size chain =
     ap total_size (last-is chain chunk e h) ∙ sym (last_size-is e.front e.last) ∙ ap last_size (sym e.is)
     in
     let any : (length chain == 0) ≡ false = ne_eqb (length chain) 0 (λ z. omega arith) in
-    let lacks : Bool = nat_lt 65536 (last_size chain + size) in
+    let lacks : Bool = nat_lt CHUNK_BYTES (last_size chain + size) in
     let by_room : kept ≡ not lacks =
-    elim (nat_lt 65536 (last_size chain + size)) as (λ v. nat_lt 65536 (last_size chain + size) ≡ v → kept ≡ not v) [
-      | true ↦ λ is. elim kept as (λ k. (IsTrue k ↔ (total_size chunk + size ≤ 65536)) → k ≡ false) [
-        | true ↦ λ f. let lt = ltb-true 65536 (last_size chain + size) is in let le = f.0 refl in absurd (omega arith)
+    elim (nat_lt CHUNK_BYTES (last_size chain + size)) as (λ v. nat_lt CHUNK_BYTES (last_size chain + size) ≡ v → kept ≡ not v) [
+      | true ↦ λ is. elim kept as (λ k. (IsTrue k ↔ (total_size chunk + size ≤ CHUNK_BYTES)) → k ≡ false) [
+        | true ↦ λ f. let lt = ltb-true CHUNK_BYTES (last_size chain + size) is in let le = f.0 refl in absurd (omega arith)
         | false ↦ λ f. refl
       ]
           fits
-      | false ↦ λ is. let le = ltb-false 65536 (last_size chain + size) is in fits.1 (omega arith)
+      | false ↦ λ is. let le = ltb-false CHUNK_BYTES (last_size chain + size) is in fits.1 (omega arith)
     ]
     refl
     in
@@ -94,7 +95,7 @@ room-is chain chunk size kept some h fits =
 
 some-chunk : (chain : List (List Record)) (size : ℕ) → needs_chunk (pending_of chain) size ≡ false → 0 < length chain
 some-chunk chain size h =
-    let parts = or_parts (length chain == 0) (nat_lt 65536 (last_size chain + size)) h in
+    let parts = or_parts (length chain == 0) (nat_lt CHUNK_BYTES (last_size chain + size)) h in
     let ne = eqb-false (length chain) 0 parts.0 in
     omega arith
 

@@ -2,6 +2,7 @@
 use Rattle.std.proofs.Common.{◌≡◌, ℕ, ◌+◌, ◌<◌, ◌≤◌, List, [], ◌∷◌, ◌++◌, length, refl, ap, sym, subst, arith, length-append}
 use Rattle.std.specs.List.{All}
 use Rattle.std.proofs.lemmas.List.Elements.{All-nil, All-push}
+use Rattle.ep_defs.specs.declared.limits.TheConstants.{WRITES}
 use Rattle.ep_chunk.specs.Record.{Record}
 use Rattle.ep_model.specs.Budget.{Pending}
 use Rattle.ep_slot.specs.Chain.{records_of, HasRecords}
@@ -20,7 +21,7 @@ rising-push below most [] r is rising = (omega arith, omega arith)
 rising-push below most (first ∷ records) r is rising = (rising.0, rising-push first.number most records r is rising.1)
 
 -- A slot with one record more.
-pub held-record : (pending : ℕ) (old : SlotState) (chain chain' : List (List Record)) (r : Record) (budget : Pending) → IsHeld pending old chain → records_of chain' ≡ old.records ++ r ∷ [] → r.number ≡ old.used + 1 → r.thread ≡ old.thread → old.used < 4000000000 → All HasRecords chain' → IsHeld (pending + 1) (record old { used = old.used + 1; records = records_of chain'; pending = budget }) chain'
+pub held-record : (pending : ℕ) (old : SlotState) (chain chain' : List (List Record)) (r : Record) (budget : Pending) → IsHeld pending old chain → records_of chain' ≡ old.records ++ r ∷ [] → r.number ≡ old.used + 1 → r.thread ≡ old.thread → old.used < WRITES → All HasRecords chain' → IsHeld (pending + 1) (record old { used = old.used + 1; records = records_of chain'; pending = budget }) chain'
 held-record pending old chain chain' r budget held is number thread few filled =
     let k = held.kept in
     let len : length (records_of chain') ≡ length old.records + 1 = omega (arith, ap (length {A = Record}) is, length-append old.records (r ∷ [])) in
@@ -41,7 +42,7 @@ held-record pending old chain chain' r budget held is number thread few filled =
     }
 
 -- A slot with one refusal more.
-pub held-refusal : (pending : ℕ) (old : SlotState) (chain chain' : List (List Record)) (budget : Pending) → IsHeld pending old chain → old.used < 4000000000 → records_of chain' ≡ old.records → All HasRecords chain' → IsHeld pending (record old { used = old.used + 1; refused = old.refused + 1; records = records_of chain'; pending = budget }) chain'
+pub held-refusal : (pending : ℕ) (old : SlotState) (chain chain' : List (List Record)) (budget : Pending) → IsHeld pending old chain → old.used < WRITES → records_of chain' ≡ old.records → All HasRecords chain' → IsHeld pending (record old { used = old.used + 1; refused = old.refused + 1; records = records_of chain'; pending = budget }) chain'
 held-refusal pending old chain chain' budget held few is filled =
     let k = held.kept in
     let len : length (records_of chain') ≡ length old.records = ap (length {A = Record}) is in

@@ -5,6 +5,7 @@ use Rattle.ep_chunk.specs.Record.{Record}
 use Rattle.ep_slot.specs.Chain.{HasRecords}
 use Rattle.ep_slot.specs.Slot.{SlotState, IsKept}
 
+-- The chain has the records of the slot, of which this many are pending.
 pub record IsHeld (pending : ℕ) (slot : SlotState) (chain : List (List Record)) : Type 0 where
   pub kept : IsKept slot
   -- the records are counted

@@ -1,4 +1,6 @@
+-- to be believed
 pub mod Chain
 pub mod Slot
 pub mod Hand
+-- what private fields stand for
 pub mod Held

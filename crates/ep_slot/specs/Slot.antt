@@ -85,7 +85,7 @@ with_steal slot =
       pending = no_pending;
     }
 
--- What a session had of a thread that has made so many writes when the session is closed on it.
+-- What a session had of a thread that has made this many writes when the session is closed on it.
 abbrev pub marks_of : SlotState → ℕ → Marks
 marks_of slot to =
     record {
@@ -103,10 +103,12 @@ counts_of slot =
 
 -- ---- what is shown
 
+-- The number that a write used.
 abbrev pub number_of : Shown → ℕ
 number_of (Written number) = number
 number_of (Refused number) = number
 
+-- The write was refused.
 abbrev pub is_refused : Shown → Bool
 is_refused (Written number) = false
 is_refused (Refused number) = true

@@ -35,11 +35,13 @@ pub(crate) fn keep<P: Purse>(chain: &mut Chain, pool: &mut P, rec: &RecIn) -> bo
     requires few { length chain.old + 1 < 2 ^ 32 }
     requires fits { size_of (record_of rec.now) ≤ CHUNK_LEN }
     requires can_take { P.can_take pool.old }
-    ensures records { records_of chain.new ≡ (if result then records_of chain.old ++ record_of rec.now ∷ [] else records_of chain.old) }
+    ensures records { records_of chain.new
+        ≡ (if result then records_of chain.old ++ record_of rec.now ∷ [] else records_of chain.old) }
     ensures pending { pending_of chain.new
         ≡ (if result then pending_with (pending_of chain.old) (size_of (record_of rec.now)) else pending_of chain.old) }
     ensures filled { All HasRecords chain.old → All HasRecords chain.new }
-    ensures needs { result ≡ false → IsTrue (needs_chunk (pending_of chain.old) (size_of (record_of rec.now))) }
+    ensures needs { result ≡ false
+        → IsTrue (needs_chunk (pending_of chain.old) (size_of (record_of rec.now))) }
     ensures none { result ≡ false → P.found_none pool.old pool.new }
     ensures taken { P.taken pool.new
         ≡ P.taken pool.old

@@ -4,8 +4,8 @@
 //! chunks are spent; a steal hands over every record that is pending. It stands on the chunks' pools and on the model.
 //!
 //! Its one contract: the used numbers are those that were taken, are pending or were refused, and a write is refused
-//! exactly where it needs a chunk (`needs_chunk` of ep_model) and its purse found none. `specs/Slot` says what a slot is
-//! and what each call makes of it, `specs/Hand` when a slot and a hand agree. No call but `pair` takes memory.
+//! exactly where it needs a chunk (`needs_chunk` of ep_model) and its purse found none. `specs/Slot` says what a slot
+//! is and what each call makes of it, `specs/Hand` when a slot and a hand agree. No call but `pair` takes memory.
 #![tactic(auto)]
 
 mod hand;

@@ -32,7 +32,7 @@ pub struct Slot {
     chain: Chain,
 }
 
-/// The slot of a session on a thread that has made so many writes, and its hand. The session has so many chunks.
+/// The slot of a session on a thread that has made this many writes, and its hand. The session has this many chunks.
 pub fn pair(
     alloc: Global,
     session: u64,
@@ -90,7 +90,8 @@ impl Slot {
         ensures number { number_of result ≡ self.old.used + 1 }
         ensures used { self.new.used ≡ self.old.used + 1 }
         ensures hand { hand_of self.new ≡ hand_of self.old }
-        ensures slot { self.new ≡ (if is_refused result then with_refusal self.old else with_record self.old stamp write.now) }
+        ensures slot { self.new
+            ≡ (if is_refused result then with_refusal self.old else with_record self.old stamp write.now) }
         ensures refused { IsTrue (is_refused result)
             ↔ (IsTrue (needs_chunk self.old.pending (record_size write.now)) × P.found_none pool.old pool.new) }
         ensures taken { P.taken pool.new
@@ -144,8 +145,8 @@ impl Slot {
         }
     }
 
-    /// Takes all records that are pending, and says what the session had of the thread, which has made so many writes.
-    /// It takes no memory.
+    /// Takes all records that are pending, and says what the session had of the thread, which has made this many
+    /// writes. It takes no memory.
     pub fn close(self, hand: Hand, to: u32) -> (Batch, Marks)
         requires { Agrees self hand }
         ensures records { records_of result.0.chain ≡ self.records }

@@ -8,7 +8,7 @@ use ep_pool::{OwnPool, Purse};
 use std::process::Abort;
 use std::test::Fail;
 
-// A write with so many frames and bytes of payload.
+// A write with this many frames and bytes of payload.
 fn write_of(rt: &(impl Abort + AllocGlobal), frames: usize, payload: usize) -> Result<Write, Fail> {
     Ok(Write {
         event: 1,

@@ -3,6 +3,7 @@ use Rattle.std.proofs.Common.{◌≡◌, ℕ, true, false, List, [], ◌∷◌, 
 use Rattle.std.specs.Prelude.{◌==◌, remove}
 use Rattle.std.specs.List.{AllByRecursion}
 use Rattle.std.proofs.lemmas.Bool.{eqb-false, ne_eqb}
+use Rattle.ep_defs.specs.declared.limits.TheConstants.{THREADS}
 use Rattle.ep_defs.specs.Definitions.{definition_at}
 use Rattle.ep_defs.specs.declared.event.EventDef.{EventDef}
 use Rattle.ep_defs.specs.declared.session.TraceInfo.{TraceInfo}
@@ -45,7 +46,7 @@ all_before events info s past old h = all_both (SessionStands events info past (
 
 -- What is said of a session is said by this number and slot.
 pub record StandsAs (events : List EventDef) (info : TraceInfo) (past : Past) (told : ToldRows) (number slot : ℕ) (p : Present) : Type 0 where
-  pub slots : (r : ℕ) → IsRow 256 r → (b : SlotState) → told.slot r slot ≡ Some b → SlotFollows events past number b
+  pub slots : (r : ℕ) → IsRow THREADS r → (b : SlotState) → told.slot r slot ≡ Some b → SlotFollows events past number b
   pub pool : PoolFollows past number (told.pool slot)
   pub rest : RestFollows past (rest_of p.session)
   pub telling : IsTelling (λ (s : SinkState). true) (λ (s : SinkState). s.taken) [] (definition_at events) info (entries events number past) (writer_of p.session)

@@ -2,6 +2,7 @@
 use Rattle.std.proofs.Common.{◌≡◌, ℕ, Bool, true, false, inl, inr, Option, Some, None, refl, ap, sym, ◌∙◌, subst}
 use Rattle.std.specs.Prelude.{◌==◌, if◌then◌else◌, is_some}
 use Rattle.std.proofs.lemmas.Bool.{eq-eqb, ne_eqb, and_from, and_left, and_right, cases_eq}
+use Rattle.ep_defs.specs.declared.limits.TheConstants.{THREADS}
 use Rattle.ep_row.specs.Row.{RowState, slot_of}
 use Rattle.ep_slot.specs.Slot.{SlotState}
 use Rattle.ep_stream.specs.Rows.{IsRow, IsSetAt}
@@ -28,8 +29,8 @@ set_off_slot row slot value old new sets s other r =
 -- What holds of the value that is set, and of what stands in the slot on other rows, holds of all that stands in the slot.
 pub each_slot : (row slot : ℕ) (value : Option SlotState) (old new : ToldRows) (P : SlotState → Type 0) → IsSetAt row slot value old.slot new.slot
     → ((b : SlotState) → value ≡ Some b → P b)
-    → ((r : ℕ) → IsRow 256 r → (r ≡ row → ⊥) → (b : SlotState) → old.slot r slot ≡ Some b → P b)
-    → (r : ℕ) → IsRow 256 r → (b : SlotState) → new.slot r slot ≡ Some b → P b
+    → ((r : ℕ) → IsRow THREADS r → (r ≡ row → ⊥) → (b : SlotState) → old.slot r slot ≡ Some b → P b)
+    → (r : ℕ) → IsRow THREADS r → (b : SlotState) → new.slot r slot ≡ Some b → P b
 each_slot row slot value old new P sets here others r is_row b at =
     elim (cases_eq r row) [
       | inl same ↦ let At : ℕ → Type 0 = λ n. new.slot n slot ≡ Some b in here b (sym (set_here row slot value old.slot new.slot sets) ∙ subst At same at)

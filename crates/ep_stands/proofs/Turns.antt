@@ -4,6 +4,7 @@ use Rattle.std.specs.Prelude.{◌⊎◌, ◌==◌, min, option_map, if◌then◌
 use Rattle.std.specs.Option.{option_map_or}
 use Rattle.std.proofs.lemmas.Bool.{and_right, eq-eqb, ne_eqb}
 use Rattle.std.proofs.Math.Nat.{min-eq_right}
+use Rattle.ep_defs.specs.declared.limits.TheConstants.{THREADS}
 use Rattle.ep_defs.specs.Definitions.{definition_at}
 use Rattle.ep_defs.specs.Entry.{Entry, Event, Point}
 use Rattle.ep_defs.specs.declared.event.EventDef.{EventDef}
@@ -50,7 +51,7 @@ use Rattle.ep_stands.proofs.Sessions.{StandsAs, Placed}
 -- What the session has on the rows of other threads.
 pub other_rows : SlotStays → (events : List EventDef) (info : TraceInfo) (s : Step) (past : Past) (old : Tables) (session thread row slot : ℕ) (was : Present) → StandBefore events info s past old → OwnRow past old thread row
     → ((n : ℕ) → (thread == n) ≡ false → changes_slot session n s ≡ false) → StandsAs events info past (told_of old.rows) session slot was
-    → (r : ℕ) → IsRow 256 r → (r ≡ row → ⊥) → (b : SlotState) → (told_of old.rows).slot r slot ≡ Some b → SlotFollows events (s ∷ past) session b
+    → (r : ℕ) → IsRow THREADS r → (r ≡ row → ⊥) → (b : SlotState) → (told_of old.rows).slot r slot ≡ Some b → SlotFollows events (s ∷ past) session b
 other_rows slot_stays events info s past old session thread row slot was h own off stands r is_row other b at =
     let Off : ℕ → Type 0 = λ n. (thread == n) ≡ false in
     slot_stays events past session b s h.lawful (off b.thread (subst Off (sym (row_thread old.rows r slot b at)) (own.others r is_row other))) (stands.slots r is_row b at)

@@ -25,13 +25,15 @@ use Rattle.ep_kept.specs.Kept.{SlotFollows, PoolFollows}
 use Rattle.ep_told.specs.Kept.{RestFollows}
 use Rattle.ep_told.specs.Makers.{is_made_by}
 
--- What a session that is present has on the rows, in its pool, in its memory and in its stream is what the steps so far say.
+-- What a session that is present has on the rows, in its pool, in its memory and in its stream is what the steps so far
+-- say.
 pub record SessionStands (events : List EventDef) (info : TraceInfo) (past : Past) (told : ToldRows) (present : Present) : Type 0 where
   pub slots : (r : ℕ) → IsRow THREADS r → (slot : SlotState) → told.slot r present.slot ≡ Some slot → SlotFollows events past present.number slot
   pub pool : PoolFollows past present.number (told.pool present.slot)
   pub rest : RestFollows past (rest_of present.session)
   pub telling : IsTelling (λ (s : SinkState). true) (λ (s : SinkState). s.taken) [] (definition_at events) info (entries events present.number past) (writer_of present.session)
 
+-- What the tables have of each session that is present is what the steps so far say.
 abbrev pub SessionsStand : List EventDef → TraceInfo → Past → Tables → Type 0
 SessionsStand events info past tables = AllByRecursion (SessionStands events info past (told_of tables.rows)) tables.present.items
 

@@ -44,7 +44,8 @@ use ep_told::{
 
 /// A session stands through a step that is not for it, if what is in its slot stays.
 pub fn a_session_stands_through_other_steps()
-    ensures { (events : List EventDef) (info : TraceInfo) (past : Past) (step : Step) (old new : ToldRows) (present : Present)
+    ensures { (events : List EventDef) (info : TraceInfo) (past : Past) (step : Step)
+        (old new : ToldRows) (present : Present)
         → IsLawful events (step ∷ past) → is_for present.number step ≡ false
         → (rest_of present.session).seat.id ≡ present.number → KeepsSlot present.slot old new
         → SessionStands events info past old present → SessionStands events info (step ∷ past) new present }
@@ -64,7 +65,8 @@ pub fn sessions_stand_after_steps_of_threads()
         → SessionsStand events info (Leave thread ∷ past) new }
     ensures begins { (events : List EventDef) (info : TraceInfo) (past : Past) (thread stamp : ℕ)
         (write : Write) (old new : Tables) → StandBefore events info (Begin thread stamp write) past old
-        → MakesBegin thread stamp write old new → SessionsStand events info (Begin thread stamp write ∷ past) new }
+        → MakesBegin thread stamp write old new
+        → SessionsStand events info (Begin thread stamp write ∷ past) new }
     ensures ends { (events : List EventDef) (info : TraceInfo) (past : Past) (thread : ℕ) (old new : Tables)
         → StandBefore events info (End thread) past old → MakesEnd thread old new
         → SessionsStand events info (End thread ∷ past) new }
@@ -76,7 +78,8 @@ pub fn sessions_stand_after_steps_of_threads()
 
 /// Once a session was accepted.
 pub fn sessions_stand_after_an_accept()
-    ensures { (events : List EventDef) (info : TraceInfo) (past : Past) (session : ℕ) (config : Config) (old new : Tables)
+    ensures { (events : List EventDef) (info : TraceInfo) (past : Past) (session : ℕ)
+        (config : Config) (old new : Tables)
         → StandBefore events info (Accept session config) past old → MakesAccept session config info old new
         → SessionsStand events info (Accept session config ∷ past) new }
 {
@@ -87,7 +90,8 @@ pub fn sessions_stand_after_an_accept()
 
 /// Once a session was opened on a thread.
 pub fn sessions_stand_after_an_open()
-    ensures { (events : List EventDef) (info : TraceInfo) (past : Past) (session thread : ℕ) (old new : Tables)
+    ensures { (events : List EventDef) (info : TraceInfo) (past : Past) (session thread : ℕ)
+        (old new : Tables)
         → StandBefore events info (Open session thread) past old → MakesOpen session thread old new
         → SessionsStand events info (Open session thread ∷ past) new }
 {
@@ -100,8 +104,10 @@ pub fn sessions_stand_after_an_open()
 
 /// Once a write was shown to a session: the last one that its thread began.
 pub fn sessions_stand_after_a_show()
-    ensures { (events : List EventDef) (info : TraceInfo) (past : Past) (thread session : ℕ) (write : Write) (old new : Tables)
-        → StandBefore events info (Show thread session) past old → (makes : MakesShow thread session write old new)
+    ensures { (events : List EventDef) (info : TraceInfo) (past : Past) (thread session : ℕ)
+        (write : Write) (old new : Tables)
+        → StandBefore events info (Show thread session) past old
+        → (makes : MakesShow thread session write old new)
         → IsLast thread past ((told_of old.rows).row makes.row).stamp write
         → SessionsStand events info (Show thread session ∷ past) new }
 {
@@ -114,7 +120,8 @@ pub fn sessions_stand_after_a_show()
 
 /// Once a session took what a thread has pending.
 pub fn sessions_stand_after_a_steal()
-    ensures { (events : List EventDef) (info : TraceInfo) (past : Past) (session thread : ℕ) (old new : Tables)
+    ensures { (events : List EventDef) (info : TraceInfo) (past : Past) (session thread : ℕ)
+        (old new : Tables)
         → StandBefore events info (Steal session thread) past old → MakesSteal session thread old new
         → SessionsStand events info (Steal session thread ∷ past) new }
 {
@@ -153,7 +160,8 @@ pub fn sessions_stand_after_a_point()
 
 /// Once a session was closed on a thread.
 pub fn sessions_stand_after_a_close()
-    ensures { (events : List EventDef) (info : TraceInfo) (past : Past) (session thread : ℕ) (old new : Tables)
+    ensures { (events : List EventDef) (info : TraceInfo) (past : Past) (session thread : ℕ)
+        (old new : Tables)
         → StandBefore events info (Close session thread) past old → MakesClose session thread old new
         → SessionsStand events info (Close session thread ∷ past) new }
 {
@@ -182,14 +190,16 @@ pub fn sessions_stand_at_the_start()
         → SessionsStand events info [] tables }
 {}
 
-/// A session that finishes leaves the marks that the steps so far say (`marks`), and where its end is the program's, the one
-/// stream of its entries (`stream`).
+/// A session that finishes leaves the marks that the steps so far say (`marks`), and where its end is the program's,
+/// the one stream of its entries (`stream`).
 pub fn a_session_ends_with_its_entries()
-    ensures marks { (events : List EventDef) (info : TraceInfo) (past : Past) (session stamp : ℕ) (tables : Tables)
+    ensures marks { (events : List EventDef) (info : TraceInfo) (past : Past) (session stamp : ℕ)
+        (tables : Tables)
         (end : SessionEnd SinkState) → StandBefore events info (Finish session stamp) past tables
         → EndsAs session stamp tables end
         → end.marks ≡ marks_of session (Finish session stamp ∷ past) }
-    ensures stream { (events : List EventDef) (info : TraceInfo) (past : Past) (session stamp : ℕ) (tables : Tables)
+    ensures stream { (events : List EventDef) (info : TraceInfo) (past : Past) (session stamp : ℕ)
+        (tables : Tables)
         (end : SessionEnd SinkState) → StandBefore events info (Finish session stamp) past tables
         → EndsAs session stamp tables end
         → end.fate ≡ ProgramEnd
@@ -201,7 +211,8 @@ pub fn a_session_ends_with_its_entries()
 
 /// What a session has pending on a thread's row is what its budget counts of the thread.
 pub fn what_is_pending_is_counted()
-    ensures { (events : List EventDef) (info : TraceInfo) (step : Step) (past : Past) (session thread row place : ℕ)
+    ensures { (events : List EventDef) (info : TraceInfo) (step : Step) (past : Past)
+        (session thread row place : ℕ)
         (present : Present) (tables : Tables) → StandBefore events info step past tables
         → IsRow THREADS row → row_of tables thread ≡ Some row → StandsAt session tables place present
         → PendingFollows past session thread (told_of tables.rows) row present.slot }
@@ -209,7 +220,8 @@ pub fn what_is_pending_is_counted()
 
 /// A session can take the write that is due to it.
 pub fn a_due_write_can_be_taken()
-    ensures { (events : List EventDef) (info : TraceInfo) (past : Past) (thread session stamp : ℕ) (write : Write)
+    ensures { (events : List EventDef) (info : TraceInfo) (past : Past) (thread session stamp : ℕ)
+        (write : Write)
         (tables : Tables) → StandBefore events info (Show thread session) past tables
         → IsLast thread past stamp write → CanTake thread session write tables }
 {
@@ -219,13 +231,17 @@ pub fn a_due_write_can_be_taken()
 
 /// No session runs out of stack ids: it has told no more events than writes were begun, and there are as many ids.
 pub fn stack_ids_suffice()
-    ensures steal { (events : List EventDef) (info : TraceInfo) (past : Past) (session thread : ℕ) (tables : Tables)
+    ensures steal { (events : List EventDef) (info : TraceInfo) (past : Past) (session thread : ℕ)
+        (tables : Tables)
         → StandBefore events info (Steal session thread) past tables → RunsOut session thread tables → ⊥ }
-    ensures close { (events : List EventDef) (info : TraceInfo) (past : Past) (session thread : ℕ) (tables : Tables)
+    ensures close { (events : List EventDef) (info : TraceInfo) (past : Past) (session thread : ℕ)
+        (tables : Tables)
         → StandBefore events info (Close session thread) past tables → RunsOut session thread tables → ⊥ }
-    ensures point { (events : List EventDef) (info : TraceInfo) (past : Past) (session stamp : ℕ) (tables : Tables)
+    ensures point { (events : List EventDef) (info : TraceInfo) (past : Past) (session stamp : ℕ)
+        (tables : Tables)
         → StandBefore events info (Point session stamp) past tables → PointRunsOut session stamp tables → ⊥ }
-    ensures end { (events : List EventDef) (info : TraceInfo) (past : Past) (session stamp : ℕ) (tables : Tables)
+    ensures end { (events : List EventDef) (info : TraceInfo) (past : Past) (session stamp : ℕ)
+        (tables : Tables)
         (end : SessionEnd SinkState) → StandBefore events info (Finish session stamp) past tables
         → EndsAs session stamp tables end
         → end.fate ≢ TooLong }

@@ -1,5 +1,5 @@
 -- Lists of slots: how many hold something, and what a change of one of them does.
-use Rattle.std.proofs.Common.{◌≡◌, ℕ, ◌+◌, ◌<◌, ◌≤◌, Bool, true, false, not, Option, Some, None, List, [], ◌∷◌, length, get_or, refl, arith, cond, count_by, position, nat_eq, zero, suc, lit≤}
+use Rattle.std.proofs.Common.{◌≡◌, ◌≢◌, ℕ, ◌+◌, ◌<◌, ◌≤◌, Bool, true, false, not, Option, Some, None, List, [], ◌∷◌, length, get_or, slice_get, refl, ap, arith, cond, count_by, position, nat_eq, zero, suc, lit≤}
 use Rattle.std.specs.List.{list_any, list_all, position_or_len}
 use Rattle.std.proofs.Math.ListN.{set}
 use Rattle.std.proofs.lemmas.Grind.{common_steps}
@@ -82,3 +82,17 @@ given_id id next (Some seat) live h g = grind (arith, common_steps)
 pub next_is_new : (next id : ℕ) (seats : List (Option Seat)) → list_all (is_given next) seats ≡ true → count_by (is_of id) seats ≤ 1 →
     count_by (is_of id) seats + cond (nat_eq next id) 1 0 ≤ 1
 next_is_new next id seats g once = let zero_of : count_by (is_of next) seats ≡ 0 = none_ahead next seats g in grind (arith, common_steps)
+
+-- A place that was written has what was written.
+pub get-set : {X : Type 0} (xs : List X) (i : ℕ) (y : X) → i < length xs → slice_get (set xs i y) i ≡ Some y
+get-set [] i y within = absurd (omega arith)
+get-set (x ∷ xs) zero y within = refl
+get-set (x ∷ xs) (suc i) y within = get-set xs i y (omega arith)
+
+-- Another place has what it had.
+pub get-set_other : {X : Type 0} (xs : List X) (i k : ℕ) (y : X) → k ≢ i → slice_get (set xs i y) k ≡ slice_get xs k
+get-set_other [] i k y off = refl
+get-set_other (x ∷ xs) zero zero y off = absurd (off refl)
+get-set_other (x ∷ xs) zero (suc k) y off = refl
+get-set_other (x ∷ xs) (suc i) zero y off = refl
+get-set_other (x ∷ xs) (suc i) (suc k) y off = get-set_other xs i k y (λ e. off (ap suc e))

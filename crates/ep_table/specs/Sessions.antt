@@ -1,6 +1,6 @@
--- The session table as a value, and what each of its calls makes of it.
--- Slots, ids and their order are those of EventPipe's sessions (the EventPipe sources of dotnet/runtime, ep-session.c); that ids
--- run from 1 and are never given again is this project's profile.
+-- The session table as a value, and what each of its calls makes of it. Slots, ids and their order are those of
+-- EventPipe's sessions (the EventPipe sources of dotnet/runtime, ep-session.c); that ids run from 1 and are never given
+-- again is this project's profile.
 use Rattle.std.specs.Prelude.{ℕ, ◌+◌, ◌<◌, ◌≤◌, ◌≡◌, Bool, true, false, ◌&&◌, not, Option, Some, None, is_some, List, replicate, count_by, position, slice_get, slice_set, nat_lt, ◌==◌, length, IsTrue}
 use Rattle.std.specs.List.{list_any, list_all}
 use Rattle.ep_table.specs.declared.limits.TheConstants.{SLOTS}
@@ -37,9 +37,11 @@ abbrev pub holds : Option (Option Seat) → Bool
 holds None = false
 holds (Some seat) = is_some seat
 
+-- A session holds the slot.
 abbrev pub is_held : Sessions → ℕ → Bool
 is_held sessions slot = holds (slice_get sessions.seats slot)
 
+-- How many slots are held.
 abbrev pub held_count : Sessions → ℕ
 held_count sessions = count_by is_some sessions.seats
 
@@ -50,9 +52,11 @@ abbrev pub seat_at : Sessions → Option ℕ → Accepted
 seat_at sessions None = accepted.Full
 seat_at sessions (Some slot) = accepted.Seat slot sessions.next
 
+-- What is answered to a session that asks for a slot: the lowest free one, or none.
 abbrev pub accepted_by : Sessions → Accepted
 accepted_by sessions = seat_at sessions (position is_free sessions.seats)
 
+-- The sessions with the next id in this slot.
 abbrev pub seated_at : Sessions → Option ℕ → Sessions
 seated_at sessions None = sessions
 seated_at sessions (Some slot) =
@@ -67,6 +71,7 @@ after_accept sessions = seated_at sessions (position is_free sessions.seats)
 
 -- ---- a session is stopped
 
+-- What a stop of an id is answered, which is live in this slot or nowhere.
 abbrev pub ticket_at : ℕ → ℕ → Option ℕ → StopAnswer
 ticket_at id conn None = stopped.NotLive id
 ticket_at id conn (Some slot) = stopped.Ticket (record { id = id; slot = slot; conn = conn })
@@ -75,6 +80,7 @@ ticket_at id conn (Some slot) = stopped.Ticket (record { id = id; slot = slot; c
 abbrev pub stop_answer : Sessions → ℕ → ℕ → StopAnswer
 stop_answer sessions id conn = ticket_at id conn (position (is_live_as id) sessions.seats)
 
+-- The sessions once the one in this slot is live no more.
 abbrev pub stopped_at : Sessions → ℕ → Option ℕ → Sessions
 stopped_at sessions id None = sessions
 stopped_at sessions id (Some slot) =
@@ -102,7 +108,7 @@ abbrev pub is_given : ℕ → Option Seat → Bool
 is_given next None = true
 is_given next (Some seat) = nat_lt 0 seat.id && nat_lt seat.id next
 
--- There are so many slots, and the sessions in them have ids that were given, each once.
+-- There are this many slots, and the sessions in them have ids that were given, each once.
 pub record AreNumbered (sessions : Sessions) : Type 0 where
   pub places : length sessions.seats ≡ SLOTS
   pub first : 0 < sessions.next

@@ -113,8 +113,8 @@ impl<N: Named, V> Maker<N, V> {
         self.places
     }
 
-    /// Makes the tie at the next place, and gives its two halves, both with this value. It takes no memory and waits for
-    /// nobody.
+    /// Makes the tie at the next place, and gives its two halves, both with this value. It takes no memory and waits
+    /// for nobody.
     pub fn next(&mut self, ties: &Ties<N, V>, value: &V) -> (Left<N, V>, Right<N, V>)
         requires { self.old.made < self.old.places }
         ensures made { (self.new.made ≡ self.old.made + 1) × (self.new.places ≡ self.old.places) }

@@ -1,32 +1,14 @@
 -- Numbers in lists that ascend, and what is kept for each of them.
 use Rattle.std.proofs.Common.{◌≡◌, ℕ, ◌<◌, Bool, true, false, List, [], ◌∷◌, map, refl, ap, sym, ◌∙◌, subst, arith, if◌then◌else◌}
 use Rattle.std.specs.Prelude.{◌||◌, filter, nat_lt, ◌==◌}
-use Rattle.std.specs.List.{AllByRecursion}
-use Rattle.std.proofs.lemmas.Bool.{eqb-true, eqb-false, eq-eqb, ne_eqb, ltb-true, ltb-false, lt-ltb, le-ltb, or_parts, or_left, or_right, false_from_ne_true, true≢false, false≢true}
+use Rattle.std.proofs.lemmas.Bool.{eqb-true, ne_eqb, ltb-true, ltb-false, lt-ltb, le-ltb, or_right, false_from_ne_true, true≢false, false≢true}
 use Rattle.ep_model.specs.History.{insert_ascending}
-use Rattle.ep_model.proofs.Lists.{has}
+use Rattle.ep_model.proofs.Ascending.{AreAbove, IsAscending, above_less}
+use Rattle.ep_model.proofs.Lists.{has, has_first}
 use Rattle.ep_stream.specs.declared.opened.Named.{Named}
 use Rattle.ep_stream.specs.Named.{insert_by, with_thread}
 
 -- ---- ascending numbers
-
--- Each of them is greater.
-abbrev pub AreAbove : ℕ → List ℕ → Type 0
-AreAbove n xs = AllByRecursion (λ x. n < x) xs
-
-abbrev pub IsAscending : List ℕ → Type 0
-IsAscending [] = Unit {0}
-IsAscending (x ∷ xs) = AreAbove x xs × IsAscending xs
-
-above_less : (n m : ℕ) (xs : List ℕ) → n < m → AreAbove m xs → AreAbove n xs
-above_less n m [] less above = tt
-above_less n m (x ∷ xs) less above = let first = above.0 in (omega arith, above_less n m xs less above.1)
-
-above_insert : (n m : ℕ) (xs : List ℕ) → n < m → AreAbove n xs → AreAbove n (insert_ascending m xs)
-above_insert n m [] less above = (less, tt)
-above_insert n m (x ∷ xs) less above =
-    elim (nat_lt m x) as (λ v. AreAbove n (if v then m ∷ x ∷ xs else x ∷ insert_ascending m xs))
-    [ true ↦ (less, above) | false ↦ (above.0, above_insert n m xs less above.1) ]
 
 above_filter : (keep : ℕ → Bool) (n : ℕ) (xs : List ℕ) → AreAbove n xs → AreAbove n (filter keep xs)
 above_filter keep n [] above = tt
@@ -41,20 +23,6 @@ above_has n m (x ∷ xs) above is =
       | true ↦ λ same _. subst (λ k. n < k) (eqb-true x m same) above.0
       | false ↦ λ _ later. above_has n m xs above.1 later
     ] refl is
-
--- A number is put in its place.
-pub ascending-insert : (n : ℕ) (xs : List ℕ) → has n xs ≡ false → IsAscending xs → IsAscending (insert_ascending n xs)
-ascending-insert n [] none up = (tt, tt)
-ascending-insert n (x ∷ xs) none up =
-    let off = or_parts (x == n) (has n xs) none in
-    elim (nat_lt n x) as (λ v. nat_lt n x ≡ v → IsAscending (if v then n ∷ x ∷ xs else x ∷ insert_ascending n xs)) [
-      | true ↦ λ is. let less = ltb-true n x is in ((less, above_less n x xs less up.0), up)
-      | false ↦ λ is.
-          let most = ltb-false n x is in
-          let apart = eqb-false x n off.0 in
-          let less : x < n = omega arith in
-          (above_insert x n xs less up.0, ascending-insert n xs off.1 up.1)
-    ] refl
 
 pub ascending-filter : (keep : ℕ → Bool) (xs : List ℕ) → IsAscending xs → IsAscending (filter keep xs)
 ascending-filter keep [] up = tt
@@ -103,9 +71,6 @@ filter-insert_dropped keep n (x ∷ xs) dropped =
       | true ↦ filter_later keep n (x ∷ xs) dropped
       | false ↦ ap (λ ys. if keep x then x ∷ ys else ys) (filter-insert_dropped keep n xs dropped)
     ]
-
-has_first : (x : ℕ) (xs : List ℕ) → has x (x ∷ xs) ≡ true
-has_first x xs = or_left (x == x) (has x xs) (eq-eqb x x refl)
 
 -- Two tests that say the same of each number of the list.
 pub filter-same : (p q : ℕ → Bool) (xs : List ℕ) → ((x : ℕ) → has x xs ≡ true → p x ≡ q x) → filter p xs ≡ filter q xs

@@ -1,30 +1,17 @@
 -- What holds of every lawful list of steps.
-use Rattle.std.proofs.Common.{◌≡◌, ℕ, Bool, true, false, cond, List, [], ◌∷◌, length, Some, refl, ap, sym, ◌∙◌, subst}
+use Rattle.std.proofs.Common.{◌≡◌, ℕ, Bool, true, false, cond, List, [], ◌∷◌, length, Some, refl, ap, sym, ◌∙◌}
 use Rattle.std.specs.Prelude.{◌&&◌, ◌||◌, not, is_some, ◌==◌}
-use Rattle.std.proofs.lemmas.Bool.{eqb-true, or_parts, false≢true, true≢false}
+use Rattle.std.proofs.lemmas.Bool.{or_parts, false≢true, true≢false}
 use Rattle.ep_defs.specs.declared.event.EventDef.{EventDef}
 use Rattle.ep_model.specs.declared.step.Step.TheVariants as step
 use Rattle.ep_model.specs.Entries.{told_number}
 use Rattle.ep_model.specs.History.{Past, insert_ascending, opened, is_open, closed_at, writes_of}
 use Rattle.ep_model.specs.Lawful.{IsLawful, was_opened}
 use Rattle.ep_model.proofs.Lists.{has, any_inserted, off_pair}
-use Rattle.ep_model.proofs.Objections.{open_new, steal_open, close_open}
+use Rattle.ep_model.proofs.Objections.{steal_open, close_open}
 use Rattle.ep_model.proofs.Sessions.{open_opened}
-use Rattle.ep_told.proofs.Lists.{IsAscending, ascending-insert}
 
 -- ---- threads on which a session was opened
-
--- They ascend, since a session is opened on a thread once.
-pub opened_ascending : (events : List EventDef) (session : ℕ) (past : Past) → IsLawful events past → IsAscending (opened session past)
-opened_ascending events session [] lawful = tt
-opened_ascending events session (step.Open s t ∷ past) lawful =
-    elim (s == session) as (λ v. (s == session) ≡ v → IsAscending (cond v (insert_ascending t (opened session past)) (opened session past))) [
-      | true ↦ λ same.
-          let none = subst (λ n. was_opened n t past ≡ false) (eqb-true s session same) (open_new events past s t lawful.1) in
-          ascending-insert t (opened session past) none (opened_ascending events session past lawful.0)
-      | false ↦ λ _. opened_ascending events session past lawful.0
-    ] refl
-opened_ascending events session (_ ∷ past) lawful = opened_ascending events session past lawful.0
 
 -- Nothing was told of a thread on which the session was never opened.
 pub none_told : (events : List EventDef) (session thread : ℕ) (past : Past) → IsLawful events past → was_opened session thread past ≡ false → told_number session thread past ≡ 0

@@ -2,6 +2,8 @@
 use Rattle.std.proofs.Common.{◌≡◌, ℕ, ◌+◌, Bool, true, false, List, [], ◌∷◌, ◌++◌, map, length, Some, refl, ap, sym, ◌∙◌, subst, arith, if◌then◌else◌}
 use Rattle.std.specs.Prelude.{◌&&◌, ◌||◌, not, filter, unwrap_or, nat_eq, nat_lt, ◌==◌}
 use Rattle.std.proofs.lemmas.Bool.{eqb-true, eq-eqb, ne_eqb, ltb-false, or_left, not-true, true≢false}
+use Rattle.std.proofs.Math.Bool.{and-true, or-false}
+use Rattle.ep_model.proofs.Ascending.{IsAscending, opened_ascending}
 use Rattle.ep_defs.specs.declared.event.EventDef.{EventDef}
 use Rattle.ep_defs.specs.declared.session.Config.{Config}
 use Rattle.ep_defs.specs.declared.session.Marks.{Marks}
@@ -22,8 +24,8 @@ use Rattle.ep_stream.specs.declared.session.Seat.{Seat}
 use Rattle.ep_stream.specs.Named.{first_named, insert_by, with_thread, with_number, still_open, numbers_of, with_marks}
 use Rattle.ep_stream.specs.Session.{Rest, new_rest}
 use Rattle.ep_told.specs.Kept.{named_on, names_of, closed_marks, RestFollows}
-use Rattle.ep_told.proofs.Lists.{IsAscending, ascending-filter, has-apart, filter-insert_kept, filter-insert_dropped, filter-same, filter-both, filter-more, map-same_kept, map-mapped, filter-mapped, map-insert, map-changed}
-use Rattle.ep_told.proofs.Pasts.{opened_ascending, none_told}
+use Rattle.ep_told.proofs.Lists.{ascending-filter, has-apart, filter-insert_kept, filter-insert_dropped, filter-same, filter-both, filter-more, map-same_kept, map-mapped, filter-mapped, map-insert, map-changed}
+use Rattle.ep_told.proofs.Pasts.{none_told}
 
 same_number : (n : ℕ) → nat_eq n n ≡ true
 same_number n = eq-eqb n n refl
@@ -95,10 +97,6 @@ opened_follows events past rest thread h lawful =
 hand_taken : (n held chunks : ℕ) → nat_lt 0 n ≡ false → n ≡ held → held + chunks ≡ chunks
 hand_taken n held chunks empty counted = let none = ltb-false 0 n empty in omega (arith, none, counted)
 
-and_true : (b : Bool) → (b && true) ≡ b
-and_true true = refl
-and_true false = refl
-
 steal_names : (s t last : ℕ) (past : Past) → IsAscending (opened s past) → last ≡ shows s t past → names_of s (step.Steal s t ∷ past) ≡ with_number t last true (names_of s past)
 steal_names s t last past up is =
     let kept : ℕ → Bool = λ x. is_named s x past in
@@ -107,7 +105,7 @@ steal_names s t last past up is =
     let make : ℕ → Bool → Named = λ number on. record { thread = t; number = number; is_open = on } in
     let here : name t ≡ change (named_on s t past) =
     ap (λ v. make (if v then shows s t past else told_number s t past) (is_open s t past)) (same_number t)
-    ∙ ap (λ n. make n (is_open s t past)) (sym is) ∙ ap (make last) (sym (and_true (is_open s t past)))
+    ∙ ap (λ n. make n (is_open s t past)) (sym is) ∙ ap (make last) (sym (and-true (is_open s t past)))
     in
     let names : map name (filter kept (opened s past)) ≡ with_thread change t (names_of s past) =
     map-changed (λ x. named_on s x past) name change t (filter kept (opened s past)) (ascending-filter kept (opened s past) up) (λ x. refl) here (λ x off.
@@ -195,10 +193,6 @@ closed_follows events past rest thread last chunks marks counted h lawful last_i
 
 -- ---- a point
 
-or_none : (b : Bool) → (b || false) ≡ b
-or_none true = refl
-or_none false = refl
-
 point_names : (s stamp : ℕ) (past : Past) → names_of s (step.Point s stamp ∷ past) ≡ still_open (names_of s past)
 point_names s stamp past =
     let xs = opened s past in
@@ -207,7 +201,7 @@ point_names s stamp past =
     let kept : ℕ → Bool = λ x. is_named s x past in
     let name : ℕ → Named = λ x. named_on s x past in
     let names : map name (filter keep xs) ≡ still_open (names_of s past) =
-    ap (map name) (filter-same keep on xs (λ x _. or_none (is_open s x past)))
+    ap (map name) (filter-same keep on xs (λ x _. or-false (is_open s x past)))
     ∙ ap (map name) (sym (filter-both on kept xs (λ x is. or_left (is_open s x past) (awaits_point s x past) is)))
     ∙ sym (filter-mapped (λ (n : Named). n.is_open) name (filter kept xs))
     in

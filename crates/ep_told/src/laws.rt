@@ -38,19 +38,26 @@ pub fn an_opened_thread_is_named()
 
 /// After a Steal the thread is named with the number of its last Show, and what it had is in hand.
 pub fn what_is_stolen_is_told()
-    ensures { (events : List EventDef) (past : Past) (rest : Rest) (thread last chunks : ℕ) → RestFollows past rest
+    ensures { (events : List EventDef) (past : Past) (rest : Rest) (thread last chunks : ℕ)
+        → RestFollows past rest
         → IsLawful events (Steal rest.seat.id thread ∷ past)
-        → last ≡ shows rest.seat.id thread past → chunks ≡ ((budget_of rest.seat.id past).pending thread).chunks
-        → RestFollows (Steal rest.seat.id thread ∷ past) (record rest { named = with_number thread last true rest.named; in_hand = chunks }) }
+        → last ≡ shows rest.seat.id thread past
+        → chunks ≡ ((budget_of rest.seat.id past).pending thread).chunks
+        → RestFollows (Steal rest.seat.id thread ∷ past) (record rest {
+          named = with_number thread last true rest.named;
+          in_hand = chunks;
+        }) }
 {
     a_budget_can_be_counted();
 }
 
 /// After a Close the thread is named so too, as one that is closed, and its marks are kept.
 pub fn a_closed_thread_is_marked()
-    ensures { (events : List EventDef) (past : Past) (rest : Rest) (thread last chunks : ℕ) (marks : Marks) → RestFollows past rest
+    ensures { (events : List EventDef) (past : Past) (rest : Rest) (thread last chunks : ℕ)
+        (marks : Marks) → RestFollows past rest
         → IsLawful events (Close rest.seat.id thread ∷ past)
-        → last ≡ shows rest.seat.id thread past → chunks ≡ ((budget_of rest.seat.id past).pending thread).chunks
+        → last ≡ shows rest.seat.id thread past
+        → chunks ≡ ((budget_of rest.seat.id past).pending thread).chunks
         → marks ≡ marks_on rest.seat.id thread (Close rest.seat.id thread ∷ past)
         → RestFollows (Close rest.seat.id thread ∷ past)
         (record rest { named = with_number thread last false rest.named; marks = with_marks marks rest.marks; in_hand = chunks }) }
@@ -72,9 +79,12 @@ pub fn a_point_forgets_closed_threads()
 
 /// No step of another session or of a thread changes what a session keeps, or the entries of its stream.
 pub fn other_steps_change_nothing_kept()
-    ensures follows { (events : List EventDef) (past : Past) (rest : Rest) (step : Step) → RestFollows past rest
-        → IsLawful events (step ∷ past) → is_made_by rest.seat.id step ≡ false → RestFollows (step ∷ past) rest }
-    ensures same_entries { (events : List EventDef) (session : ℕ) (past : Past) (step : Step) → is_made_by session step ≡ false
+    ensures follows { (events : List EventDef) (past : Past) (rest : Rest) (step : Step)
+        → RestFollows past rest
+        → IsLawful events (step ∷ past) → is_made_by rest.seat.id step ≡ false
+        → RestFollows (step ∷ past) rest }
+    ensures same_entries { (events : List EventDef) (session : ℕ) (past : Past) (step : Step)
+        → is_made_by session step ≡ false
         → entries events session (step ∷ past) ≡ entries events session past }
 {}
 
@@ -84,16 +94,20 @@ pub fn other_steps_change_nothing_kept()
 /// keeps by name had come, and no other step tells anything.
 pub fn entries_are_what_was_told()
     ensures stolen { (events : List EventDef) (session thread : ℕ) (past : Past)
-        → entries events session (Steal session thread ∷ past) ≡ entries events session past ++ map Event (pending events session thread past) }
+        → entries events session (Steal session thread ∷ past)
+        ≡ entries events session past ++ map Event (pending events session thread past) }
     ensures closed { (events : List EventDef) (session thread : ℕ) (past : Past)
-        → entries events session (Close session thread ∷ past) ≡ entries events session past ++ map Event (pending events session thread past) }
+        → entries events session (Close session thread ∷ past)
+        ≡ entries events session past ++ map Event (pending events session thread past) }
     ensures pointed { (events : List EventDef) (past : Past) (rest : Rest) (stamp : ℕ) → RestFollows past rest
         → entries events rest.seat.id (PointStep rest.seat.id stamp ∷ past)
         ≡ entries events rest.seat.id past ++ Point (point_of stamp (numbers_of rest.named)) ∷ [] }
-    ensures finished { (events : List EventDef) (past : Past) (rest : Rest) (stamp : ℕ) → RestFollows past rest
+    ensures finished { (events : List EventDef) (past : Past) (rest : Rest) (stamp : ℕ)
+        → RestFollows past rest
         → entries events rest.seat.id (Finish rest.seat.id stamp ∷ past)
         ≡ entries events rest.seat.id past ++ Point (point_of stamp (numbers_of rest.named)) ∷ [] }
-    ensures others { (events : List EventDef) (session : ℕ) (past : Past) (step : Step) → is_told_by session step ≡ false
+    ensures others { (events : List EventDef) (session : ℕ) (past : Past) (step : Step)
+        → is_told_by session step ≡ false
         → entries events session (step ∷ past) ≡ entries events session past }
 {}
 
@@ -109,14 +123,21 @@ pub fn the_last_marks_are_all()
 /// A session has finished once its Finish was made, and stays so. It makes no step more, and no step changes its
 /// configuration, what its stream told, or its marks.
 pub fn a_finished_session_stays()
-    ensures ended { (session stamp : ℕ) (past : Past) → is_finished session (Finish session stamp ∷ past) ≡ true }
-    ensures stays { (session : ℕ) (past : Past) (step : Step) → is_finished session past ≡ true → is_finished session (step ∷ past) ≡ true }
-    ensures none { (events : List EventDef) (session : ℕ) (past : Past) (step : Step) → IsLawful events (step ∷ past)
+    ensures ended { (session stamp : ℕ) (past : Past)
+        → is_finished session (Finish session stamp ∷ past) ≡ true }
+    ensures stays { (session : ℕ) (past : Past) (step : Step) → is_finished session past ≡ true
+        → is_finished session (step ∷ past) ≡ true }
+    ensures none { (events : List EventDef) (session : ℕ) (past : Past) (step : Step)
+        → IsLawful events (step ∷ past)
         → is_finished session past ≡ true → is_made_by session step ≡ false }
-    ensures same_config { (events : List EventDef) (session : ℕ) (past : Past) (step : Step) → IsLawful events (step ∷ past)
+    ensures same_config { (events : List EventDef) (session : ℕ) (past : Past) (step : Step)
+        → IsLawful events (step ∷ past)
         → is_finished session past ≡ true → config_of session (step ∷ past) ≡ config_of session past }
-    ensures same_entries { (events : List EventDef) (session : ℕ) (past : Past) (step : Step) → IsLawful events (step ∷ past)
-        → is_finished session past ≡ true → entries events session (step ∷ past) ≡ entries events session past }
-    ensures same_marks { (events : List EventDef) (session : ℕ) (past : Past) (step : Step) → IsLawful events (step ∷ past)
+    ensures same_entries { (events : List EventDef) (session : ℕ) (past : Past) (step : Step)
+        → IsLawful events (step ∷ past)
+        → is_finished session past ≡ true
+        → entries events session (step ∷ past) ≡ entries events session past }
+    ensures same_marks { (events : List EventDef) (session : ℕ) (past : Past) (step : Step)
+        → IsLawful events (step ∷ past)
         → is_finished session past ≡ true → marks_of session (step ∷ past) ≡ marks_of session past }
 {}

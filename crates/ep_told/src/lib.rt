@@ -1,11 +1,11 @@
 //! Laws: what a session keeps of its threads, and what its stream has told, is what the steps so far say.
 //!
-//! `laws` has what holds of the definitions alone: no code stands here. It stands on ep_model, which says what the steps
-//! of a program come to, and on ep_stream, which says what a session keeps between its calls and what each call makes of
-//! it. When what is kept follows the steps is `specs/Kept`; which steps are a session's own is `specs/Makers`.
+//! `laws` has what holds of the definitions alone: no code stands here. It stands on ep_model, which says what the
+//! steps of a program come to, and on ep_stream, which says what a session keeps between its calls and what each call
+//! makes of it. When what is kept follows the steps is `specs/Kept`; which steps are a session's own is `specs/Makers`.
 //!
-//! Its one contract: what a session keeps follows each next step, by the change that ep_stream's call for that step makes
-//! of it; its stream's entries grow by what that call tells; and no step changes a session that has finished.
+//! Its one contract: what a session keeps follows each next step, by the change that ep_stream's call for that step
+//! makes of it; its stream's entries grow by what that call tells; and no step changes a session that has finished.
 #![tactic(auto)]
 
 mod laws;

@@ -1,8 +1,9 @@
 -- What is put is read back.
-use Rattle.std.proofs.Common.{◌≡◌, ℕ, suc, ◌+◌, ◌-◌, ◌^◌, ◌<◌, Bool, true, false, ◌&&◌, List, [], ◌∷◌, ◌++◌, length, Ok, nat_lt, refl, ap, sym, ◌∙◌, arith, append_assoc, append-nil, inl, inr}
+use Rattle.std.proofs.Common.{◌≡◌, ℕ, suc, ◌+◌, ◌-◌, ◌^◌, ◌<◌, true, false, List, [], ◌∷◌, ◌++◌, length, Ok, nat_lt, refl, ap, sym, ◌∙◌, arith, append_assoc, append-nil, inl, inr}
 use Rattle.std.specs.List.{flat_map, list_all}
 use Rattle.std.specs.Int.{w32, w64, is_in_range}
 use Rattle.std.proofs.lemmas.Grind.{common_steps}
+use Rattle.std.proofs.lemmas.Bool.{and_parts}
 use Rattle.pt_num.specs.Numbers.{fixed}
 use Rattle.pt_num.specs.Texts.{text_c, are_wide, IsTextC}
 use Rattle.pt_num.specs.Fields.{fixed_at, text_c_at}
@@ -29,16 +30,12 @@ record Asks (rule : Rule) : Type 0 where
   pub counted : length rule.name + 1 < 2 ^ 32
   pub wide : are_wide rule.name ≡ true
 
-and-true : (a b : Bool) → (a && b) ≡ true → (a ≡ true) × (b ≡ true)
-and-true true b h = (refl, h)
-and-true false b h = cc
-
 asks : (rule : Rule) → can_ask rule ≡ true → Asks rule
 asks rule h =
-    let e = and-true _ (are_wide rule.name) h in
-    let d = and-true _ (nat_lt (length rule.name + 1) (2 ^ 32)) e.0 in
-    let c = and-true _ (nat_lt 0 (length rule.name)) d.0 in
-    let b = and-true (nat_lt rule.keywords (2 ^ 64)) (nat_lt rule.level (2 ^ 32)) c.0 in
+    let e = and_parts _ (are_wide rule.name) h in
+    let d = and_parts _ (nat_lt (length rule.name + 1) (2 ^ 32)) e.0 in
+    let c = and_parts _ (nat_lt 0 (length rule.name)) d.0 in
+    let b = and_parts (nat_lt rule.keywords (2 ^ 64)) (nat_lt rule.level (2 ^ 32)) c.0 in
     record {
       few = let t = b.0 in grind arith;
       low = let t = b.1 in grind arith;
@@ -79,7 +76,7 @@ providers-back : AreTaken → (rules : List Rule) (rest : List ℕ) → list_all
 unfolding providers_at
 providers-back t [] rest h = refl
 providers-back t (rule ∷ rules) rest h =
-    let b = and-true (can_ask rule) (list_all can_ask rules) h in
+    let b = and_parts (can_ask rule) (list_all can_ask rules) h in
     let later : List ℕ = flat_map provider_bytes rules ++ rest in
     ap (providers_at (length (rule ∷ rules))) (append_assoc (provider_bytes rule) (flat_map provider_bytes rules) rest)
     ∙ first-read rule rules (provider_bytes rule ++ later) later rest (provider-back t rule later b.0) (providers-back t rules rest b.1)
@@ -104,8 +101,8 @@ granted megabytes count m c = grind (arith, common_steps)
 
 pub collect-back : AreTaken → (megabytes : ℕ) (rules : List Rule) → can_collect megabytes rules ≡ true → IsAsked megabytes rules
 collect-back t megabytes rules h =
-    let b = and-true _ (list_all can_ask rules) h in
-    let a = and-true (is_in_range 1 (2 ^ 32 - 1) megabytes) (is_in_range 1 RULES (length rules)) b.0 in
+    let b = and_parts _ (list_all can_ask rules) h in
+    let a = and_parts (is_in_range 1 (2 ^ 32 - 1) megabytes) (is_in_range 1 RULES (length rules)) b.0 in
     let b4 : List ℕ = flat_map provider_bytes rules ++ [] in
     let b3 : List ℕ = fixed w32 (length rules) ++ b4 in
     let b1 : List ℕ = fixed w32 NETTRACE ++ (0 ∷ b3) in

@@ -7,17 +7,13 @@ use Rattle.std.proofs.lemmas.List.{take_all}
 use Rattle.ipc_frame.specs.declared.limits.TheConstants.{HEADER_BYTES, MESSAGE_BYTES}
 use Rattle.pt_num.specs.Numbers.{fixed}
 use Rattle.pt_num.specs.Texts.{text_c, units_bytes}
+use Rattle.pt_num.proofs.TextForms.{units_long}
 use Rattle.ep_defs.specs.declared.session.Rule.{Rule}
 use Rattle.ipc_body.specs.Asking.{provider_bytes, collect_body, collect_request}
 
-pub units-length : (units : List ℕ) → length (units_bytes units) ≡ 2 * length units
-unfolding fixed
-units-length [] = refl
-units-length (unit ∷ units) = omega (arith, units-length units)
-
 pub text-length : (units : List ℕ) → length (text_c units) ≡ 6 + 2 * length units
 unfolding fixed
-text-length units = omega (arith, length-append (units_bytes units) (fixed w16 0), units-length units)
+text-length units = omega (arith, length-append (units_bytes units) (fixed w16 0), units_long units)
 
 pub provider-length : (rule : Rule) → length (provider_bytes rule) ≡ 22 + 2 * length rule.name
 unfolding fixed

@@ -1,22 +1,15 @@
 -- Fields of a reply at their offsets.
-use Rattle.std.proofs.Common.{◌≡◌, ℕ, ◌+◌, ◌-◌, ◌*◌, ◌≤◌, Bool, true, false, List, length, take, drop, Result, Ok, Err, nat_lt, refl, ap, sym, ◌∙◌, arith, subst, length-drop}
-use Rattle.std.specs.Int.{Width, w64, byte_len}
+use Rattle.std.proofs.Common.{◌≡◌, ℕ, ◌+◌, ◌-◌, ◌*◌, ◌≤◌, false, List, length, take, drop, Result, Ok, Err, nat_lt, refl, ap, sym, ◌∙◌, arith, subst, length-drop}
+use Rattle.std.specs.Int.{w64}
 use Rattle.std.specs.List.{slice_range}
-use Rattle.pt_num.specs.Fields.{Field, Short, fixed_at, bytes_at, text_c_at}
+use Rattle.pt_num.specs.Fields.{Field, fixed_at, bytes_at, text_c_at}
+use Rattle.pt_num.proofs.Fronts.{number_within}
+use Rattle.std.proofs.lemmas.List.{drop-drop}
 use Rattle.ep_defs.specs.Text.{units_in}
 use Rattle.ipc_body.specs.declared.reply.Reply.TheVariants as reply
 use Rattle.ipc_body.specs.declared.reply.ReplyFault.{ReplyFault}
 use Rattle.ipc_body.specs.declared.reply.ReplyFault.TheVariants as fault
 use Rattle.ipc_body.specs.Reply.{Replies, placed, text_at, info_at, info_from}
-use Rattle.ipc_body.proofs.Provided.{drop-add}
-
--- Where a number is read, its bytes are there.
-pub fixed-there : (w : Width) (bytes rest : List ℕ) (n : ℕ) → fixed_at w bytes ≡ Ok (n, rest) → byte_len w ≤ length bytes
-fixed-there w bytes rest n e = by_test (nat_lt (length bytes) (byte_len w)) refl
-  where
-    by_test : (b : Bool) → nat_lt (length bytes) (byte_len w) ≡ b → byte_len w ≤ length bytes
-    by_test true t = absurd (let f : fixed_at w bytes ≡ Err Short = rw t refl in cc)
-    by_test false t = grind arith
 
 -- The offset after a field.
 offset-after : (whole rest : List ℕ) (at used : ℕ) → at ≤ length whole → rest ≡ drop at whole → used ≤ length rest → length whole - length (drop used rest) ≡ at + used
@@ -38,7 +31,7 @@ pub text-is : (whole rest text : List ℕ) (at count used : ℕ) → at ≤ leng
     text ≡ units_in (take (at + 4 + 2 * count - (at + 4)) (drop (at + 4) whole)) → text_at whole at ≡ Ok (text, at + used)
 text-is whole rest text at count used within there fits least e t =
     let k : at + 4 + 2 * count - (at + 4) ≡ 2 * count = omega arith in
-    let d : drop 4 rest ≡ drop (at + 4) whole = ap (λ (xs : List ℕ). drop 4 xs) there ∙ drop-add whole at 4 in
+    let d : drop 4 rest ≡ drop (at + 4) whole = ap (λ (xs : List ℕ). drop 4 xs) there ∙ drop-drop 4 at whole in
     let same : text ≡ units_in (take (2 * count) (drop 4 rest)) =
     t ∙ ap (λ (m : ℕ). units_in (take m (drop (at + 4) whole))) k ∙ ap (λ (xs : List ℕ). units_in (take (2 * count) xs)) (sym d) in
     let f : text_c_at rest ≡ Ok (text, drop used rest) = e ∙ ap (λ (u : List ℕ). let r : Field (List ℕ) = Ok (u, drop used rest) in r) (sym same) in
@@ -54,7 +47,7 @@ pub record HasFront (whole rest cookie : List ℕ) (process_id : ℕ) : Type 0 w
 number-is : (whole rest cookie : List ℕ) (process_id : ℕ) → HasFront whole rest cookie process_id → placed whole 20 (fixed_at w64 (drop 20 whole)) ≡ Ok (process_id, 28)
 number-is whole rest cookie process_id f =
     let l : 44 ≤ length whole = f.long in
-    at-offset (fixed_at w64) whole rest 20 (Ok (process_id, 28)) f.there (placed-is whole rest 20 8 (fixed_at w64 rest) process_id (omega arith) f.there (fixed-there w64 rest (drop 8 rest) process_id f.number) f.number)
+    at-offset (fixed_at w64) whole rest 20 (Ok (process_id, 28)) f.there (placed-is whole rest 20 8 (fixed_at w64 rest) process_id (omega arith) f.there (number_within w64 rest (drop 8 rest) process_id f.number) f.number)
 
 cookie-is : (whole rest cookie : List ℕ) (process_id : ℕ) → HasFront whole rest cookie process_id → placed whole 28 (bytes_at 16 (drop 28 whole)) ≡ Ok (cookie, 44)
 cookie-is whole rest cookie process_id f =

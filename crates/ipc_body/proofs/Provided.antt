@@ -1,8 +1,8 @@
 -- Providers, read one after another.
-use Rattle.std.proofs.Common.{◌≡◌, ℕ, zero, suc, ◌+◌, ◌-◌, ◌<◌, ◌≤◌, true, List, [], ◌∷◌, ◌++◌, length, take, drop, Result, Ok, Err, nat_lt, refl, ap, sym, ◌∙◌, arith, append_assoc, append-nil, length-drop, length-append, subst, ◌*◌}
+use Rattle.std.proofs.Common.{◌≡◌, ℕ, suc, ◌+◌, ◌-◌, ◌<◌, ◌≤◌, true, List, [], ◌∷◌, ◌++◌, length, take, drop, Result, Ok, Err, nat_lt, refl, ap, sym, ◌∙◌, arith, append_assoc, append-nil, length-drop, length-append, subst, ◌*◌}
 use Rattle.std.specs.Int.{w32, w64}
 use Rattle.std.proofs.lemmas.Grind.{common_steps}
-use Rattle.std.proofs.lemmas.List.{drop_all, take_all, length-take-le}
+use Rattle.std.proofs.lemmas.List.{drop_all, length-take-le, drop-drop}
 use Rattle.pt_num.specs.Fields.{Field, Fault, fixed_at, text_c_at}
 use Rattle.pt_num.specs.Steps.{◌>>=◌}
 use Rattle.ep_defs.specs.Text.{units_in}
@@ -12,18 +12,9 @@ use Rattle.ipc_body.specs.declared.request.RequestFault.TheVariants as fault
 use Rattle.ipc_body.proofs.Texts.{some_unit}
 use Rattle.ipc_body.specs.Request.{name_at, rule_of, provider_at, providers_at, with_provider, whole_providers, is_empty, hold, are_named}
 
-pub drop-add : (xs : List ℕ) (m n : ℕ) → drop n (drop m xs) ≡ drop (m + n) xs
-drop-add xs zero n = ap (λ k. drop k xs) (omega arith)
-drop-add [] (suc m) n = grind (arith, common_steps)
-drop-add (x ∷ xs) (suc m) n = let e : suc m + n ≡ suc (m + n) = omega arith in rw e (drop-add xs m n)
-
 -- A name that is there.
 pub name-is : (bytes name rest : List ℕ) → text_c_at bytes ≡ Ok (name, rest) → 0 < length name → name_at bytes ≡ Ok (name, rest)
 name-is bytes name rest e some = let t : nat_lt 0 (length name) ≡ true = grind arith in rw (e, t) refl
-
--- What is left from an offset on.
-pub rest-of : (n : ℕ) (xs : List ℕ) → take (length xs - n) (drop n xs) ≡ drop n xs
-rest-of n xs = take_all (length xs - n) (drop n xs) (omega (arith, length-drop n xs))
 
 -- A name that was read has a unit.
 pub name-some : (bytes name : List ℕ) (count used : ℕ) → used ≤ length bytes → 4 + 2 * count ≤ used → 0 < count →
@@ -41,10 +32,8 @@ pub name-read : (bytes name : List ℕ) (count used : ℕ) → used ≤ length b
     name ≡ units_in (take (4 + 2 * count - 4) (drop 4 bytes)) → name_at bytes ≡ Ok (name, drop used bytes)
 name-read bytes name count used within least some e n =
     let k : 4 + 2 * count - 4 ≡ 2 * count = omega arith in
-    let text : List ℕ = take (2 * count) (drop 4 bytes) in
-    let long : length text ≡ 2 * count = length-take-le (2 * count) (drop 4 bytes) (omega (arith, length-drop 4 bytes)) in
-    let same : name ≡ units_in text = n ∙ ap (λ (m : ℕ). units_in (take m (drop 4 bytes))) k in
-    let there : 0 < length name = rw same (some_unit text (omega arith)) in
+    let same : name ≡ units_in (take (2 * count) (drop 4 bytes)) = n ∙ ap (λ (m : ℕ). units_in (take m (drop 4 bytes))) k in
+    let there = name-some bytes name count used within least some n in
     name-is bytes name (drop used bytes) (e ∙ ap (λ (u : List ℕ). let f : Field (List ℕ) = Ok (u, drop used bytes) in f) (sym same)) there
 
 -- The parts of a provider up to its filter: `from_level` are the bytes from the level on, and so on.
@@ -65,9 +54,9 @@ provider-is bytes from_level from_name from_filter name filter keywords level us
     let n : name_at (drop 12 bytes) ≡ Ok (name, drop used (drop 12 bytes)) = subst (λ (r : List ℕ). name_at r ≡ Ok (name, drop used r)) p.name_there p.name_read in
     let g : text_c_at (drop (12 + used) bytes) ≡ Ok (filter, drop more (drop (12 + used) bytes)) = subst (λ (r : List ℕ). text_c_at r ≡ Ok (filter, drop more r)) p.filter_there f in
     let k = p.keywords_read in
-    let e : drop 4 (drop 8 bytes) ≡ drop 12 bytes = drop-add bytes 8 4 in
-    let d : drop used (drop 12 bytes) ≡ drop (12 + used) bytes = drop-add bytes 12 used in
-    rw (k, l, e, n, d, g, drop-add bytes (12 + used) more) refl
+    let e : drop 4 (drop 8 bytes) ≡ drop 12 bytes = drop-drop 4 8 bytes in
+    let d : drop used (drop 12 bytes) ≡ drop (12 + used) bytes = drop-drop used 12 bytes in
+    rw (k, l, e, n, d, g, drop-drop more (12 + used) bytes) refl
 
 -- A provider without its filter.
 pub provider-lacks : (bytes from_level from_name from_filter name : List ℕ) (keywords level used : ℕ) (e : Fault) →
@@ -77,8 +66,8 @@ provider-lacks bytes from_level from_name from_filter name keywords level used e
     let n : name_at (drop 12 bytes) ≡ Ok (name, drop used (drop 12 bytes)) = subst (λ (r : List ℕ). name_at r ≡ Ok (name, drop used r)) p.name_there p.name_read in
     let g : text_c_at (drop (12 + used) bytes) ≡ Err e = subst (λ (r : List ℕ). text_c_at r ≡ Err e) p.filter_there f in
     let k = p.keywords_read in
-    let a : drop 4 (drop 8 bytes) ≡ drop 12 bytes = drop-add bytes 8 4 in
-    let d : drop used (drop 12 bytes) ≡ drop (12 + used) bytes = drop-add bytes 12 used in
+    let a : drop 4 (drop 8 bytes) ≡ drop 12 bytes = drop-drop 4 8 bytes in
+    let d : drop used (drop 12 bytes) ≡ drop (12 + used) bytes = drop-drop used 12 bytes in
     rw (k, l, a, n, d, g) refl
 
 -- Providers that were read, before those that follow.
@@ -113,7 +102,7 @@ read-more count place used more whole rest rules rule less r there le first some
     let e : count - place ≡ suc (count - (place + 1)) = omega arith in
     record {
       within = let w : used ≤ length whole = r.within in omega (arith, length-drop used whole, ap length there);
-      so_far = r.so_far ∙ rw (e, one, drop-add whole used more) (sym (onto-push rules rule (providers_at (count - (place + 1)) (drop (used + more) whole))));
+      so_far = r.so_far ∙ rw (e, one, drop-drop more used whole) (sym (onto-push rules rule (providers_at (count - (place + 1)) (drop (used + more) whole))));
       many = let m : length rules ≡ place = r.many in omega (arith, length-append rules (rule ∷ []));
       named = named-push rules rule r.named (grind arith);
     }

@@ -16,8 +16,8 @@ error_reply code = message SERVER ERROR (fixed w32 code)
 abbrev pub session_reply : ℕ → List ℕ
 session_reply id = message SERVER OK (fixed w64 id)
 
--- What a process says of itself: its id, the runtime cookie of 16 bytes, command line, operating system and architecture (the same
--- document, "ProcessInfo").
+-- What a process says of itself: its id, the runtime cookie of 16 bytes, command line, operating system and
+-- architecture (the same document, "ProcessInfo").
 abbrev pub info_body : ProcessInfo → List ℕ
 info_body info =
     concat
@@ -28,5 +28,6 @@ info_body info =
     ∷ text_c info.arch
     ∷ [])
 
+-- The reply that says what a process is.
 abbrev pub info_reply : ProcessInfo → List ℕ
 info_reply info = message SERVER OK (info_body info)

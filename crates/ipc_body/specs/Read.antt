@@ -9,7 +9,8 @@ abbrev pub byte_at : List ℕ → Field ℕ
 byte_at [] = Err Short
 byte_at (b ∷ bytes) = Ok (b, bytes)
 
--- A call that reads a field from the front of some bytes answers its value and the number of its bytes, or that there is none.
+-- A call that reads a field from the front of some bytes answers its value and the number of its bytes, or that there
+-- is none.
 abbrev pub Reads : {A E : Type 0} → Result (A × List ℕ) E → List ℕ → Option (A × ℕ) → Type 0
 Reads field bytes None = IsErr field
 Reads field bytes (Some taken) = (taken.1 ≤ length bytes) × (field ≡ Ok (taken.0, drop taken.1 bytes))

@@ -15,7 +15,7 @@ use Rattle.ipc_body.specs.declared.reply.Reply.TheVariants as reply
 use Rattle.ipc_body.specs.declared.reply.ReplyFault.{ReplyFault}
 use Rattle.ipc_body.specs.declared.reply.ReplyFault.TheVariants as fault
 
--- So many bytes must be there, or else the reply is wrong where its bytes end.
+-- This many bytes must be there, or else the reply is wrong where its bytes end.
 abbrev pub reach : ℕ → List ℕ → Result (Unit {0}) ℕ
 reach bytes whole = check (nat_le bytes (length whole)) (length whole)
 
@@ -23,6 +23,7 @@ reach bytes whole = check (nat_le bytes (length whole)) (length whole)
 abbrev pub is_sized : List ℕ → Bool
 is_sized whole = nat_le HEADER_BYTES (size_in whole) && nat_le (length whole) (size_in whole)
 
+-- The command set of the message is that of replies.
 abbrev pub is_from_server : List ℕ → Bool
 is_from_server whole = slice_index whole SET_AT == SERVER
 
@@ -30,6 +31,7 @@ is_from_server whole = slice_index whole SET_AT == SERVER
 abbrev pub is_error : List ℕ → Bool
 is_error whole = slice_index whole COMMAND_AT == ERROR
 
+-- The reply says that all is well.
 abbrev pub is_ok : List ℕ → Bool
 is_ok whole = slice_index whole COMMAND_AT == OK
 
@@ -46,8 +48,8 @@ header_of whole = do
   told ← check (is_ok whole || is_error whole) COMMAND_AT
   reach HEADER_BYTES whole
 
--- The field at this offset, and the offset after it. Where its bytes are not all there the reply is wrong where its bytes end, and
--- else at the field.
+-- The field at this offset, and the offset after it. Where its bytes are not all there the reply is wrong where its
+-- bytes end, and else at the field.
 abbrev pub placed : {A : Type 0} → List ℕ → ℕ → Field A → Result (A × ℕ) ℕ
 placed whole at (Ok field) = Ok (field.0, length whole - length field.1)
 placed whole at (Err Short) = Err (length whole)
@@ -70,6 +72,7 @@ session_at whole = do
   id ← placed whole HEADER_BYTES (fixed_at w64 (drop HEADER_BYTES whole))
   Ok (reply.Session id.0, id.1)
 
+-- What a process says of itself, by its parts.
 abbrev pub info_from : ℕ → List ℕ → List ℕ → List ℕ → List ℕ → ProcessInfo
 info_from process_id cookie command_line system arch =
     record { process_id = process_id; cookie = cookie; command_line = command_line; system = system; arch = arch }
@@ -106,7 +109,8 @@ Replies wanted (Ok value) = wanted ≡ Ok value
 Replies wanted (Err (fault.Bad at)) = wanted ≡ Err at
 Replies wanted (Err fault.OutOfMemory) = Unit {0}
 
--- A session answers a request for a session or a stop, and the description of a process the request for it; an error answers both.
+-- A session answers a request for a session or a stop, and the description of a process the request for it; an error
+-- answers both.
 abbrev pub IsReplyTo : Bool → Reply → Type 0
 IsReplyTo wants_info (reply.Session id) = wants_info ≡ false
 IsReplyTo wants_info (reply.Info info) = wants_info ≡ true

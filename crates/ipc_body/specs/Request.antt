@@ -1,5 +1,5 @@
--- What the body of a request says, and which bodies are refused (the DOTNET_IPC_V1 protocol document of dotnet/diagnostics,
--- "Commands"; each refusal but that of a body that is cut is this project's profile).
+-- What the body of a request says, and which bodies are refused (the DOTNET_IPC_V1 protocol document of
+-- dotnet/diagnostics, "Commands"; each refusal but that of a body that is cut is this project's profile).
 use Rattle.std.specs.Prelude.{ℕ, zero, suc, ◌*◌, Bool, true, false, ◌&&◌, List, [], ◌∷◌, length, min, Result, Ok, Err, nat_lt, ◌==◌, if◌then◌else◌}
 use Rattle.std.specs.List.{list_all}
 use Rattle.std.specs.Int.{w32, w64, is_in_range}
@@ -33,6 +33,7 @@ is_empty (b ∷ bytes) = false
 
 -- ---- a session is asked for
 
+-- A rule by its parts.
 abbrev pub rule_of : ℕ → ℕ → List ℕ → Rule
 rule_of keywords level name = record { name = name; keywords = keywords; level = level }
 
@@ -57,7 +58,7 @@ abbrev pub with_provider : Rule → Result (List Rule × List ℕ) RequestFault 
 with_provider rule (Ok later) = Ok (rule ∷ later.0, later.1)
 with_provider rule (Err e) = Err e
 
--- So many providers.
+-- This many providers.
 unfoldable pub providers_at : ℕ → List ℕ → Result (List Rule × List ℕ) RequestFault
 providers_at zero bytes = Ok ([], bytes)
 providers_at (suc more) bytes = provider_at bytes >>= λ first. with_provider first.0 (providers_at more first.1)
@@ -66,7 +67,7 @@ providers_at (suc more) bytes = provider_at bytes >>= λ first. with_provider fi
 abbrev pub are_named : List Rule → Bool
 are_named rules = list_all (λ rule. nat_lt 0 (length rule.name)) rules
 
--- So many providers, and no byte after them.
+-- This many providers, and no byte after them.
 abbrev pub whole_providers : ℕ → List ℕ → Result (List Rule) RequestFault
 whole_providers count bytes = do
   rules ← providers_at count bytes
@@ -83,8 +84,8 @@ abbrev pub wish_of : ℕ → ℕ → Bool → Bool → ℕ → Wish
 wish_of megabytes format rundown stackwalk count =
     record { megabytes = megabytes; format = format; rundown = rundown; stackwalk = stackwalk; count = count }
 
--- A budget in megabytes, a format, the flags that the command has, and the number of providers. CollectTracing2 has the flag
--- rundown, and CollectTracing3 also the flag stackwalk (that it stands after rundown is this project's profile).
+-- A budget in megabytes, a format, the flags that the command has, and the number of providers. CollectTracing2 has the
+-- flag rundown, and CollectTracing3 also the flag stackwalk (that it stands after rundown is this project's profile).
 abbrev pub wish_at : Bool → Bool → List ℕ → Field Wish
 wish_at has_rundown has_stackwalk bytes = do
   megabytes ← fixed_at w32 bytes
@@ -102,6 +103,7 @@ can_grant wish = nat_lt 0 wish.megabytes && (wish.format == NETTRACE) && is_in_r
 abbrev pub chunks_of : ℕ → ℕ
 chunks_of megabytes = min megabytes MEGABYTES * MEGABYTE_CHUNKS
 
+-- The configuration that is wished for, with these rules.
 abbrev pub config_of : Wish → List Rule → Config
 config_of wish rules =
     record { rules = rules; chunks = chunks_of wish.megabytes; stackwalk = wish.stackwalk; rundown = wish.rundown }
@@ -136,8 +138,8 @@ event_pipe_of command body =
     else if command == COLLECT_TRACING3 then collect_of true true body
     else Err fault.UnknownCommand
 
--- What a request says, by its command set, its command and its body. Dump, Profiler and start-up commands, CollectTracing4 and
--- ProcessInfo2 are unknown here (this project's profile).
+-- What a request says, by its command set, its command and its body. Dump, Profiler and start-up commands,
+-- CollectTracing4 and ProcessInfo2 are unknown here (this project's profile).
 abbrev pub request_of : ℕ → ℕ → List ℕ → Result Request RequestFault
 request_of set command body =
     if set == EVENT_PIPE then event_pipe_of command body

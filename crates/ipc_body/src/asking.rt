@@ -23,11 +23,12 @@ pub struct Asked<'a> {
     pub rules: &'a [Rule],
 }
 
-// The bytes of a request for a session before its providers: its header, and the 13 bytes of budget, format, rundown and count.
+// The bytes of a request for a session before its providers: its header, and the 13 bytes of budget, format, rundown
+// and count.
 const BEFORE_PROVIDERS: usize = HEADER_BYTES + 13;
 
-// The bytes of a provider beside the units of its name: keywords, level, the count and the final zero of the name, and the count
-// of the filter.
+// The bytes of a provider beside the units of its name: keywords, level, the count and the final zero of the name, and
+// the count of the filter.
 const BESIDE_NAME: usize = 22;
 
 /// The bytes of the request for this session, or none where they are more than a message may have.
@@ -49,7 +50,8 @@ pub fn collect_size(asked: &Asked) -> Option<usize>
 /// Appends the request for this session.
 pub fn put_collect(out: &mut Vec<u8>, asked: &Asked) -> Result<(), AllocError>
     requires { length (collect_request asked.now.megabytes asked.now.rules.now) ≤ MESSAGE_BYTES }
-    ensures ok { OnOk result (out.new.items ≡ out.old.items ++ collect_request asked.now.megabytes asked.now.rules.now) }
+    ensures ok { OnOk result (out.new.items
+        ≡ out.old.items ++ collect_request asked.now.megabytes asked.now.rules.now) }
     ensures err { OnErr result (out.new.items ≡ out.old.items) }
 {
     let Some(size) = collect_size(asked) else {
@@ -117,7 +119,8 @@ fn push_provider(out: &mut Vec<u8>, rule: &Rule)
     push_all(out, &0u32.to_le_bytes());
 }
 
-// Appends a text with its count, for which there is room. A name may be longer than the texts that are written elsewhere.
+// Appends a text with its count, for which there is room. A name may be longer than the texts that are written
+// elsewhere.
 #[tactic(auto, unfolding(pt_num::specs::Numbers::fixed))]
 fn push_text(out: &mut Vec<u8>, units: &[u16])
     requires few { length units.now ≤ MESSAGE_BYTES }

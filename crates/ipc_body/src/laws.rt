@@ -10,11 +10,13 @@ ghost use Rattle.ipc_body.specs.Request.{request_of};
 use crate::commands::{EVENT_PIPE, PROCESS, PROCESS_INFO, STOP_TRACING};
 use pt_num::what_is_put_is_taken;
 
-/// A request that is put is read as the same request: a session with its rules and its budget, a stop with its id, and the
-/// request for what a process says of itself.
+/// A request that is put is read as the same request: a session with its rules and its budget, a stop with its id, and
+/// the request for what a process says of itself.
 pub fn what_is_put_is_read()
-    ensures collect { (megabytes : ℕ) (rules : List Rule) → IsTrue (can_collect megabytes rules) → IsAsked megabytes rules }
-    ensures stop { (id : ℕ) → id < 2 ^ 64 → request_of EVENT_PIPE STOP_TRACING (fixed w64 id) ≡ Ok (request.Stop id) }
+    ensures collect { (megabytes : ℕ) (rules : List Rule) → IsTrue (can_collect megabytes rules)
+        → IsAsked megabytes rules }
+    ensures stop { (id : ℕ) → id < 2 ^ 64
+        → request_of EVENT_PIPE STOP_TRACING (fixed w64 id) ≡ Ok (request.Stop id) }
     ensures info { request_of PROCESS PROCESS_INFO [] ≡ Ok request.Info }
 {
     what_is_put_is_taken();

@@ -9,7 +9,7 @@ use ep_defs::{Rule, RuleList, Units, units_of};
 use pt_num::{TakenText, take_counted, take_u32, take_u64};
 use std::alloc::Global;
 
-/// So many providers, which take all of these bytes.
+/// This many providers, which take all of these bytes.
 pub fn read_providers(alloc: Global, bytes: &[u8], count: u32) -> Result<RuleList, RequestFault>
     ensures exact { Answers (whole_providers count bytes.now) result }
     ensures many { IfOk result (λ rules. length rules ≡ count) }

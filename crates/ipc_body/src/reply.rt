@@ -213,7 +213,8 @@ fn read_info(alloc: Global, bytes: &[u8]) -> Result<(Reply, usize), ReplyFault>
 
 // The runtime cookie, if all of it is there.
 fn take_cookie(bytes: &[u8]) -> Option<[u8; COOKIE_BYTES]>
-    ensures { MatchOption result (length bytes.now < TEXTS_AT) (λ cookie. (TEXTS_AT ≤ length bytes.now) × (cookie ≡ slice_range bytes.now COOKIE_AT TEXTS_AT)) }
+    ensures { MatchOption result (length bytes.now < TEXTS_AT) (λ cookie. (TEXTS_AT ≤ length bytes.now)
+        × (cookie ≡ slice_range bytes.now COOKIE_AT TEXTS_AT)) }
 {
     if bytes.len() < TEXTS_AT {
         return None;

@@ -16,12 +16,12 @@ gave-more tells given left old now new bytes more told gave g l t =
       (gave t).1 ∙ ap (λ (xs : List ℕ). bytes ++ xs) (l u) ∙ sym (append_assoc bytes more (left new)),
     )
 
--- The front of what a link had, where so many bytes came or all.
+-- The front of what a link had, where this many bytes came or all.
 pub front-taken : (bytes rest : List ℕ) (count : ℕ) → length bytes ≤ count → (length bytes ≡ count) ⊎ (rest ≡ []) → take count (bytes ++ rest) ≡ bytes
 front-taken bytes rest count few (inl e) = rw (← e) (take-append_seam bytes rest)
 front-taken bytes rest count few (inr e) = rw (e, append-nil bytes) (take_all count bytes few)
 
--- So many bytes were read and so many are lacking.
+-- This many bytes were read and this many are lacking.
 pub record HasRead {L : Type 0} (tells : L → Bool) (given left : L → List ℕ) (old now : L) (before bytes : List ℕ) (count lacking : ℕ) : Type 0 where
   pub more : List ℕ
   pub grown : bytes ≡ before ++ more

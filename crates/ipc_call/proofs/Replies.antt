@@ -13,7 +13,7 @@ both-full : (head more rest : List ℕ) (lacking : ℕ) → (length more ≡ lac
 both-full head more rest lacking (inl e) = inl (omega (arith, length-append head more, e))
 both-full head more rest lacking (inr e) = inr e
 
--- A header was read, or all that came before the link ended, and then as many bytes as its message has behind it.
+-- A header was read, or all that came before the link ended, and then as many bytes as its message has after it.
 pub own-is : {L : Type 0} (tells : L → Bool) (given left : L → List ℕ) (old mid new : L) (head head' more bytes : List ℕ) (lacking : ℕ)
     → Gave tells given left old mid head → IsFull tells left old mid head HEADER_BYTES → tells mid ≡ tells old
     → Gave tells given left mid new more → IsFull tells left mid new more lacking
@@ -33,7 +33,7 @@ own-is tells given left old mid new head head' more bytes lacking gave full told
     (both-full head more (left new) lacking (full'.1 u)) in
     all ∙ sym (ap (λ (n : ℕ). take n (left old)) said ∙ ap (λ (xs : List ℕ). take (length head + lacking) xs) whole ∙ taken)
 
--- What stands behind the front is the rest.
+-- What stands after the front is the rest.
 rest-is : (bytes rest : List ℕ) (n : ℕ) → bytes ≡ take n bytes ++ rest → rest ≡ drop n bytes
 rest-is bytes rest n e = append_cancel_left (take n bytes) rest (drop n bytes) (sym e ∙ sym (take-append-drop n bytes))
 

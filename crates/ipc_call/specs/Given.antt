@@ -7,7 +7,7 @@ abbrev pub Gave : {L : Type 0} → (L → Bool) → (L → List ℕ) → (L → 
 Gave tells given left old new bytes =
     IsTrue (tells old) → (given new ≡ given old ++ bytes) × (left old ≡ bytes ++ left new)
 
--- There are so many bytes, or fewer where the link has ended.
+-- There are this many bytes, or fewer where the link has ended.
 abbrev pub IsFull : {L : Type 0} → (L → Bool) → (L → List ℕ) → L → L → List ℕ → ℕ → Type 0
 IsFull tells left old new bytes count =
     (length bytes ≤ count) × (IsTrue (tells old) → (length bytes ≡ count) ⊎ (left new ≡ []))

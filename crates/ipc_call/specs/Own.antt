@@ -1,17 +1,19 @@
--- The bytes of a peer that are its reply, and those after it (the DOTNET_IPC_V1 protocol document of dotnet/diagnostics).
+-- The bytes of a peer that are its reply, and those after it (the DOTNET_IPC_V1 protocol document of
+-- dotnet/diagnostics).
 use Rattle.std.specs.Prelude.{ℕ, ◌+◌, List, length, take, drop, Result, Ok, Err}
 use Rattle.ipc_frame.specs.declared.limits.TheConstants.{HEADER_BYTES}
 use Rattle.ipc_frame.specs.Message.{Message, Gap, found}
 use Rattle.ipc_frame.specs.Message as messages
 
--- How many bytes a header, of which these are the first bytes, says that its message has. What is no header ends with it.
+-- How many bytes a header, of which these are the first bytes, says that its message has. What is no header ends with
+-- it.
 abbrev pub said_size : List ℕ → Result Message Gap → ℕ
 said_size head (Err (messages.Lacks more)) = length head + more
 said_size head (Err messages.OtherMagic) = length head
 said_size head (Err (messages.SmallSize size)) = length head
 said_size head (Ok message) = length head
 
--- How many of these bytes are the reply's own, where so many are there.
+-- How many of these bytes are the reply's own, where this many are there.
 abbrev pub own_size : List ℕ → ℕ
 own_size bytes = said_size (take HEADER_BYTES bytes) (found (take HEADER_BYTES bytes))
 

@@ -59,7 +59,8 @@ pub(crate) fn ask<L: Link>(
 
 // Reads the bytes of a reply, or as many of them as come before the link ends.
 fn receive<L: Link>(alloc: Global, link: &mut L) -> Result<Vec<u8>, CallFault>
-    ensures own { IsTrue (L.tells_given link.old) → IfOk result (λ bytes. bytes.items ≡ own_bytes (L.left link.old)) }
+    ensures own { IsTrue (L.tells_given link.old)
+        → IfOk result (λ bytes. bytes.items ≡ own_bytes (L.left link.old)) }
     ensures gave { IfOk result (λ bytes. Gave L.tells_given L.given L.left link.old link.new bytes.items) }
     ensures told { L.tells_given link.new ≡ L.tells_given link.old }
     ensures whole { IsTrue (L.tells_given link.old)
@@ -76,7 +77,7 @@ fn receive<L: Link>(alloc: Global, link: &mut L) -> Result<Vec<u8>, CallFault>
     Ok(bytes)
 }
 
-// How many bytes the message of this header has behind it.
+// How many bytes the message of this header has after it.
 fn lacking_bytes(head: &[u8]) -> usize
     ensures { length head.now + result ≡ said_size head.now (found head.now) }
 {

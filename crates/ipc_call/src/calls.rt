@@ -63,7 +63,8 @@ pub fn collect<L: Link, O: Sink>(
     // A fault comes only from the object that was handed in, in this call.
     ensures link_fault { result ≡ Err LinkFault → HasFailed L.read_faults L.write_faults link.old link.new }
     ensures sound { result ≢ Err LinkFault → IsSound L.read_faults L.write_faults link.old link.new }
-    ensures write_fault { result ≡ Err WriteFault → HasRisen (O.write_faults output.old) (O.write_faults output.new) }
+    ensures write_fault { result ≡ Err WriteFault
+        → HasRisen (O.write_faults output.old) (O.write_faults output.new) }
     ensures written { result ≢ Err WriteFault → O.write_faults output.new ≡ O.write_faults output.old }
 {
     let mut request = Vec::new(alloc);
@@ -144,7 +145,8 @@ pub fn info<L: Link>(alloc: Global, link: &mut L) -> Result<ProcessInfo, CallFau
 fn session_of(reply: Reply) -> Result<u64, CallFault>
     requires { IsReplyTo false reply }
     ensures session { IfOk result (λ id. reply ≡ replies.Session id) }
-    ensures error { IfErr result (λ fault. (code : ℕ) × (fault ≡ PeerError code) × (reply ≡ replies.Error code)) }
+    ensures error { IfErr result (λ fault. (code : ℕ) × (fault ≡ PeerError code)
+        × (reply ≡ replies.Error code)) }
 {
     match reply {
         Reply::Session { id } => Ok(id),

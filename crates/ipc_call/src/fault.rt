@@ -11,8 +11,8 @@ pub enum CallFault {
     /// The peer refused the request, with a code of the protocol or of its runtime.
     #[error("the peer answers error {code:08x}")]
     PeerError { code: u32 },
-    /// The peer's bytes are no reply: the offset of the first field that is wrong, or how many bytes came where the link
-    /// ended early.
+    /// The peer's bytes are no reply: the offset of the first field that is wrong, or how many bytes came where the
+    /// link ended early.
     #[error("the peer's reply is wrong at offset {at}")]
     BadReply { at: u64 },
     /// A read or a write of the link failed.

@@ -11,7 +11,7 @@ use pt_io::{Failed, Link, Sink};
 /// How many bytes are read at once.
 const PIECE_BYTES: usize = 4_096;
 
-/// Appends so many bytes of the link, or as many as come before it ends.
+/// Appends this many bytes of the link, or as many as come before it ends.
 pub(crate) fn read_more<L: Link>(
     link: &mut L,
     bytes: &mut Vec<u8>,
@@ -55,7 +55,8 @@ pub(crate) fn copy<L: Link, O: Sink>(link: &mut L, output: &mut O) -> Result<(),
         → L.given link.new ++ L.left link.new ≡ L.given link.old ++ L.left link.old }
     ensures link_fault { result ≡ Err LinkFault → HasRisen (L.read_faults link.old) (L.read_faults link.new) }
     ensures sound { result ≢ Err LinkFault → L.read_faults link.new ≡ L.read_faults link.old }
-    ensures write_fault { result ≡ Err WriteFault → HasRisen (O.write_faults output.old) (O.write_faults output.new) }
+    ensures write_fault { result ≡ Err WriteFault
+        → HasRisen (O.write_faults output.old) (O.write_faults output.new) }
     ensures written { result ≢ Err WriteFault → O.write_faults output.new ≡ O.write_faults output.old }
     ensures only { OnErr result ((result ≡ Err LinkFault) ⊎ (result ≡ Err WriteFault)) }
     ensures writes { L.write_side link.new ≡ L.write_side link.old }

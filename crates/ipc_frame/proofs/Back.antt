@@ -1,25 +1,22 @@
 -- A message that was put is found, and a message that is found has the form of one.
-use Rattle.std.proofs.Common.{◌≡◌, ℕ, ◌+◌, ◌-◌, ◌^◌, ◌<◌, ◌≤◌, Bool, true, false, ◌||◌, List, [], ◌∷◌, ◌++◌, length, take, drop, Ok, nat_lt, slice_index, refl, ap, sym, ◌∙◌, arith, append_assoc, length-append, length-drop, append-nil, zero, suc}
+use Rattle.std.proofs.Common.{◌≡◌, ℕ, ◌+◌, ◌-◌, ◌^◌, ◌<◌, ◌≤◌, true, false, List, [], ◌∷◌, ◌++◌, length, take, drop, Ok, nat_lt, slice_index, refl, ap, sym, ◌∙◌, arith, append_assoc, length-append, length-drop, append-nil, zero, suc}
 use Rattle.std.specs.List.{slice_range}
 use Rattle.std.specs.Int.{w16}
 use Rattle.std.specs.Cmp.Lexicographic.{same_text}
 use Rattle.std.proofs.lemmas.Grind.{common_steps}
-use Rattle.std.proofs.lemmas.List.{take-append-le, take_all, length-take-le}
+use Rattle.std.proofs.lemmas.List.{take-append-le, take_all, length-take-le, drop-drop}
 use Rattle.byteorder.specs.Numbers.{little_number-reads_back}
 use Rattle.pt_num.specs.Numbers.{fixed}
+use Rattle.std.proofs.Math.Seq.{take-add}
+use Rattle.std.proofs.Math.Bool.{or-true}
 use Rattle.ipc_frame.specs.declared.limits.TheConstants.{MAGIC, SET_AT, COMMAND_AT, SIZE_AT, HEADER_BYTES, MESSAGE_BYTES}
 use Rattle.ipc_frame.specs.Message.{Message, header, found, has_magic, size_in, parts_of, IsMessage, IsReadBack}
 use Rattle.ipc_frame.proofs.Finding.{found-whole}
 
--- Whatever the first test says, the second settles it.
-or_true : (b : Bool) → (b || true) ≡ true
-or_true true = refl
-or_true false = refl
-
 -- Bytes that begin with a header.
 pub header-magic : (set command size : ℕ) (rest : List ℕ) → has_magic (header set command size ++ rest) ≡ true
 unfolding fixed
-header-magic set command size rest = or_true _
+header-magic set command size rest = or-true _
 
 pub header-size : (set command size : ℕ) (rest : List ℕ) → size < 2 ^ 16 → size_in (header set command size ++ rest) ≡ size
 unfolding fixed
@@ -55,22 +52,10 @@ read_back set command body fits = record {
       ∙ ap Ok (header-parts set command size body after refl (omega arith));
 }
 
--- So many bytes and more are the first ones and then the others.
-pub take-add : (xs : List ℕ) (m n : ℕ) → take (m + n) xs ≡ take m xs ++ take n (drop m xs)
-take-add xs zero n = ap (λ k. take k xs) (omega arith)
-take-add [] (suc m) n = grind (arith, common_steps)
-take-add (x ∷ xs) (suc m) n =
-    let e : suc m + n ≡ suc (m + n) = omega arith in rw e (ap (λ (ys : List ℕ). x ∷ ys) (take-add xs m n))
-
-pub drop-add : (xs : List ℕ) (m n : ℕ) → drop n (drop m xs) ≡ drop (m + n) xs
-drop-add xs zero n = ap (λ k. drop k xs) (omega arith)
-drop-add [] (suc m) n = grind (arith, common_steps)
-drop-add (x ∷ xs) (suc m) n = let e : suc m + n ≡ suc (m + n) = omega arith in rw e (drop-add xs m n)
-
 -- A part of the bytes is its first so many and the others.
 pub split : (xs : List ℕ) (from to first rest whole : ℕ) → to ≡ from + first → whole ≡ first + rest →
     take whole (drop from xs) ≡ take first (drop from xs) ++ take rest (drop to xs)
-split xs from to first rest whole t w = rw (t, w) (take-add (drop from xs) first rest ∙ ap (λ ys. take first (drop from xs) ++ take rest ys) (drop-add xs from first))
+split xs from to first rest whole t w = rw (t, w) (take-add first rest (drop from xs) ∙ ap (λ ys. take first (drop from xs) ++ take rest ys) (drop-drop first from xs))
 
 -- Two bytes at a place.
 pub two-at : (xs : List ℕ) (i : ℕ) → i + 2 ≤ length xs → take 2 (drop i xs) ≡ slice_index xs i ∷ slice_index xs (i + 1) ∷ []

@@ -10,8 +10,8 @@ use Rattle.ipc_frame.specs.declared.limits.TheConstants.{MAGIC, SIZE_AT, SET_AT,
 use Rattle.ipc_frame.specs.declared.frame.Framed.{Framed}
 use Rattle.ipc_frame.specs.declared.frame.Framed.TheVariants as framed
 
--- A header: the magic, the size of the whole message in two bytes, command set and command, and two reserved bytes, which are
--- written as 0 (the DOTNET_IPC_V1 protocol document of dotnet/diagnostics, "IPC Message Format").
+-- A header: the magic, the size of the whole message in two bytes, command set and command, and two reserved bytes,
+-- which are written as 0 (the DOTNET_IPC_V1 protocol document of dotnet/diagnostics, "IPC Message Format").
 abbrev pub header : ℕ → ℕ → ℕ → List ℕ
 header set command size = concat (MAGIC ∷ fixed w16 size ∷ (set ∷ command ∷ []) ∷ fixed w16 0 ∷ [])
 
@@ -60,8 +60,8 @@ parts_of bytes =
       body = slice_range bytes HEADER_BYTES (size_in bytes);
     }
 
--- What the first bytes are found to be, in the order in which they are judged; the first finding is the answer (the order is this
--- project's profile).
+-- What the first bytes are found to be, in the order in which they are judged; the first finding is the answer (the
+-- order is this project's profile).
 abbrev pub found : List ℕ → Result Message Gap
 found bytes = do
   known ← check (has_magic bytes) OtherMagic

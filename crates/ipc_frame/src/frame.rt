@@ -22,7 +22,7 @@ pub enum Framed<'a> {
         body: &'a [u8],
         used: usize,
     },
-    /// So many bytes more are needed: first for the header, then for the whole message.
+    /// This many bytes more are needed: first for the header, then for the whole message.
     Need(usize),
     /// The first 14 bytes are others than the magic.
     BadMagic,
@@ -62,7 +62,7 @@ pub fn take_message(bytes: &[u8]) -> Framed<'_>
     }
 }
 
-/// The header of a message of this set and command that has so many bytes, the header among them.
+/// The header of a message of this set and command that has this many bytes, the header among them.
 pub fn header(set: u8, command: u8, size: u16) -> [u8; HEADER_BYTES]
     ensures { result ≡ messages.header set command size }
 {

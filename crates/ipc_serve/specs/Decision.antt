@@ -29,6 +29,7 @@ gap_code (Lacks bytes) = BAD_ENCODING
 gap_code OtherMagic = UNKNOWN_MAGIC
 gap_code (SmallSize size) = BAD_ENCODING
 
+-- The code of a request that is refused.
 abbrev pub fault_code : RequestFault → ℕ
 fault_code fault.BadEncoding = BAD_ENCODING
 fault_code fault.UnknownCommand = UNKNOWN_COMMAND
@@ -39,8 +40,8 @@ abbrev pub or_code : {A E : Type 0} → (E → ℕ) → Result A E → Result A 
 or_code code (Ok value) = Ok value
 or_code code (Err e) = Err (code e)
 
--- The request that the bytes begin with, or the code with which they are refused. The header is judged first, then the command,
--- then the body.
+-- The request that the bytes begin with, or the code with which they are refused. The header is judged first, then the
+-- command, then the body.
 abbrev pub asked_by : List ℕ → Result Request ℕ
 asked_by bytes = do
   message ← or_code gap_code (found bytes)
@@ -48,6 +49,7 @@ asked_by bytes = do
 
 -- ---- what is answered
 
+-- An error with this code is answered.
 abbrev pub refused : ℕ → Action
 refused code = action.Error code (error_reply code)
 
@@ -83,8 +85,8 @@ answer_or_refuse facts table conn (Err code) = record { action = refused code; t
 unfoldable pub decision : Facts → Sessions → ℕ → List ℕ → Decision
 decision facts table conn bytes = answer_or_refuse facts table conn (asked_by bytes)
 
--- The answer and the table are those of the decision, unless memory is missing, which may come at any place: it is answered with a
--- code of its own, and the table stays.
+-- The answer and the table are those of the decision, unless memory is missing, which may come at any place: it is
+-- answered with a code of its own, and the table stays.
 abbrev pub Decides : Decision → Sessions → Action → Sessions → Type 0
 Decides wanted old done new =
     ((done ≡ wanted.action) × (new ≡ wanted.table)) ⊎ ((done ≡ refused OUT_OF_MEMORY) × (new ≡ old))

@@ -61,7 +61,8 @@ pub fn decide(alloc: Global, table: &mut Table, facts: &Facts, conn: u32, bytes:
 
 // What the connection asks for, or the code with which it is refused.
 fn asked(alloc: Global, bytes: &[u8]) -> Result<Request, u32>
-    ensures { MatchResult result (λ request. asked_by bytes.now ≡ Ok request) (λ code. code ≢ OUT_OF_MEMORY → asked_by bytes.now ≡ Err code) }
+    ensures { MatchResult result (λ request. asked_by bytes.now ≡ Ok request) (λ code. code ≢ OUT_OF_MEMORY
+        → asked_by bytes.now ≡ Err code) }
 {
     match take_message(bytes) {
         Framed::Message {

@@ -163,7 +163,7 @@ fn one_changed_byte_changes_no_table_on_an_error(rt: HostRuntime) -> Result<(), 
     Ok(())
 }
 
-// Appends a provider whose name has so many units, the final zero among them.
+// Appends a provider whose name has this many units, the final zero among them.
 fn put_provider(bytes: &mut Vec<u8>, units: usize) -> Result<(), AllocError> {
     bytes.extend_from_slice(&[255; 8])?;
     bytes.extend_from_slice(&[5, 0, 0, 0])?;

@@ -21,7 +21,7 @@ pub on_ok-three : {A E : Type 0} (r : Result A E) {P Q R S : Type 0} → (P → 
 on_ok-three (Ok a) f p q r = f p q r
 on_ok-three (Err e) f p q r = tt
 
--- What is put behind bytes that fit their type fits it too.
+-- What is put after bytes that fit their type fits it too.
 bytes-behind : (before more now : List ℕ) → AreBytes now → now ≡ before ++ more → AreBytes more
 bytes-behind before more now fit e = bytes-of more (low-after before more (low-of (before ++ more) (subst AreBytes e fit)))
 

@@ -61,7 +61,7 @@ drop-front : (xs rest : List ℕ) → drop (length xs) (xs ++ rest) ≡ rest
 drop-front [] rest = refl
 drop-front (x ∷ xs) rest = drop-front xs rest
 
--- So many bytes are read back.
+-- This many bytes are read back.
 bytes-back : (xs rest : List ℕ) → bytes_at (length xs) (xs ++ rest) ≡ Ok (xs, rest)
 bytes-back xs rest =
     let long = le-ltb (length (xs ++ rest)) (length xs) (omega (arith, length-append xs rest)) in
@@ -191,11 +191,11 @@ header-back numbers at flags front more rest long size_fits flags_fit odd =
     (numbers.short flags (front ++ (more ++ rest)) flags_fit)
     (eq-eqb (flags % 2) 1 odd)
 
--- Behind so many bytes.
+-- After this many bytes.
 pub drop-behind : (n : ℕ) (front rest : List ℕ) → length front ≡ n → drop n (front ++ rest) ≡ rest
 drop-behind n front rest e = rw (← e) (drop-front front rest)
 
--- A header, and the blobs behind it.
+-- A header, and the blobs after it.
 body-read : (kind : BlockKind) (at size : ℕ) (body flat : List ℕ) (items : List Item) → header_at at body ≡ Ok size → drop size body ≡ flat → ReadsAll (each_at at_end (blob_at kind) (suc (length body)) (record { at = at + size; before = zero_state }) flat) items → blob_body_at kind at body ≡ Ok items
 body-read kind at size body flat items headed dropped all = rw (headed, dropped, all.reads)
 

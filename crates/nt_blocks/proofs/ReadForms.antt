@@ -19,7 +19,7 @@ use Rattle.pt_num.specs.Fields.{Short, bytes_at, fixed_at}
 use Rattle.pt_num.proofs.FixedForms.{fixed_16, fixed_32, fixed_64}
 use Rattle.pt_num.proofs.Lengths.{length-fixed16, length-fixed64, length-fixed32}
 use Rattle.pt_num.proofs.Steps.{bind_inv, ok-same}
-use Rattle.pt_num.proofs.Fronts.{fixed_enough}
+use Rattle.pt_num.proofs.Fronts.{fixed_enough, number_within}
 use Rattle.nt_meta.specs.Meta.{IsMeta}
 use Rattle.nt_meta.specs.Reading.{meta_at}
 use Rattle.nt_meta.proofs.Spelled.{AreLow, low-after, low-drop}
@@ -36,7 +36,6 @@ use Rattle.nt_blocks.specs.Refusals.{BadMeta, BlobPlace, StackPlace, at_end, blo
 use Rattle.nt_blocks.proofs.ReadBack.{drop-behind, two-fixed}
 use Rattle.nt_blocks.proofs.Shorter.{head-left}
 use Rattle.nt_blocks.proofs.TakeLists.{no_stack, no_thread}
-use Rattle.nt_blocks.proofs.TakeParts.{number_within}
 use Rattle.nt_blocks.proofs.Turns.{each_at-end, each_at-goes}
 
 -- ---- parts

@@ -7,6 +7,7 @@ use Rattle.byteorder.specs.Endian.{little_number}
 use Rattle.pt_num.specs.Steps.{◌>>=◌}
 use Rattle.pt_num.specs.Fields.{Field, Fault, Short, TooWide, bytes_at, fixed_at, groups_at, var_at, with_group}
 use Rattle.pt_num.proofs.Steps.{bind_inv, ok-same}
+use Rattle.nt_head.specs.declared.flags.TheConstants.{ACTIVITY, METADATA, RELATED, SEQUENCE, SIZE, STACK, THREAD}
 use Rattle.nt_head.specs.declared.head.HeadState.{HeadState}
 use Rattle.nt_head.specs.declared.limits.TheConstants.{ID_BYTES}
 use Rattle.nt_head.specs.Head.{HeadFields}
@@ -96,14 +97,14 @@ fields-within : (most : ℕ) (bytes : List ℕ) → length bytes ≤ suc most �
 unfolding fields_at
 fields-within most bytes few =
     within-next most (fixed_at w8 bytes) _ (record { left = λ x rest e. omega (arith, flags-left bytes rest x e) }) (λ flags r0 l0.
-    within-next most (if_set (has_flag 1 flags) (var_at w32) r0) _ (within-field most _ r0 (Shortens-if_set (has_flag 1 flags) (var_at w32) (Shortens-var w32)) l0) (λ metadata r1 l1.
-    within-next most (if_set (has_flag 2 flags) sequence_at r1) _ (within-field most _ r1 (Shortens-if_set (has_flag 2 flags) sequence_at Shortens-sequence) l1) (λ sequence r2 l2.
-    within-next most (if_set (has_flag 4 flags) (var_at w64) r2) _ (within-field most _ r2 (Shortens-if_set (has_flag 4 flags) (var_at w64) (Shortens-var w64)) l2) (λ thread r3 l3.
-    within-next most (if_set (has_flag 8 flags) (var_at w32) r3) _ (within-field most _ r3 (Shortens-if_set (has_flag 8 flags) (var_at w32) (Shortens-var w32)) l3) (λ stack r4 l4.
+    within-next most (if_set (has_flag METADATA flags) (var_at w32) r0) _ (within-field most _ r0 (Shortens-if_set (has_flag METADATA flags) (var_at w32) (Shortens-var w32)) l0) (λ metadata r1 l1.
+    within-next most (if_set (has_flag SEQUENCE flags) sequence_at r1) _ (within-field most _ r1 (Shortens-if_set (has_flag SEQUENCE flags) sequence_at Shortens-sequence) l1) (λ sequence r2 l2.
+    within-next most (if_set (has_flag THREAD flags) (var_at w64) r2) _ (within-field most _ r2 (Shortens-if_set (has_flag THREAD flags) (var_at w64) (Shortens-var w64)) l2) (λ thread r3 l3.
+    within-next most (if_set (has_flag STACK flags) (var_at w32) r3) _ (within-field most _ r3 (Shortens-if_set (has_flag STACK flags) (var_at w32) (Shortens-var w32)) l3) (λ stack r4 l4.
     within-next most (var_at w64 r4) _ (within-field most _ r4 (Shortens-var w64) l4) (λ stamp r5 l5.
-    within-next most (if_set (has_flag 16 flags) (bytes_at ID_BYTES) r5) _ (within-field most _ r5 (Shortens-if_set (has_flag 16 flags) (bytes_at ID_BYTES) (Shortens-bytes ID_BYTES)) l5) (λ activity r6 l6.
-    within-next most (if_set (has_flag 32 flags) (bytes_at ID_BYTES) r6) _ (within-field most _ r6 (Shortens-if_set (has_flag 32 flags) (bytes_at ID_BYTES) (Shortens-bytes ID_BYTES)) l6) (λ related r7 l7.
-    within-next most (if_set (has_flag 128 flags) (var_at w32) r7) _ (within-field most _ r7 (Shortens-if_set (has_flag 128 flags) (var_at w32) (Shortens-var w32)) l7) (λ size r8 l8.
+    within-next most (if_set (has_flag ACTIVITY flags) (bytes_at ID_BYTES) r5) _ (within-field most _ r5 (Shortens-if_set (has_flag ACTIVITY flags) (bytes_at ID_BYTES) (Shortens-bytes ID_BYTES)) l5) (λ activity r6 l6.
+    within-next most (if_set (has_flag RELATED flags) (bytes_at ID_BYTES) r6) _ (within-field most _ r6 (Shortens-if_set (has_flag RELATED flags) (bytes_at ID_BYTES) (Shortens-bytes ID_BYTES)) l6) (λ related r7 l7.
+    within-next most (if_set (has_flag SIZE flags) (var_at w32) r7) _ (within-field most _ r7 (Shortens-if_set (has_flag SIZE flags) (var_at w32) (Shortens-var w32)) l7) (λ size r8 l8.
     within-end most _ r8 l8)))))))))
 
 fields-none : fields_at [] ≡ Err Short

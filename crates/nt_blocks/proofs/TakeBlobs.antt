@@ -91,7 +91,7 @@ blob_cut kind at used before head bytes read may within past = rw (read, may, pa
 
 -- ---- blobs
 
--- So many items are appended, and reading goes on here.
+-- This many items are appended, and reading goes on here.
 pub record Going (kind : BlockKind) (at : ℕ) (body : List ℕ) (old : List Item) (here : ℕ) (before : HeadState) (rest : List ℕ) (items : List Item) : Type 0 where
   pub size : ℕ
   pub more : ℕ
@@ -122,7 +122,7 @@ pub left-turns : (more few : ℕ) → few < more → (later : ℕ) × (more ≡ 
 left-turns zero few within = absurd (omega arith)
 left-turns (suc later) few within = (later, refl, omega arith)
 
--- A blob more is appended, and reading goes on behind it.
+-- A blob more is appended, and reading goes on after it.
 pub going_step : (kind : BlockKind) (at here : ℕ) (body : List ℕ) (old items new : List Item) (before : HeadState) (rest : List ℕ) (blob : Blob) → Going kind at body old here before rest items → 0 < length rest → ReadsBlob kind at here before rest blob → new ≡ items ++ record { at = at + here; kind = blob.kind } ∷ [] → Going kind at body old (here + blob.used) blob.head (drop blob.used rest) new
 going_step kind at here body old items new before rest blob going some reads e =
     let turns = left-turns going.more (length (drop blob.used rest)) (omega (arith, length-drop blob.used rest, reads.some, reads.within, going.enough)) in

@@ -17,7 +17,7 @@ use Rattle.nt_blocks.proofs.Turns.{with_things, turn_first, turn_more, turn_stop
 abbrev pub no_stack : StackPlace → List ℕ → Bool
 no_stack place bytes = place.left == 0
 
--- So many stacks are appended, and reading goes on here.
+-- This many stacks are appended, and reading goes on here.
 pub record GoingStacks (at first count : ℕ) (bytes : List ℕ) (old : List Item) (id left here : ℕ) (rest : List ℕ) (items : List Item) : Type 0 where
   pub more : ℕ
   pub found : List Item
@@ -41,7 +41,7 @@ stacks_start at first count bytes old =
       read = turn_first _;
     }
 
--- A stack more is appended, and reading goes on behind it.
+-- A stack more is appended, and reading goes on after it.
 pub stacks_step : (at first count id left later here : ℕ) (bytes : List ℕ) (old items new : List Item) (rest stack : List ℕ) → GoingStacks at first count bytes old id left here rest items → left ≡ later + 1 → ReadsStack rest stack → new ≡ items ++ record { at = at + here; kind = item.Stack id stack } ∷ [] → GoingStacks at first count bytes old (id + 1) later (here + (4 + length stack)) (drop (4 + length stack) rest) new
 stacks_step at first count id left later here bytes old items new rest stack going one_less reads e =
     let turns = left-turns going.more (length (drop (4 + length stack) rest)) (omega (arith, length-drop (4 + length stack) rest, reads.within, going.enough)) in
@@ -89,7 +89,7 @@ stacks_stop at first count id left here bytes old items rest going some cut =
 abbrev pub no_thread : ℕ → List ℕ → Bool
 no_thread left bytes = left == 0
 
--- So many threads are read, and reading goes on here.
+-- This many threads are read, and reading goes on here.
 pub record GoingThreads (count : ℕ) (bytes : List ℕ) (left here : ℕ) (rest : List ℕ) (threads : List (ℕ × ℕ)) : Type 0 where
   pub more : ℕ
   pub enough : length rest ≤ more
@@ -97,7 +97,7 @@ pub record GoingThreads (count : ℕ) (bytes : List ℕ) (left here : ℕ) (rest
   pub read : (at : ℕ) → each_at no_thread (thread_at at) (suc (length bytes)) count bytes
       ≡ with_things threads (each_at no_thread (thread_at at) (suc more) left rest)
 
--- A thread more is read, and reading goes on behind it.
+-- A thread more is read, and reading goes on after it.
 pub threads_step : (count left later here : ℕ) (bytes rest : List ℕ) (threads new : List (ℕ × ℕ)) (thread : ℕ × ℕ) → GoingThreads count bytes left here rest threads → left ≡ later + 1 → ReadsThread rest thread → new ≡ threads ++ thread ∷ [] → GoingThreads count bytes later (here + 12) (drop 12 rest) new
 threads_step count left later here bytes rest threads new thread going one_less reads e =
     let turns = left-turns going.more (length (drop 12 rest)) (omega (arith, length-drop 12 rest, reads.within, going.enough)) in

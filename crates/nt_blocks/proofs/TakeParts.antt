@@ -1,28 +1,15 @@
 -- What stands before blobs, stacks and threads, and what one of them is read as.
-use Rattle.std.proofs.Common.{◌≡◌, ℕ, ◌+◌, ◌-◌, ◌%◌, ◌<◌, ◌≤◌, true, false, inl, inr, Result, Ok, Err, List, length, take, drop, ap, ◌∙◌, arith, length-drop}
+use Rattle.std.proofs.Common.{◌≡◌, ℕ, ◌+◌, ◌-◌, ◌%◌, ◌<◌, ◌≤◌, true, false, Result, Ok, Err, List, length, take, drop, ap, ◌∙◌, arith, length-drop}
 use Rattle.std.specs.Prelude.{◌&&◌, nat_le, ◌==◌}
-use Rattle.std.specs.Int.{Width, w16, w32, w64, byte_len}
-use Rattle.std.proofs.lemmas.Bool.{cases_lt, le-ltb, lt-ltb, le-leb, lt-leb, and_from}
-use Rattle.std.proofs.lemmas.List.{drop-drop, length-take-le, take_all}
+use Rattle.std.specs.Int.{w16, w32, w64}
+use Rattle.std.proofs.lemmas.Bool.{le-ltb, lt-ltb, le-leb, lt-leb, and_from}
+use Rattle.std.proofs.lemmas.List.{drop-drop, length-take-le}
 use Rattle.byteorder.specs.Endian.{little_number}
 use Rattle.pt_num.specs.Fields.{Short, fixed_at}
 use Rattle.pt_num.proofs.Fronts.{fixed_enough}
 use Rattle.nt_blocks.specs.declared.limits.TheConstants.{HEADER_BYTES, LAST_COUNT}
 use Rattle.nt_blocks.specs.Refusals.{BadBlock, Uncompressed, Refusal, StackPlace, header_at, point_body_at, refusal, stack_at, stack_body_at, thread_at}
 use Rattle.nt_blocks.specs.state.Taken.{CountsStacks, CountsThreads, ReadsStack, ReadsThread}
-
--- What is read as a number is there.
-pub number_within : (w : Width) (bytes rest : List ℕ) (value : ℕ) → fixed_at w bytes ≡ Ok (value, rest) → byte_len w ≤ length bytes
-number_within w bytes rest value e = elim (cases_lt (length bytes) (byte_len w)) [
-  | inl short ↦
-      let none : fixed_at w bytes ≡ Err Short = rw (lt-ltb (length bytes) (byte_len w) short) in
-      absurd (cc)
-  | inr long ↦ long
-]
-
--- The bytes from a place on.
-pub rest_is : (n : ℕ) (bytes : List ℕ) → take (length bytes - n) (drop n bytes) ≡ drop n bytes
-rest_is n bytes = take_all (length bytes - n) (drop n bytes) (omega (arith, length-drop n bytes))
 
 -- A place that is the first.
 pub at_first : {A : Type 0} (at : ℕ) (read : Result A Refusal) → read ≡ Err (refusal at BadBlock) → read ≡ Err (refusal (at + 0) BadBlock)

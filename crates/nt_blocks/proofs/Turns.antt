@@ -1,4 +1,4 @@
--- Things one after another: how reading goes on behind those that were read.
+-- Things one after another: how reading goes on after those that were read.
 use Rattle.std.proofs.Common.{◌≡◌, ℕ, suc, Bool, true, false, Result, Ok, Err, List, [], ◌∷◌, ◌++◌, refl, sym, ap, ◌∙◌, append_assoc}
 use Rattle.std.proofs.lemmas.List.{append-nil}
 use Rattle.pt_num.specs.Steps.{◌>>=◌}
@@ -20,7 +20,7 @@ with_things-snoc {S} {A} {E} things thing (Ok many) =
     ap build (sym (append_assoc things (thing ∷ []) many.things))
 with_things-snoc things thing (Err fault) = refl
 
--- A thing that is read stands before those behind it.
+-- A thing that is read stands before those after it.
 pub each_at-step : {S A E : Type 0} (done : S → List ℕ → Bool) (step : S → List ℕ → Result (One S A) E) (more : ℕ) (state : S) (bytes : List ℕ) (one : One S A) → done state bytes ≡ false → step state bytes ≡ Ok one → each_at done step (suc more) state bytes ≡ with_thing one.thing (each_at done step more one.state one.rest)
 unfolding each_at
 each_at-step done step more state bytes one goes read = rw (goes, each_at, read)
@@ -29,7 +29,7 @@ each_at-stop : {S A E : Type 0} (done : S → List ℕ → Bool) (step : S → L
 unfolding each_at
 each_at-stop done step more state bytes fault goes read = rw (goes, each_at, read)
 
--- Where reading does not end a thing is read, and then those behind it.
+-- Where reading does not end a thing is read, and then those after it.
 pub each_at-goes : {S A E : Type 0} (done : S → List ℕ → Bool) (step : S → List ℕ → Result (One S A) E) (more : ℕ) (state : S) (bytes : List ℕ) → done state bytes ≡ false → each_at done step (suc more) state bytes ≡ (step state bytes >>= λ one. with_thing one.thing (each_at done step more one.state one.rest))
 unfolding each_at
 each_at-goes done step more state bytes goes = rw (goes, each_at)
@@ -39,7 +39,7 @@ pub each_at-end : {S A E : Type 0} (done : S → List ℕ → Bool) (step : S �
 unfolding each_at
 each_at-end done step more state bytes ends = rw (ends, each_at)
 
--- One thing more is read, and reading goes on behind it.
+-- One thing more is read, and reading goes on after it.
 pub turn_more : {S A E : Type 0} (done : S → List ℕ → Bool) (step : S → List ℕ → Result (One S A) E) (more : ℕ) (state : S) (bytes : List ℕ) (read : Result (Many S A) E) (things : List A) (one : One S A) → read ≡ with_things things (each_at done step (suc more) state bytes) → done state bytes ≡ false → step state bytes ≡ Ok one → read ≡ with_things (things ++ one.thing ∷ []) (each_at done step more one.state one.rest)
 turn_more done step more state bytes read things one so_far goes taken =
     so_far

@@ -22,6 +22,7 @@ pub record Blob : Type 0 where
   pub state : HeadState
   pub payload : List ℕ
 
+-- A blob as bytes.
 abbrev pub blob_bytes : Blob → List ℕ
 blob_bytes blob = blob.head ++ blob.payload
 
@@ -72,9 +73,11 @@ pub record IsBlobBody (Holds : Blob → ItemKind → Type 0) (at : ℕ) (items :
 
 -- ---- stacks
 
+-- A stack as bytes: its size, then its addresses.
 abbrev pub stack_bytes : List ℕ → List ℕ
 stack_bytes stack = fixed w32 (length stack) ++ stack
 
+-- The body of stacks: the first id, how many there are, then each of them.
 abbrev pub stack_body : ℕ → List (List ℕ) → List ℕ
 stack_body first stacks = fixed w32 first ++ fixed w32 (length stacks) ++ flat_map stack_bytes stacks
 
@@ -84,6 +87,7 @@ stack_items at id [] = []
 stack_items at id (stack ∷ stacks) =
     record { at = at; kind = item.Stack id stack } ∷ stack_items (at + length (stack_bytes stack)) (id + 1) stacks
 
+-- The bytes are the body of stacks, which have their ids in a row and these items.
 pub record IsStackBody (at : ℕ) (items : List Item) (bytes : List ℕ) : Type 0 where
   pub first : ℕ
   pub stacks : List (List ℕ)
@@ -96,12 +100,15 @@ pub record IsStackBody (at : ℕ) (items : List Item) (bytes : List ℕ) : Type 
 
 -- ---- points
 
+-- A thread of a point as bytes: its id, then its last number.
 abbrev pub thread_bytes : ℕ × ℕ → List ℕ
 thread_bytes thread = fixed w64 thread.0 ++ fixed w32 thread.1
 
+-- The body of a point: its stamp, how many threads there are, then each of them.
 abbrev pub point_body : ℕ → List (ℕ × ℕ) → List ℕ
 point_body stamp threads = fixed w64 stamp ++ fixed w32 (length threads) ++ flat_map thread_bytes threads
 
+-- The bytes are the body of a point, which is this one item.
 pub record IsPointBody (at : ℕ) (items : List Item) (bytes : List ℕ) : Type 0 where
   pub stamp : ℕ
   pub threads : List (ℕ × ℕ)

@@ -20,6 +20,7 @@ abbrev pub drafts_bytes : HeadState → List Draft → List ℕ
 drafts_bytes before [] = []
 drafts_bytes before (draft ∷ drafts) = head_bytes before draft.state ++ draft.payload ++ drafts_bytes draft.state drafts
 
+-- The stamps of the blobs.
 abbrev pub stamps : List Draft → List ℕ
 stamps drafts = map (λ d. d.state.stamp) drafts
 
@@ -28,6 +29,7 @@ abbrev pub least : List ℕ → ℕ
 least [] = 0
 least (n ∷ ns) = fold min n ns
 
+-- The greatest of some numbers, 0 where there are none.
 abbrev pub greatest : List ℕ → ℕ
 greatest [] = 0
 greatest (n ∷ ns) = fold max n ns

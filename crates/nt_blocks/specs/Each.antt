@@ -19,7 +19,8 @@ abbrev pub with_thing : {S A E : Type 0} → A → Result (Many S A) E → Resul
 with_thing thing (Ok many) = Ok (record { things = thing ∷ many.things; state = many.state; rest = many.rest })
 with_thing thing (Err fault) = Err fault
 
--- Things one after another, until this test of where reading stands, and of the bytes that are left, holds. The number bounds how many there can be.
+-- Things one after another, until this test of where reading stands, and of the bytes that are left, holds. The number
+-- bounds how many there can be.
 unfoldable pub each_at : {S A E : Type 0} → (S → List ℕ → Bool) → (S → List ℕ → Result (One S A) E) → ℕ → S → List ℕ → Result (Many S A) E
 each_at done step zero state bytes = Ok (record { things = []; state = state; rest = bytes })
 each_at done step (suc more) state bytes = elim (done state bytes) [

@@ -1,5 +1,5 @@
--- Items in an order in which each name is defined before its use, and the entries that they tell (the NetTrace format document of PerfView (version 4):
--- metadata ids hold for the stream, stack ids up to the next point).
+-- Items in an order in which each name is defined before its use, and the entries that they tell (the NetTrace format
+-- document of PerfView (version 4): metadata ids hold for the stream, stack ids up to the next point).
 use Rattle.std.specs.Prelude.{◌≡◌, ℕ, zero, suc, List, [], ◌∷◌, ◌++◌, map, Option, Some, None, Result, Ok, Err, ◌==◌, if◌then◌else◌, IsOk}
 use Rattle.ep_defs.specs.declared.event.EventDef.{EventDef}
 use Rattle.ep_defs.specs.declared.item.Item.{Item}
@@ -20,9 +20,11 @@ pub record Names : Type 0 where
   pub definitions : List (ℕ × EventDef)
   pub stacks : List (ℕ × List ℕ)
 
+-- The names before the first item.
 abbrev pub no_names : Names
 no_names = record { definitions = []; stacks = [] }
 
+-- What is named by the id, if something is.
 abbrev pub lookup : {A : Type 0} → ℕ → List (ℕ × A) → Option A
 lookup id [] = None
 lookup id (named ∷ others) = if named.0 == id then Some named.1 else lookup id others
@@ -76,6 +78,7 @@ told_after names (kind ∷ kinds) = do
   rest ← told_after (names_after names kind) kinds
   Ok (first ++ rest)
 
+-- The items without their offsets.
 abbrev pub kinds_of : List Item → List ItemKind
 kinds_of items = map (λ i. i.kind) items
 

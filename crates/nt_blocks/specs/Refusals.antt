@@ -1,4 +1,5 @@
--- What is read in the body of a block: its items, or the first thing that is wrong with it (this project's profile says what is refused, and where; the NetTrace format document of PerfView (version 4) what a body is).
+-- What is read in the body of a block: its items, or the first thing that is wrong with it (this project's profile says
+-- what is refused, and where; the NetTrace format document of PerfView (version 4) what a body is).
 use Rattle.std.specs.Prelude.{ℕ, suc, ◌+◌, ◌-◌, ◌%◌, Bool, true, false, ◌&&◌, List, [], ◌∷◌, length, drop, Result, Ok, Err, nat_lt, nat_le, ◌==◌}
 use Rattle.std.specs.Int.{w16, w32, w64}
 use Rattle.ep_defs.specs.declared.item.Item.{Item}
@@ -31,6 +32,7 @@ pub record Refusal : Type 0 where
   pub at : ℕ
   pub reason : Reason
 
+-- Refused at this place, for this reason.
 abbrev pub refusal : ℕ → Reason → Refusal
 refusal at reason = record { at = at; reason = reason }
 
@@ -83,7 +85,7 @@ header_at at body = do
   compressed ← check (flags.0 % 2 == 1) (refusal (at + 2) Uncompressed)
   Ok size.0
 
--- Behind that header the blobs, up to the body's end.
+-- After that header the blobs, up to the body's end.
 abbrev pub blob_body_at : BlockKind → ℕ → List ℕ → Result (List Item) Refusal
 blob_body_at kind at body =
     header_at at body
@@ -109,7 +111,7 @@ stack_at start place bytes = do
     rest = stack.1;
   })
 
--- So many stacks with the ids from this one on, the first at this offset, and nothing after them.
+-- This many stacks with the ids from this one on, the first at this offset, and nothing after them.
 unfoldable pub stacks_at : ℕ → ℕ → ℕ → ℕ → List ℕ → Result (List Item) Refusal
 stacks_at start at first count bytes =
     each_at (λ place left. place.left == 0) (stack_at start) (suc (length bytes)) (record { at = at; id = first; left = count }) bytes
@@ -126,14 +128,14 @@ stack_body_at at body = do
 
 -- ---- points
 
--- A thread and its number, of so many threads that are left.
+-- A thread and its number, of this many threads that are left.
 unfoldable pub thread_at : ℕ → ℕ → List ℕ → Result (One ℕ (ℕ × ℕ)) Refusal
 thread_at start left bytes = do
   thread ← or_else_fault (fixed_at w64 bytes) (refusal start BadBlock)
   number ← or_else_fault (fixed_at w32 thread.1) (refusal start BadBlock)
   Ok (record { thing = (thread.0, number.0); state = left - 1; rest = number.1 })
 
--- So many threads, and nothing after them.
+-- This many threads, and nothing after them.
 unfoldable pub threads_at : ℕ → ℕ → List ℕ → Result (List (ℕ × ℕ)) Refusal
 threads_at start count bytes =
     each_at (λ left more. left == 0) (thread_at start) (suc (length bytes)) count bytes
@@ -151,6 +153,7 @@ point_body_at at body = do
 
 -- ---- any body
 
+-- What is read in a body of this kind that stands at an offset, or the first thing that is wrong in it.
 abbrev pub body_at : BlockKind → ℕ → List ℕ → Result (List Item) Refusal
 body_at block.Event at body = blob_body_at block.Event at body
 body_at block.Metadata at body = blob_body_at block.Metadata at body

@@ -5,7 +5,7 @@ use Rattle.nt_blocks.specs.declared.take.BodyFault.{BodyFault}
 use Rattle.nt_blocks.specs.declared.take.BodyFault.TheVariants as fault
 use Rattle.nt_blocks.specs.Refusals.{Refusal, refusal, BadBlock, BadHead, BadMeta, Uncompressed}
 
--- The items that are read stand behind those that were there.
+-- The items that are read stand after those that were there.
 pub record Appends (read : Result (List Item) Refusal) (before after : List Item) : Type 0 where
   pub found : List Item
   pub reads : read ≡ Ok found
@@ -19,7 +19,7 @@ IsFault read at (fault.BadMeta place) = read ≡ Err (refusal (at + place) BadMe
 IsFault read at (fault.Uncompressed place) = read ≡ Err (refusal (at + place) Uncompressed)
 IsFault read at fault.OutOfMemory = Unit {0}
 
--- The fault stands at most so many bytes behind the body's first one.
+-- The fault stands at most this many bytes after the body's first one.
 abbrev pub StandsWithin : ℕ → BodyFault → Type 0
 StandsWithin most (fault.BadBlock place) = place ≤ most
 StandsWithin most (fault.BadHead place) = place ≤ most

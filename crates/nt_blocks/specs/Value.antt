@@ -9,7 +9,8 @@ use Rattle.nt_head.specs.Head.{zero_state}
 use Rattle.nt_blocks.specs.Bodies.{AreChained, Blob, HoldsEvent, HoldsMeta, blob_bytes}
 use Rattle.nt_blocks.specs.declared.limits.TheConstants.{HEADER_BYTES, WRITTEN_BYTES}
 
--- The kind of the block, the bytes of the blobs so far, what the header of the last one said, and the least and the greatest of their stamps, 0 where there are none.
+-- The kind of the block, the bytes of the blobs so far, what the header of the last one said, and the least and the
+-- greatest of their stamps, 0 where there are none.
 pub record Making : Type 0 where
   pub kind : BlockKind
   pub bytes : List ℕ
@@ -30,6 +31,7 @@ HoldsIn block.Metadata blob kind = HoldsMeta blob kind
 HoldsIn block.Stack blob kind = ⊥
 HoldsIn block.Point blob kind = ⊥
 
+-- Each of the blobs holds something, as a blob of a block of this kind.
 abbrev pub EachHolds : BlockKind → List Blob → Type 0
 EachHolds kind [] = Unit {0}
 EachHolds kind (blob ∷ blobs) = ((held : ItemKind) × HoldsIn kind blob held) × EachHolds kind blobs
@@ -47,7 +49,8 @@ pub record AreBlobs (kind : BlockKind) (bytes : List ℕ) (last : HeadState) : T
   pub latest : last ≡ last_head zero_state blobs
   pub hold : EachHolds kind blobs
 
--- The body is no greater than those that are written, in a metadata block no header has a sequence, and the bytes are blobs.
+-- The body is no greater than those that are written, in a metadata block no header has a sequence, and the bytes are
+-- blobs.
 pub record IsBounded (kind : BlockKind) (bytes : List ℕ) (last : HeadState) : Type 0 where
   pub few : HEADER_BYTES + length bytes ≤ WRITTEN_BYTES
   pub quiet : kind ≡ block.Metadata → IsQuiet last

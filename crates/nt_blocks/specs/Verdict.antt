@@ -1,4 +1,5 @@
--- What is found in the bytes of a stream, whole or not (the NetTrace format document of PerfView (version 4); what is refused, and where, is this project's profile).
+-- What is found in the bytes of a stream, whole or not (the NetTrace format document of PerfView (version 4); what is
+-- refused, and where, is this project's profile).
 use Rattle.std.specs.Prelude.{ℕ, zero, suc, ◌+◌, Bool, true, false, ◌&&◌, not, List, [], ◌∷◌, ◌++◌, length, take, drop, slice_index, Result, Ok, Err, nat_eq, nat_lt, nat_le, ◌==◌, if◌then◌else◌}
 use Rattle.std.specs.Cmp.Lexicographic.{pointwise}
 use Rattle.byteorder.specs.Endian.{little_number}
@@ -20,10 +21,11 @@ pub data Stop : Type 0 where
   Cut : Stop
   Refused : (refusal : Refusal) → Stop
 
+-- The reading stops where something is wrong.
 abbrev pub refused : ℕ → Reason → Stop
 refused at reason = Refused (refusal at reason)
 
--- A unit of so many bytes, and what follows it. It is judged when all its bytes are there.
+-- A unit of this many bytes, and what follows it. It is judged when all its bytes are there.
 abbrev pub unit : ℕ → List ℕ → Result (List ℕ × List ℕ) Stop
 unit n bytes = if nat_lt (length bytes) n then Err Cut else Ok (take n bytes, drop n bytes)
 
@@ -58,7 +60,8 @@ info_in payload =
       rate = number_in payload 44;
     }
 
--- The payload of an object of this kind, and the object's end: a Trace object's 48 bytes, or a block's size, padding and body.
+-- The payload of an object of this kind, and the object's end: a Trace object's 48 bytes, or a block's size, padding
+-- and body.
 abbrev pub payload_at : ObjectKind → ℕ → List ℕ → Result Object Stop
 payload_at kind.Trace at bytes = do
   payload ← unit 48 bytes
@@ -71,6 +74,7 @@ payload_at (kind.Block block) at bytes = do
   items ← or_refused (body_at block (at + 4 + length padding.0) body.0)
   closed items (at + 4 + length padding.0 + length body.0) body.1
 
+-- The object is the Trace object.
 abbrev pub is_trace : ObjectKind → Bool
 is_trace kind.Trace = true
 is_trace (kind.Block block) = false
@@ -79,7 +83,8 @@ is_trace (kind.Block block) = false
 abbrev pub may_stand : Bool → ObjectKind → Bool
 may_stand has_trace object = if has_trace then not (is_trace object) else is_trace object
 
--- The name of so many bytes and the tag behind it, and the object's payload; the versions, which stand before the name, are judged in between.
+-- The name of this many bytes and the tag after it, and the object's payload; the versions, which stand before the
+-- name, are judged in between.
 abbrev pub named_at : Bool → ℕ → ℕ → List ℕ → List ℕ → Result Object Stop
 named_at has_trace n at head bytes = do
   name ← unit (n + 1) bytes
@@ -96,12 +101,14 @@ object_at has_trace at bytes = do
   begun ← check (pointwise nat_eq (take 2 head.0) (5 ∷ 1 ∷ []) && is_name_length (number_in head.0 10)) (refused at BadObject)
   named_at has_trace (number_in head.0 10) at head.0 head.1
 
--- What was found: a refusal, a whole stream, or the beginning of one; and the items of the whole objects before that place.
+-- What was found: a refusal, a whole stream, or the beginning of one; and the items of the whole objects before that
+-- place.
 pub data Verdict : Type 0 where
   Bad : (refusal : Refusal) → (items : List Item) → Verdict
   Good : (items : List Item) → Verdict
   More : (items : List Item) → Verdict
 
+-- What is found in a stream whose reading stops so, after these items.
 abbrev pub stopped : Stop → List Item → Verdict
 stopped Cut items = More items
 stopped (Refused refusal) items = Bad refusal items

@@ -73,9 +73,10 @@ impl BlobBlock {
         self.kind
     }
 
-    /// Whether so many bytes more keep the body at 102,400 bytes at most.
+    /// Whether this many bytes more keep the body at 102,400 bytes at most.
     pub fn fits(&self, blob: usize) -> bool
-        ensures drafts { (drafts : List Draft) → IsMaking drafts self.now → IsTrue result ↔ (length (blob_body drafts) + blob ≤ WRITTEN_BYTES) }
+        ensures drafts { (drafts : List Draft) → IsMaking drafts self.now
+            → IsTrue result ↔ (length (blob_body drafts) + blob ≤ WRITTEN_BYTES) }
         ensures room { IsTrue result ↔ (HEADER_BYTES + length self.now.bytes + blob ≤ WRITTEN_BYTES) }
     {
         blob <= WRITTEN_BYTES - HEADER_BYTES - self.bytes.len()
@@ -90,9 +91,11 @@ impl BlobBlock {
 
     /// The whole body, with its header: at most 102,400 bytes.
     pub fn body(&self, alloc: Global) -> Result<Vec<u8>, AllocError>
-        ensures ok { (drafts : List Draft) → IsMaking drafts self.now → IfOk result (λ body. body.items ≡ blob_body drafts) }
+        ensures ok { (drafts : List Draft) → IsMaking drafts self.now
+            → IfOk result (λ body. body.items ≡ blob_body drafts) }
         ensures few { IfOk result (λ body. length body.items ≤ WRITTEN_BYTES) }
-        ensures form { (at : ℕ) → IfOk result (λ body. (items : List Item) × IsBody self.now.kind at items body.items) }
+        ensures form { (at : ℕ)
+            → IfOk result (λ body. (items : List Item) × IsBody self.now.kind at items body.items) }
     {
         let mut body = Vec::with_capacity(alloc, HEADER_BYTES + self.bytes.len())?;
         put_u16(&mut body, HEADER_BYTES as u16)?;
@@ -122,7 +125,8 @@ impl BlobBlock {
         requires room { HEADER_BYTES + length self.old.bytes + HEAD_BYTES + length payload.now ≤ WRITTEN_BYTES }
         requires size { head.now.size ≡ length payload.now }
         requires holds { MayAdd self.old.kind head.now payload.now }
-        ensures ok { (drafts : List Draft) → IsMaking drafts self.old → OnOk result (IsMaking (drafts ++ record { state = head.now; payload = payload.now } ∷ []) self.new) }
+        ensures ok { (drafts : List Draft) → IsMaking drafts self.old
+            → OnOk result (IsMaking (drafts ++ record { state = head.now; payload = payload.now } ∷ []) self.new) }
         ensures err { OnErr result (self.new ≡ self.old) }
         ensures kind { self.new.kind ≡ self.old.kind }
     {

@@ -28,7 +28,8 @@ pub fn what_a_body_holds_is_read()
 
 /// A body holds what is read in it.
 pub fn what_is_read_is_held()
-    ensures { (kind : BlockKind) (at : ℕ) (items : List Item) (bytes : List ℕ) → AreBytes bytes → body_at kind at bytes ≡ Ok items
+    ensures { (kind : BlockKind) (at : ℕ) (items : List Item) (bytes : List ℕ) → AreBytes bytes
+        → body_at kind at bytes ≡ Ok items
         → IsBody kind at items bytes }
 {
     heads_have_forms();
@@ -37,6 +38,8 @@ pub fn what_is_read_is_held()
 
 /// In ordered items a thread's gaps and its last number are those of the entries that the items tell.
 pub fn items_have_the_gaps_of_their_entries()
-    ensures gaps { (thread : ℕ) (items : List Item) (entries : List Entry) → Tell items entries → item_gaps thread items ≡ gaps thread entries }
-    ensures last { (thread : ℕ) (items : List Item) (entries : List Entry) → Tell items entries → last_item_number thread items ≡ last_of thread entries }
+    ensures gaps { (thread : ℕ) (items : List Item) (entries : List Entry) → Tell items entries
+        → item_gaps thread items ≡ gaps thread entries }
+    ensures last { (thread : ℕ) (items : List Item) (entries : List Entry) → Tell items entries
+        → last_item_number thread items ≡ last_of thread entries }
 {}

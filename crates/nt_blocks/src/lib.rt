@@ -1,5 +1,5 @@
-//! The bodies of blocks, both ways: event and metadata blocks in the making, stacks and points that are put, and what is
-//! taken from a body.
+//! The bodies of blocks, both ways: event and metadata blocks in the making, stacks and points that are put, and what
+//! is taken from a body.
 //!
 //! `blob_block` makes a body of blobs, `put` puts stacks and points, `take` takes a body of any kind, `laws` has what
 //! holds of the definitions alone, and `limits` the bounds.

@@ -19,7 +19,8 @@ pub fn put_stacks(out: &mut Vec<u8>, first: u32, stacks: &[Bytes]) -> Result<(),
     requires ids { first + length stacks.now ≤ LAST_COUNT }
     requires small { length (stack_body first stacks.now) < 2 ^ 31 }
     ensures ok { OnOk result (out.new.items ≡ out.old.items ++ stack_body first stacks.now) }
-    ensures form { (at : ℕ) → OnOk result (IsBody block.Stack at (stack_items (at + 8) first stacks.now) (stack_body first stacks.now)) }
+    ensures form { (at : ℕ)
+        → OnOk result (IsBody block.Stack at (stack_items (at + 8) first stacks.now) (stack_body first stacks.now)) }
     ensures err { OnErr result (out.new.items ≡ out.old.items) }
 {
     let start = out.len();
@@ -60,7 +61,10 @@ fn append_stack(out: &mut Vec<u8>, stack: &Bytes) -> Result<(), AllocError>
 pub fn put_point(out: &mut Vec<u8>, stamp: u64, threads: &[(u64, u32)]) -> Result<(), AllocError>
     requires { length threads.now ≤ POINT_THREADS }
     ensures ok { OnOk result (out.new.items ≡ out.old.items ++ point_body stamp threads.now) }
-    ensures form { (at : ℕ) → OnOk result (IsBody block.Point at (record { at = at; kind = item.Point stamp threads.now } ∷ []) (point_body stamp threads.now)) }
+    ensures form { (at : ℕ) → OnOk result (IsBody block.Point at (record {
+      at = at;
+      kind = item.Point stamp threads.now;
+    } ∷ []) (point_body stamp threads.now)) }
     ensures err { OnErr result (out.new.items ≡ out.old.items) }
 {
     let start = out.len();
@@ -75,7 +79,8 @@ fn append_point(out: &mut Vec<u8>, stamp: u64, threads: &[(u64, u32)]) -> Result
     requires { length threads.now ≤ POINT_THREADS }
     ensures ok { OnOk result (out.new.items ≡ out.old.items ++ point_body stamp threads.now) }
     ensures bytes { OnOk result (AreBytes out.new.items) }
-    ensures fit { OnOk result (AllByRecursion (λ thread. (thread.0 < 2 ^ 64) × (thread.1 < 2 ^ 32)) threads.now) }
+    ensures fit { OnOk result (AllByRecursion (λ thread. (thread.0 < 2 ^ 64)
+        × (thread.1 < 2 ^ 32)) threads.now) }
     ensures err { OnErr result (Keeps out.old.items out.new.items) }
 {
     put_u64(out, stamp)?;

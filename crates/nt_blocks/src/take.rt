@@ -71,8 +71,8 @@ impl<T: Drop> From<AllocFailed<T>> for BodyFault {
 
 /// Takes a whole body of this kind, which stands at this offset of the stream, and appends its items.
 ///
-/// The fault is the first in reading order, and stands in the body or at its end. After one the items are as before. An empty payload takes no memory, nor
-/// does a claimed count.
+/// The fault is the first in reading order, and stands in the body or at its end. After one the items are as before. An
+/// empty payload takes no memory, nor does a claimed count.
 pub fn take_body(
     alloc: Global,
     kind: BlockKind,
@@ -115,7 +115,7 @@ fn take_items(
     }
 }
 
-// The size of the header of a body of blobs, behind which the blobs stand.
+// The size of the header of a body of blobs, after which the blobs stand.
 fn header_size(body: &[u8]) -> Result<usize, BodyFault>
     ensures ok { IfOk result (λ size. (at : ℕ) → header_at at body.now ≡ Ok size) }
     ensures within { IfOk result (λ size. size ≤ length body.now) }
@@ -188,7 +188,8 @@ fn take_blob(
     requires holds { HoldsBlobs kind }
     requires here { here + length bytes.now < 2 ^ 63 }
     ensures ok { IfOk result (λ blob. (at : ℕ) → ReadsBlob kind at here before.now bytes.now blob) }
-    ensures fault { IfErr result (λ fault. (at : ℕ) → IsFault (blob_at kind (record { at = at + here; before = before.now }) bytes.now) at fault) }
+    ensures fault { IfErr result (λ fault. (at : ℕ)
+        → IsFault (blob_at kind (record { at = at + here; before = before.now }) bytes.now) at fault) }
     ensures stands { IfErr result (λ fault. StandsWithin (here + length bytes.now) fault) }
 {
     let Some(BlobHead { state, used }) = blob_head(kind, before, bytes) else {
@@ -213,7 +214,8 @@ struct BlobHead {
 // The header at the front of the bytes, if a blob of such a block may have it and its payload is there.
 fn blob_head(kind: BlockKind, before: &HeadState, bytes: &[u8]) -> Option<BlobHead>
     ensures some { IfSome result (λ head. ReadsHead kind before.now bytes.now head.state head.used) }
-    ensures none { IsNone result → (at : ℕ) → blob_at kind (record { at = at; before = before.now }) bytes.now ≡ Err (refusal at BadHead) }
+    ensures none { IsNone result → (at : ℕ)
+        → blob_at kind (record { at = at; before = before.now }) bytes.now ≡ Err (refusal at BadHead) }
 {
     let TakenHead::Head { state, used } = take_head(bytes, before) else {
         return None;
@@ -245,7 +247,8 @@ fn held(
 ) -> Result<ItemKind, BodyFault>
     requires { HoldsBlobs kind }
     ensures ok { IfOk result (λ held. (at : ℕ) → held_at kind head.now at payload.now ≡ Ok held) }
-    ensures fault { IfErr result (λ fault. (at : ℕ) → IsFault (held_at kind head.now (at + place) payload.now) at fault) }
+    ensures fault { IfErr result (λ fault. (at : ℕ)
+        → IsFault (held_at kind head.now (at + place) payload.now) at fault) }
     ensures stands { IfErr result (λ fault. StandsWithin place fault) }
 {
     match kind {
@@ -317,10 +320,11 @@ fn stack_counts(body: &[u8]) -> Option<(u32, u32)>
     Some((first, count))
 }
 
-// The stack at the front of the bytes, behind its size.
+// The stack at the front of the bytes, after its size.
 fn stack_in(bytes: &[u8]) -> Option<&[u8]>
     ensures some { IfSome result (λ stack. ReadsStack bytes.now stack.now) }
-    ensures none { IsNone result → (start : ℕ) (place : StackPlace) → stack_at start place bytes.now ≡ Err (refusal start BadBlock) }
+    ensures none { IsNone result → (start : ℕ) (place : StackPlace)
+        → stack_at start place bytes.now ≡ Err (refusal start BadBlock) }
 {
     let size = take_u32(bytes)? as usize;
     let stack = &bytes[SHORT_BYTES..];
@@ -363,7 +367,7 @@ fn point_counts(body: &[u8]) -> Option<(u64, u32)>
     Some((stamp, count))
 }
 
-// So many threads with their numbers, and nothing after them.
+// This many threads with their numbers, and nothing after them.
 fn take_threads(alloc: Global, count: u32, bytes: &[u8]) -> Result<Vec<(u64, u32)>, BodyFault>
     ensures ok { IfOk result (λ threads. (at : ℕ) → threads_at at count bytes.now ≡ Ok threads.items) }
     ensures fault { IfErr result (λ fault. (at : ℕ) → IsFault (threads_at at count bytes.now) at fault) }
@@ -387,7 +391,8 @@ fn take_threads(alloc: Global, count: u32, bytes: &[u8]) -> Result<Vec<(u64, u32
 // The thread at the front of the bytes, and its number.
 fn thread_in(bytes: &[u8]) -> Option<(u64, u32)>
     ensures some { IfSome result (λ thread. ReadsThread bytes.now thread) }
-    ensures none { IsNone result → (start left : ℕ) → thread_at start left bytes.now ≡ Err (refusal start BadBlock) }
+    ensures none { IsNone result → (start left : ℕ)
+        → thread_at start left bytes.now ≡ Err (refusal start BadBlock) }
 {
     let thread = take_u64(bytes)?;
     let number = take_u32(&bytes[LONG_BYTES..])?;

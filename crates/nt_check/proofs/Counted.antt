@@ -38,13 +38,14 @@ held-held count = omega arith
 abbrev make : ℕ → ℕ → ℕ → Numbers
 make events last gaps = record { events = events; last = last; gaps = gaps }
 
-same : (a b : Numbers) → a.events ≡ b.events → a.last ≡ b.last → a.gaps ≡ b.gaps → a ≡ b
-same a b events last gaps =
+-- Numbers that are the same one by one.
+pub same_numbers : (a b : Numbers) → a.events ≡ b.events → a.last ≡ b.last → a.gaps ≡ b.gaps → a ≡ b
+same_numbers a b events last gaps =
     ap (λ n. make n a.last a.gaps) events ∙ ap (λ n. make b.events n a.gaps) last ∙ ap (λ n. make b.events b.last n) gaps
 
 tally-more : (sightings : List Sighting) (sighting : Sighting) → tally (sightings ++ sighting ∷ []) ≡ step (tally sightings) sighting
 tally-more sightings (Seen number) =
-    same (tally (sightings ++ Seen number ∷ [])) (step (tally sightings) (Seen number))
+    same_numbers (tally (sightings ++ Seen number ∷ [])) (step (tally sightings) (Seen number))
     (ap held (events-append sightings (Seen number ∷ [])) ∙ held-add (count_by is_event sightings) 1)
     (last_number-append 0 sightings (Seen number ∷ []))
     (ap held (missing-append 0 sightings (Seen number ∷ [])) ∙ held-gap (missing 0 sightings) (distance (last_number 0 sightings + 1) number))
@@ -52,7 +53,7 @@ tally-more sightings (Seen number) =
     held-gap : (count gap : ℕ) → held (count + (gap + 0)) ≡ held (held count + gap)
     held-gap count gap = omega arith
 tally-more sightings (Known number) =
-    same (tally (sightings ++ Known number ∷ [])) (step (tally sightings) (Known number))
+    same_numbers (tally (sightings ++ Known number ∷ [])) (step (tally sightings) (Known number))
     (ap held (events-append sightings (Known number ∷ [])) ∙ held-held (count_by is_event sightings))
     (last_number-append 0 sightings (Known number ∷ []))
     (ap held (missing-append 0 sightings (Known number ∷ [])) ∙ held-gap (missing 0 sightings) (distance (last_number 0 sightings) number))

@@ -4,6 +4,7 @@ use Rattle.std.specs.Prelude.{IsOk, IsErrAnd}
 use Rattle.ep_defs.specs.declared.item.ItemKind.{ItemKind}
 use Rattle.ep_defs.specs.Entry.{Entry}
 use Rattle.pt_num.specs.Steps.{◌>>=◌}
+use Rattle.pt_num.proofs.Steps.{both_ok, ok_value}
 use Rattle.nt_blocks.specs.Ordered.{Disorder, Names, tell, names_after, told_after}
 use Rattle.nt_blocks.specs.Ordered as disorder
 use Rattle.nt_check.specs.declared.checker.CheckFault.{CheckFault}
@@ -13,18 +14,8 @@ use Rattle.nt_check.specs.declared.checker.CheckKind.TheVariants.{UnknownMetadat
 use Rattle.nt_check.specs.Faults.{disorder_of}
 use Rattle.nt_check.specs.state.Took.{names_at}
 
--- Where two steps answer, so does each.
-both-ok : {E A B : Type 0} (p : Result A E) (f : A → Result B E) → IsOk (p >>= f) → (x : A) × (p ≡ Ok x) × IsOk (f x)
-both-ok (Ok x) f ok = (x, refl, ok)
-both-ok (Err fault) f ok = absurd (cc)
-
 ok-is : {E A : Type 0} (p : Result A E) (x : A) → p ≡ Ok x → IsOk p
 ok-is p x e = rw e refl
-
--- No answer is a fault.
-pub ok-no-fault : {E A : Type 0} (p : Result A E) (fault : E) → IsOk p → p ≡ Err fault → ⊥
-ok-no-fault (Ok x) fault ok e = cc
-ok-no-fault (Err other) fault ok e = cc
 
 pub names_at-more : (names : Names) (kinds : List ItemKind) (kind : ItemKind) → names_at names (kinds ++ kind ∷ []) ≡ names_after (names_at names kinds) kind
 names_at-more names [] kind = refl
@@ -33,23 +24,19 @@ names_at-more names (first ∷ kinds) kind = names_at-more (names_after names fi
 pub told-refused : (names : Names) (kinds : List ItemKind) (kind : ItemKind) (fault : Disorder) → IsOk (told_after names kinds) → tell (names_at names kinds) kind ≡ Err fault → told_after names (kinds ++ kind ∷ []) ≡ Err fault
 told-refused names [] kind fault ok e = rw e refl
 told-refused names (first ∷ kinds) kind fault ok e =
-    let one = both-ok (tell names first) _ ok in
-    let others = both-ok (told_after (names_after names first) kinds) _ one.2 in
+    let one = both_ok (tell names first) _ ok in
+    let others = both_ok (told_after (names_after names first) kinds) _ one.2 in
     let later : told_after (names_after names first) (kinds ++ kind ∷ []) ≡ Err fault = told-refused (names_after names first) kinds kind fault (ok-is (told_after (names_after names first) kinds) others.0 others.1) e in
     rw (one.1, later) refl
 
 pub told-taken : (names : Names) (kinds : List ItemKind) (kind : ItemKind) → IsOk (told_after names kinds) → IsOk (tell (names_at names kinds) kind) → IsOk (told_after names (kinds ++ kind ∷ []))
 told-taken names [] kind ok fine =
-    let there = is-ok (tell names kind) fine in rw there.1 refl
-  where
-    is-ok : {E A : Type 0} (p : Result A E) → IsOk p → (x : A) × (p ≡ Ok x)
-    is-ok (Ok x) ok = (x, refl)
-    is-ok (Err fault) ok = absurd (cc)
+    let there = ok_value (tell names kind) fine in rw there.1 refl
 told-taken names (first ∷ kinds) kind ok fine =
-    let one = both-ok (tell names first) _ ok in
-    let others = both-ok (told_after (names_after names first) kinds) _ one.2 in
+    let one = both_ok (tell names first) _ ok in
+    let others = both_ok (told_after (names_after names first) kinds) _ one.2 in
     let later : IsOk (told_after (names_after names first) (kinds ++ kind ∷ [])) = told-taken (names_after names first) kinds kind (ok-is (told_after (names_after names first) kinds) others.0 others.1) fine in
-    let there = both-ok (told_after (names_after names first) (kinds ++ kind ∷ [])) (λ more. Ok more) (same-ok _ later) in
+    let there = both_ok (told_after (names_after names first) (kinds ++ kind ∷ [])) (λ more. Ok more) (same-ok _ later) in
     rw (one.1, there.1) refl
   where
     same-ok : (p : Result (List Entry) Disorder) → IsOk p → IsOk (p >>= (λ more. Ok more))

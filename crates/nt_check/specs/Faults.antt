@@ -4,6 +4,7 @@ use Rattle.nt_blocks.specs.Ordered as disorder
 use Rattle.nt_check.specs.declared.checker.CheckKind.{CheckKind}
 use Rattle.nt_check.specs.declared.checker.CheckKind.TheVariants.{UnknownMetadata, UnknownStack, MetadataTwice, StackTwice}
 
+-- A fault of the checker as a disorder of items.
 abbrev pub disorder_of : CheckKind → Disorder
 disorder_of (UnknownMetadata id) = disorder.UnknownMetadata id
 disorder_of (UnknownStack id) = disorder.UnknownStack id

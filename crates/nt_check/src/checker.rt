@@ -63,12 +63,16 @@ impl Checker {
         }
     }
 
-    /// Takes one more item. It is refused exactly where it can't stand after the items that were taken, with the reason.
-    /// After a fault the checker stands for the same items as before.
+    /// Takes one more item. It is refused exactly where it can't stand after the items that were taken, with the
+    /// reason. After a fault the checker stands for the same items as before.
     pub fn item(&mut self, kind: &ItemKind) -> Result<(), CheckFault>
-        ensures taken { OnOk result ((kinds : List ItemKind) → Took kinds self.old → Took (kinds ++ kind.now ∷ []) self.new) }
-        ensures refused { (kinds : List ItemKind) → Took kinds self.old → (fault : CheckKind) → (result ≡ Err (Bad fault)) ↔ (told_after no_names (kinds ++ kind.now ∷ []) ≡ Err (disorder_of fault)) }
-        ensures unchanged { OnErr result ((kinds : List ItemKind) → Took kinds self.old → Took kinds self.new) }
+        ensures taken { OnOk result ((kinds : List ItemKind) → Took kinds self.old
+            → Took (kinds ++ kind.now ∷ []) self.new) }
+        ensures refused { (kinds : List ItemKind) → Took kinds self.old → (fault : CheckKind)
+            → (result ≡ Err (Bad fault))
+            ↔ (told_after no_names (kinds ++ kind.now ∷ []) ≡ Err (disorder_of fault)) }
+        ensures unchanged { OnErr result ((kinds : List ItemKind) → Took kinds self.old
+            → Took kinds self.new) }
     {
         if let Some(fault) = self.ids.fault_of(kind) {
             return Err(CheckFault::Bad(fault));
@@ -79,8 +83,8 @@ impl Checker {
         Ok(())
     }
 
-    /// What the items that were taken tell of a thread: None exactly where it was no event's capture thread, and no point
-    /// named it.
+    /// What the items that were taken tell of a thread: None exactly where it was no event's capture thread, and no
+    /// point named it.
     pub fn gaps(&self, thread: u64) -> Option<Numbers>
         ensures { (kinds : List ItemKind) → Took kinds self.now → result ≡ numbers_of thread kinds }
     {

@@ -31,7 +31,8 @@ impl Ids {
 
     /// Why an item can't stand here, if it can't.
     pub fn fault_of(&self, kind: &ItemKind) -> Option<CheckKind>
-        ensures { (names : Names) → Knows names self.now → MatchOption result (IsOk (tell names kind.now)) (λ fault. tell names kind.now ≡ Err (disorder_of fault)) }
+        ensures { (names : Names) → Knows names self.now
+            → MatchOption result (IsOk (tell names kind.now)) (λ fault. tell names kind.now ≡ Err (disorder_of fault)) }
     {
         match kind {
             ItemKind::Meta { id, .. } if self.definitions.contains(id) => {
@@ -52,7 +53,8 @@ impl Ids {
 
     /// The ids that stand after an item. Where it is out of memory they stay as they were.
     pub fn define(&mut self, kind: &ItemKind) -> Result<(), AllocError>
-        ensures ok { OnOk result ((names : Names) → Knows names self.old → Knows (names_after names kind.now) self.new) }
+        ensures ok { OnOk result ((names : Names) → Knows names self.old
+            → Knows (names_after names kind.now) self.new) }
         ensures err { OnErr result ((names : Names) → Knows names self.old → Knows names self.new) }
     {
         match kind {

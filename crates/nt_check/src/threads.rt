@@ -47,7 +47,8 @@ impl Threads {
         }
     }
 
-    /// Makes room for the threads that an item speaks of. It changes no thread's numbers, also where it is out of memory.
+    /// Makes room for the threads that an item speaks of. It changes no thread's numbers, also where it is out of
+    /// memory.
     pub fn make_room(&mut self, kind: &ItemKind) -> Result<(), AllocError>
         ensures same { (thread : ℕ) → numbers_in self.new thread ≡ numbers_in self.old thread }
         ensures room { OnOk result (HasRoom kind.now self.new) }
@@ -61,7 +62,8 @@ impl Threads {
 
     fn make_one_room(&mut self, thread: u64) -> Result<(), AllocError>
         ensures same { (other : ℕ) → numbers_in self.new other ≡ numbers_in self.old other }
-        ensures kept { (other : ℕ) → IsSome (get nat_cmp self.old.numbers other) → IsSome (get nat_cmp self.new.numbers other) }
+        ensures kept { (other : ℕ) → IsSome (get nat_cmp self.old.numbers other)
+            → IsSome (get nat_cmp self.new.numbers other) }
         ensures room { OnOk result (IsSome (get nat_cmp self.new.numbers thread)) }
     {
         if self.numbers.contains_key(&thread) {
@@ -84,7 +86,8 @@ impl Threads {
     /// Counts what an item says of its threads, for which there is room. It takes no memory.
     pub fn see(&mut self, kind: &ItemKind)
         requires { HasRoom kind.now self.old }
-        ensures { (thread : ℕ) → numbers_in self.new thread ≡ after_all (numbers_in self.old thread) (seen_in thread kind.now) }
+        ensures { (thread : ℕ)
+            → numbers_in self.new thread ≡ after_all (numbers_in self.old thread) (seen_in thread kind.now) }
     {
         match kind {
             ItemKind::Event {
@@ -99,7 +102,8 @@ impl Threads {
 
     fn see_event(&mut self, thread: u64, number: u32)
         requires { IsSome (get nat_cmp self.old.numbers thread) }
-        ensures { (other : ℕ) → get nat_cmp self.new.numbers other ≡ (if thread == other then Some (after (numbers_in self.old thread) (Seen number)) else get nat_cmp self.old.numbers other) }
+        ensures { (other : ℕ) → get nat_cmp self.new.numbers other
+            ≡ (if thread == other then Some (after (numbers_in self.old thread) (Seen number)) else get nat_cmp self.old.numbers other) }
     {
         match self.numbers.get_mut(&thread) {
             Some(numbers) => *numbers = Some(after_event(*numbers, number)),
@@ -109,7 +113,8 @@ impl Threads {
 
     fn see_known(&mut self, thread: u64, number: u32)
         requires { IsSome (get nat_cmp self.old.numbers thread) }
-        ensures { (other : ℕ) → get nat_cmp self.new.numbers other ≡ (if thread == other then Some (after (numbers_in self.old thread) (Known number)) else get nat_cmp self.old.numbers other) }
+        ensures { (other : ℕ) → get nat_cmp self.new.numbers other
+            ≡ (if thread == other then Some (after (numbers_in self.old thread) (Known number)) else get nat_cmp self.old.numbers other) }
     {
         match self.numbers.get_mut(&thread) {
             Some(numbers) => *numbers = Some(after_known(*numbers, number)),
@@ -119,7 +124,8 @@ impl Threads {
 
     fn see_point(&mut self, threads: &[(u64, u32)])
         requires { HasRooms threads.now self.old }
-        ensures { (thread : ℕ) → numbers_in self.new thread ≡ after_all (numbers_in self.old thread) (point_sightings thread threads.now) }
+        ensures { (thread : ℕ)
+            → numbers_in self.new thread ≡ after_all (numbers_in self.old thread) (point_sightings thread threads.now) }
     {
         for (thread, number) in threads {
             self.see_known(*thread, *number);

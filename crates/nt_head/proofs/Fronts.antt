@@ -11,6 +11,7 @@ use Rattle.pt_num.specs.Fields.{Field, Short, bytes_at, fixed_at, var_at}
 use Rattle.pt_num.proofs.Forms.{begins_32, begins_64, read_32, read_64}
 use Rattle.pt_num.proofs.Fronts.{same_field, same_pieces}
 use Rattle.pt_num.proofs.Steps.{bind_inv}
+use Rattle.nt_head.specs.declared.flags.TheConstants.{ACTIVITY, METADATA, RELATED, SEQUENCE, SIZE, SORTED, STACK, THREAD}
 use Rattle.nt_head.specs.declared.head.HeadState.{HeadState}
 use Rattle.nt_head.specs.declared.limits.TheConstants.{ID_BYTES}
 use Rattle.nt_head.specs.Head.{HeadFields, Sequence, flag, flag_byte, IsSequence, IsGuid, AreHeadBytes, state_after, IsHead}
@@ -85,14 +86,14 @@ halved n low high small e = (omega (arith, e), omega (arith, e))
 
 -- What each flag of the flag byte says.
 record Says (fields : HeadFields) (n : ℕ) : Type 0 where
-  pub metadata_said : has_flag 1 n ≡ is_some fields.metadata
-  pub sequence_said : has_flag 2 n ≡ is_some fields.sequence
-  pub thread_said : has_flag 4 n ≡ is_some fields.thread
-  pub stack_said : has_flag 8 n ≡ is_some fields.stack
-  pub activity_said : has_flag 16 n ≡ is_some fields.activity
-  pub related_said : has_flag 32 n ≡ is_some fields.related
-  pub sorted_said : has_flag 64 n ≡ fields.sorted
-  pub size_said : has_flag 128 n ≡ is_some fields.size
+  pub metadata_said : has_flag METADATA n ≡ is_some fields.metadata
+  pub sequence_said : has_flag SEQUENCE n ≡ is_some fields.sequence
+  pub thread_said : has_flag THREAD n ≡ is_some fields.thread
+  pub stack_said : has_flag STACK n ≡ is_some fields.stack
+  pub activity_said : has_flag ACTIVITY n ≡ is_some fields.activity
+  pub related_said : has_flag RELATED n ≡ is_some fields.related
+  pub sorted_said : has_flag SORTED n ≡ fields.sorted
+  pub size_said : has_flag SIZE n ≡ is_some fields.size
 
 -- The flags of bits are their own.
 bits_back : (n a b c d e f g h : ℕ) → a ≤ 1 → b ≤ 1 → c ≤ 1 → d ≤ 1 → e ≤ 1 → f ≤ 1 → g ≤ 1 → h ≤ 1 → n ≡ a + 2 * b + 4 * c + 8 * d + 16 * e + 32 * f + 64 * g + 128 * h → (n / 1 % 2 ≡ a) × (n / 2 % 2 ≡ b) × (n / 4 % 2 ≡ c) × (n / 8 % 2 ≡ d) × (n / 16 % 2 ≡ e) × (n / 32 % 2 ≡ f) × (n / 64 % 2 ≡ g) × (n / 128 % 2 ≡ h)
@@ -314,32 +315,32 @@ byte_bits n small =
     summed n q0 q1 q2 q3 q4 q5 q6 q7 b0 b1 b2 b3 b4 b5 b6 b7 e0 e1 e2 e3 e4 e5 e6 e7 e8 = omega arith
 
 -- The flags that a byte has make it.
-flags_whole : (n : ℕ) → n < 256 → flag 1 (has_flag 1 n) + flag 2 (has_flag 2 n) + flag 4 (has_flag 4 n) + flag 8 (has_flag 8 n) + flag 16 (has_flag 16 n) + flag 32 (has_flag 32 n) + flag 64 (has_flag 64 n) + flag 128 (has_flag 128 n) ≡ n
+flags_whole : (n : ℕ) → n < 256 → flag METADATA (has_flag METADATA n) + flag SEQUENCE (has_flag SEQUENCE n) + flag THREAD (has_flag THREAD n) + flag STACK (has_flag STACK n) + flag ACTIVITY (has_flag ACTIVITY n) + flag RELATED (has_flag RELATED n) + flag SORTED (has_flag SORTED n) + flag SIZE (has_flag SIZE n) ≡ n
 flags_whole n small =
     rw (flag_half 1 (n / 1), flag_half 2 (n / 2), flag_half 4 (n / 4), flag_half 8 (n / 8), flag_half 16 (n / 16), flag_half 32 (n / 32), flag_half 64 (n / 64), flag_half 128 (n / 128))
     (let bits = byte_bits n small in omega (arith, bits))
 
 -- The flag byte and the fields, one after another.
-fields_pieces : (bytes b0 b1 b2 b3 b4 b5 b6 b7 rest : List ℕ) (n : ℕ) (m : Option ℕ) (q : Option Sequence) (t : Option ℕ) (k : Option ℕ) (i : ℕ) (y : Option (List ℕ)) (r : Option (List ℕ)) (z : Option ℕ) → AreBytes bytes → fixed_at w8 bytes ≡ Ok (n, b0) → if_set (has_flag 1 n) (var_at w32) b0 ≡ Ok (m, b1) → if_set (has_flag 2 n) sequence_at b1 ≡ Ok (q, b2) → if_set (has_flag 4 n) (var_at w64) b2 ≡ Ok (t, b3) → if_set (has_flag 8 n) (var_at w32) b3 ≡ Ok (k, b4) → var_at w64 b4 ≡ Ok (i, b5) → if_set (has_flag 16 n) (bytes_at ID_BYTES) b5 ≡ Ok (y, b6) → if_set (has_flag 32 n) (bytes_at ID_BYTES) b6 ≡ Ok (r, b7) → if_set (has_flag 128 n) (var_at w32) b7 ≡ Ok (z, rest) → Begins (AreHeadBytes (record { metadata = m; sequence = q; thread = t; stack = k; stamp_increment = i; activity = y; related = r; sorted = has_flag 64 n; size = z })) bytes rest
+fields_pieces : (bytes b0 b1 b2 b3 b4 b5 b6 b7 rest : List ℕ) (n : ℕ) (m : Option ℕ) (q : Option Sequence) (t : Option ℕ) (k : Option ℕ) (i : ℕ) (y : Option (List ℕ)) (r : Option (List ℕ)) (z : Option ℕ) → AreBytes bytes → fixed_at w8 bytes ≡ Ok (n, b0) → if_set (has_flag METADATA n) (var_at w32) b0 ≡ Ok (m, b1) → if_set (has_flag SEQUENCE n) sequence_at b1 ≡ Ok (q, b2) → if_set (has_flag THREAD n) (var_at w64) b2 ≡ Ok (t, b3) → if_set (has_flag STACK n) (var_at w32) b3 ≡ Ok (k, b4) → var_at w64 b4 ≡ Ok (i, b5) → if_set (has_flag ACTIVITY n) (bytes_at ID_BYTES) b5 ≡ Ok (y, b6) → if_set (has_flag RELATED n) (bytes_at ID_BYTES) b6 ≡ Ok (r, b7) → if_set (has_flag SIZE n) (var_at w32) b7 ≡ Ok (z, rest) → Begins (AreHeadBytes (record { metadata = m; sequence = q; thread = t; stack = k; stamp_increment = i; activity = y; related = r; sorted = has_flag SORTED n; size = z })) bytes rest
 fields_pieces bytes b0 b1 b2 b3 b4 b5 b6 b7 rest n m q t k i y r z low e0 e1 e2 e3 e4 e5 e6 e7 e8 =
-    let made : HeadFields = record { metadata = m; sequence = q; thread = t; stack = k; stamp_increment = i; activity = y; related = r; sorted = has_flag 64 n; size = z } in
+    let made : HeadFields = record { metadata = m; sequence = q; thread = t; stack = k; stamp_increment = i; activity = y; related = r; sorted = has_flag SORTED n; size = z } in
     let byte = flags_begin bytes n b0 low e0 in
     let low0 = later_low (n ∷ []) b0 (subst (λ (bs : List ℕ). AreBytes bs) byte.0 low) in
-    let p1 = said_begins (var_at w32) (IsVar w32) (has_flag 1 n) m b0 b1 var32_forms low0 e1 in
+    let p1 = said_begins (var_at w32) (IsVar w32) (has_flag METADATA n) m b0 b1 var32_forms low0 e1 in
     let low1 = rest_low (IfThere (IsVar w32) m) b0 b1 low0 p1.0 in
-    let p2 = said_begins sequence_at IsSequence (has_flag 2 n) q b1 b2 sequence_forms low1 e2 in
+    let p2 = said_begins sequence_at IsSequence (has_flag SEQUENCE n) q b1 b2 sequence_forms low1 e2 in
     let low2 = rest_low (IfThere IsSequence q) b1 b2 low1 p2.0 in
-    let p3 = said_begins (var_at w64) (IsVar w64) (has_flag 4 n) t b2 b3 var64_forms low2 e3 in
+    let p3 = said_begins (var_at w64) (IsVar w64) (has_flag THREAD n) t b2 b3 var64_forms low2 e3 in
     let low3 = rest_low (IfThere (IsVar w64) t) b2 b3 low2 p3.0 in
-    let p4 = said_begins (var_at w32) (IsVar w32) (has_flag 8 n) k b3 b4 var32_forms low3 e4 in
+    let p4 = said_begins (var_at w32) (IsVar w32) (has_flag STACK n) k b3 b4 var32_forms low3 e4 in
     let low4 = rest_low (IfThere (IsVar w32) k) b3 b4 low3 p4.0 in
     let p5 = begins_64 b4 b5 i low4 e5 in
     let low5 = rest_low (IsVar w64 i) b4 b5 low4 p5 in
-    let p6 = said_begins (bytes_at ID_BYTES) IsGuid (has_flag 16 n) y b5 b6 guid_forms low5 e6 in
+    let p6 = said_begins (bytes_at ID_BYTES) IsGuid (has_flag ACTIVITY n) y b5 b6 guid_forms low5 e6 in
     let low6 = rest_low (IfThere IsGuid y) b5 b6 low5 p6.0 in
-    let p7 = said_begins (bytes_at ID_BYTES) IsGuid (has_flag 32 n) r b6 b7 guid_forms low6 e7 in
+    let p7 = said_begins (bytes_at ID_BYTES) IsGuid (has_flag RELATED n) r b6 b7 guid_forms low6 e7 in
     let low7 = rest_low (IfThere IsGuid r) b6 b7 low6 p7.0 in
-    let p8 = said_begins (var_at w32) (IsVar w32) (has_flag 128 n) z b7 rest var32_forms low7 e8 in
+    let p8 = said_begins (var_at w32) (IsVar w32) (has_flag SIZE n) z b7 rest var32_forms low7 e8 in
     let whole_byte : flag_byte made ≡ n = rw (p1.1, p2.1, p3.1, p4.1, p6.1, p7.1, p8.1) (flags_whole n byte.1) in
     let p0 : Begins (Exactly (flag_byte made ∷ [])) bytes b0 = (n ∷ [], ap (λ (b : ℕ). b ∷ []) (sym whole_byte), byte.0) in
     turned bytes b0 b1 b2 b3 b4 b5 b6 b7 rest
@@ -362,19 +363,19 @@ fields_pieces bytes b0 b1 b2 b3 b4 b5 b6 b7 rest n m q t k i y r z low e0 e1 e2 
 abbrev later_fields : ℕ → Option ℕ → Option Sequence → Option ℕ → Option ℕ → List ℕ → Field HeadFields
 later_fields n m q t k bytes = do
   stamp ← var_at w64 bytes
-  activity ← if_set (has_flag 16 n) (bytes_at ID_BYTES) stamp.1
-  related ← if_set (has_flag 32 n) (bytes_at ID_BYTES) activity.1
-  size ← if_set (has_flag 128 n) (var_at w32) related.1
-  Ok (record { metadata = m; sequence = q; thread = t; stack = k; stamp_increment = stamp.0; activity = activity.0; related = related.0; sorted = has_flag 64 n; size = size.0 }, size.1)
+  activity ← if_set (has_flag ACTIVITY n) (bytes_at ID_BYTES) stamp.1
+  related ← if_set (has_flag RELATED n) (bytes_at ID_BYTES) activity.1
+  size ← if_set (has_flag SIZE n) (var_at w32) related.1
+  Ok (record { metadata = m; sequence = q; thread = t; stack = k; stamp_increment = stamp.0; activity = activity.0; related = related.0; sorted = has_flag SORTED n; size = size.0 }, size.1)
 
 -- The stamp and the fields after it.
-later_begin : (bytes b0 b1 b2 b3 b4 rest : List ℕ) (n : ℕ) (m : Option ℕ) (q : Option Sequence) (t : Option ℕ) (k : Option ℕ) (fields : HeadFields) → AreBytes bytes → fixed_at w8 bytes ≡ Ok (n, b0) → if_set (has_flag 1 n) (var_at w32) b0 ≡ Ok (m, b1) → if_set (has_flag 2 n) sequence_at b1 ≡ Ok (q, b2) → if_set (has_flag 4 n) (var_at w64) b2 ≡ Ok (t, b3) → if_set (has_flag 8 n) (var_at w32) b3 ≡ Ok (k, b4) → later_fields n m q t k b4 ≡ Ok (fields, rest) → Begins (AreHeadBytes fields) bytes rest
+later_begin : (bytes b0 b1 b2 b3 b4 rest : List ℕ) (n : ℕ) (m : Option ℕ) (q : Option Sequence) (t : Option ℕ) (k : Option ℕ) (fields : HeadFields) → AreBytes bytes → fixed_at w8 bytes ≡ Ok (n, b0) → if_set (has_flag METADATA n) (var_at w32) b0 ≡ Ok (m, b1) → if_set (has_flag SEQUENCE n) sequence_at b1 ≡ Ok (q, b2) → if_set (has_flag THREAD n) (var_at w64) b2 ≡ Ok (t, b3) → if_set (has_flag STACK n) (var_at w32) b3 ≡ Ok (k, b4) → later_fields n m q t k b4 ≡ Ok (fields, rest) → Begins (AreHeadBytes fields) bytes rest
 later_begin bytes b0 b1 b2 b3 b4 rest n m q t k fields low e0 e1 e2 e3 e4 e =
     let s5 = bind_inv (var_at w64 b4) _ (fields, rest) e in
-    let s6 = bind_inv (if_set (has_flag 16 n) (bytes_at ID_BYTES) s5.0.1) _ (fields, rest) s5.2 in
-    let s7 = bind_inv (if_set (has_flag 32 n) (bytes_at ID_BYTES) s6.0.1) _ (fields, rest) s6.2 in
-    let s8 = bind_inv (if_set (has_flag 128 n) (var_at w32) s7.0.1) _ (fields, rest) s7.2 in
-    let made : HeadFields = record { metadata = m; sequence = q; thread = t; stack = k; stamp_increment = s5.0.0; activity = s6.0.0; related = s7.0.0; sorted = has_flag 64 n; size = s8.0.0 } in
+    let s6 = bind_inv (if_set (has_flag ACTIVITY n) (bytes_at ID_BYTES) s5.0.1) _ (fields, rest) s5.2 in
+    let s7 = bind_inv (if_set (has_flag RELATED n) (bytes_at ID_BYTES) s6.0.1) _ (fields, rest) s6.2 in
+    let s8 = bind_inv (if_set (has_flag SIZE n) (var_at w32) s7.0.1) _ (fields, rest) s7.2 in
+    let made : HeadFields = record { metadata = m; sequence = q; thread = t; stack = k; stamp_increment = s5.0.0; activity = s6.0.0; related = s7.0.0; sorted = has_flag SORTED n; size = s8.0.0 } in
     let same = same_ok made fields s8.0.1 rest s8.2 in
     let whole = fields_pieces bytes b0 b1 b2 b3 b4 s5.0.1 s6.0.1 s7.0.1 s8.0.1 n m q t k s5.0.0 s6.0.0 s7.0.0 s8.0.0 low e0 e1 e2 e3 e4 s5.1 s6.1 s7.1 s8.1 in
     subst (λ (bs : List ℕ). Begins (AreHeadBytes fields) bytes bs) same.1 (subst (λ (f : HeadFields). Begins (AreHeadBytes f) bytes s8.0.1) same.0 whole)
@@ -384,10 +385,10 @@ fields_begin : (fields : HeadFields) (bytes rest : List ℕ) → AreBytes bytes 
 unfolding fields_at
 fields_begin fields bytes rest low e =
     let s0 = bind_inv (fixed_at w8 bytes) _ (fields, rest) e in
-    let s1 = bind_inv (if_set (has_flag 1 s0.0.0) (var_at w32) s0.0.1) _ (fields, rest) s0.2 in
-    let s2 = bind_inv (if_set (has_flag 2 s0.0.0) sequence_at s1.0.1) _ (fields, rest) s1.2 in
-    let s3 = bind_inv (if_set (has_flag 4 s0.0.0) (var_at w64) s2.0.1) _ (fields, rest) s2.2 in
-    let s4 = bind_inv (if_set (has_flag 8 s0.0.0) (var_at w32) s3.0.1) (λ stack. later_fields s0.0.0 s1.0.0 s2.0.0 s3.0.0 stack.0 stack.1) (fields, rest) s3.2 in
+    let s1 = bind_inv (if_set (has_flag METADATA s0.0.0) (var_at w32) s0.0.1) _ (fields, rest) s0.2 in
+    let s2 = bind_inv (if_set (has_flag SEQUENCE s0.0.0) sequence_at s1.0.1) _ (fields, rest) s1.2 in
+    let s3 = bind_inv (if_set (has_flag THREAD s0.0.0) (var_at w64) s2.0.1) _ (fields, rest) s2.2 in
+    let s4 = bind_inv (if_set (has_flag STACK s0.0.0) (var_at w32) s3.0.1) (λ stack. later_fields s0.0.0 s1.0.0 s2.0.0 s3.0.0 stack.0 stack.1) (fields, rest) s3.2 in
     later_begin bytes s0.0.1 s1.0.1 s2.0.1 s3.0.1 s4.0.1 rest s0.0.0 s1.0.0 s2.0.0 s3.0.0 s4.0.0 fields low s0.1 s1.1 s2.1 s3.1 s4.1 s4.2
 
 -- What is read begins with a header that says it.

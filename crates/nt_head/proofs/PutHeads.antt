@@ -1,12 +1,12 @@
 -- The fields of a header, one after another.
-use Rattle.std.proofs.Common.{◌≡◌, ℕ, ◌+◌, ◌-◌, ◌%◌, ◌^◌, Bool, true, false, eqb, nat_eq, is_some, List, [], ◌∷◌, ◌++◌, refl, sym, ap, ◌∙◌, append_assoc}
+use Rattle.std.proofs.Common.{◌≡◌, ℕ, ◌+◌, ◌-◌, ◌%◌, ◌^◌, Bool, true, false, eqb, nat_eq, is_some, List, [], ◌∷◌, ◌++◌, refl, ap, ◌∙◌, append_assoc}
 use Rattle.std.proofs.lemmas.List.{append-nil}
 use Rattle.std.specs.Bool.{then_some}
 use Rattle.std.specs.List.{concat}
 use Rattle.std.specs.Prelude.{not}
 use Rattle.std.specs.Int.{w32, w64}
 use Rattle.std.specs.Cmp.Lexicographic.{pointwise}
-use Rattle.std.proofs.lemmas.Bool.{and_parts}
+use Rattle.std.proofs.lemmas.Bool.{and_parts, not_from_true, not-true}
 use Rattle.pt_num.specs.Numbers.{short_var}
 use Rattle.nt_head.specs.declared.head.HeadState.{HeadState}
 use Rattle.nt_head.specs.Head.{HeadFields, flag_byte}
@@ -31,15 +31,6 @@ two_put old o1 new piece whole b e0 e1 byte e2 = rw (e1, e0, e2, ← byte) (simp
 none_there : {A : Type 0} (bytes_of : A → List ℕ) (set : Bool) (x : A) → set ≡ false → if_there bytes_of (then_some set x) ≡ []
 none_there bytes_of set x none = rw none refl
 
--- A test that doesn't pass, of what is new.
-not_new : (same : Bool) → same ≡ true → not same ≡ false
-not_new same is = rw is refl
-
--- A test whose opposite passes.
-opposite : (test : Bool) → not test ≡ true → test ≡ false
-opposite true is = sym is
-opposite false is = refl
-
 -- Nine pieces, all but the first and the sixth of which are empty.
 two_left : (byte p1 p2 p3 p4 stamp p6 p7 p8 : List ℕ) → p1 ≡ [] → p2 ≡ [] → p3 ≡ [] → p4 ≡ [] → p6 ≡ [] → p7 ≡ [] → p8 ≡ [] → concat (byte ∷ p1 ∷ p2 ∷ p3 ∷ p4 ∷ stamp ∷ p6 ∷ p7 ∷ p8 ∷ []) ≡ byte ++ stamp
 two_left byte p1 p2 p3 p4 stamp p6 p7 p8 e1 e2 e3 e4 e6 e7 e8 = rw (e1, e2, e3, e4, e6, e7, e8) (ap (λ (bs : List ℕ). byte ++ bs) (append-nil stamp))
@@ -59,13 +50,13 @@ nothing_new before now keeps =
     let stacks = and_parts _ (eqb before.stack now.stack) activities.0 in
     let threads = and_parts _ (eqb before.thread now.thread) stacks.0 in
     let parts = and_parts (eqb before.metadata now.metadata) (not (has_sequence before now)) threads.0 in
-    let metadata = not_new (eqb before.metadata now.metadata) parts.0 in
-    let sequence = opposite (has_sequence before now) parts.1 in
-    let thread = not_new (eqb before.thread now.thread) threads.1 in
-    let stack = not_new (eqb before.stack now.stack) stacks.1 in
-    let activity = not_new (pointwise nat_eq before.activity now.activity) activities.1 in
-    let related = not_new (pointwise nat_eq before.related now.related) relateds.1 in
-    let size = not_new (eqb before.size now.size) sizes.1 in
+    let metadata = not_from_true (eqb before.metadata now.metadata) parts.0 in
+    let sequence = not-true (has_sequence before now) parts.1 in
+    let thread = not_from_true (eqb before.thread now.thread) threads.1 in
+    let stack = not_from_true (eqb before.stack now.stack) stacks.1 in
+    let activity = not_from_true (pointwise nat_eq before.activity now.activity) activities.1 in
+    let related = not_from_true (pointwise nat_eq before.related now.related) relateds.1 in
+    let size = not_from_true (eqb before.size now.size) sizes.1 in
     let byte : flag_byte fields ≡ worth_of 64 now.sorted =
     one_flag _ _ _ _ _ _ _ now.sorted
     (is_some-then_some _ now.metadata ∙ metadata) (is_some-then_some _ (sequence_of before now) ∙ sequence) (is_some-then_some _ now.thread ∙ thread) (is_some-then_some _ now.stack ∙ stack) (is_some-then_some _ now.activity ∙ activity) (is_some-then_some _ now.related ∙ related) (is_some-then_some _ now.size ∙ size) in

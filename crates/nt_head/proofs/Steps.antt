@@ -2,6 +2,7 @@
 use Rattle.std.proofs.Common.{◌≡◌, ℕ, ◌+◌, ◌*◌, ◌-◌, ◌%◌, ◌^◌, ◌<◌, ◌≤◌, Bool, true, List, [], ◌∷◌, length, get_or, take, drop, Option, Some, Result, Ok, Err, refl, ap, ◌∙◌, sym, subst, arith}
 use Rattle.std.specs.Prelude.{IfOk, IfErr, IsErrAnd, unwrap_or}
 use Rattle.std.specs.Option.{option_map_or}
+use Rattle.nt_head.specs.declared.flags.TheConstants.{ACTIVITY, METADATA, RELATED, SEQUENCE, SIZE, SORTED, STACK, THREAD}
 use Rattle.nt_head.proofs.Heads.{state-ext}
 use Rattle.std.specs.Int.{w8, w32, w64}
 use Rattle.std.proofs.lemmas.Bool.{le-ltb, cond-false}
@@ -75,47 +76,47 @@ head_read previous now fields bytes rest read said =
     ∙ ap (λ (state : HeadState). Ok (state, rest)) said
 
 -- Where the metadata id stops, the header does.
-pub carry_metadata : (bytes : List ℕ) (flags : ℕ) → Flags bytes flags → Carries (if_set (has_flag 1 flags) (var_at w32)) bytes 1
+pub carry_metadata : (bytes : List ℕ) (flags : ℕ) → Flags bytes flags → Carries (if_set (has_flag METADATA flags) (var_at w32)) bytes 1
 unfolding fields_at
 carry_metadata bytes flags e0 = record { carry = λ fault e. rw (e0.read, e) refl }
 
 -- Where the sequence stops, the header does.
-pub carry_numbers : (bytes : List ℕ) (flags a1 : ℕ) (m : Option ℕ) → Flags bytes flags → if_set (has_flag 1 flags) (var_at w32) (drop 1 bytes) ≡ Ok (m, drop a1 bytes) → Carries (if_set (has_flag 2 flags) sequence_at) bytes a1
+pub carry_numbers : (bytes : List ℕ) (flags a1 : ℕ) (m : Option ℕ) → Flags bytes flags → if_set (has_flag METADATA flags) (var_at w32) (drop 1 bytes) ≡ Ok (m, drop a1 bytes) → Carries (if_set (has_flag SEQUENCE flags) sequence_at) bytes a1
 unfolding fields_at
 carry_numbers bytes flags a1 m e0 e1 = record { carry = λ fault e. rw (e0.read, e1, e) refl }
 
 -- Where the thread stops, the header does.
-pub carry_thread : (bytes : List ℕ) (flags a1 a2 : ℕ) (m : Option ℕ) (q : Option Sequence) → Flags bytes flags → if_set (has_flag 1 flags) (var_at w32) (drop 1 bytes) ≡ Ok (m, drop a1 bytes) → if_set (has_flag 2 flags) sequence_at (drop a1 bytes) ≡ Ok (q, drop a2 bytes) → Carries (if_set (has_flag 4 flags) (var_at w64)) bytes a2
+pub carry_thread : (bytes : List ℕ) (flags a1 a2 : ℕ) (m : Option ℕ) (q : Option Sequence) → Flags bytes flags → if_set (has_flag METADATA flags) (var_at w32) (drop 1 bytes) ≡ Ok (m, drop a1 bytes) → if_set (has_flag SEQUENCE flags) sequence_at (drop a1 bytes) ≡ Ok (q, drop a2 bytes) → Carries (if_set (has_flag THREAD flags) (var_at w64)) bytes a2
 unfolding fields_at
 carry_thread bytes flags a1 a2 m q e0 e1 e2 = record { carry = λ fault e. rw (e0.read, e1, e2, e) refl }
 
 -- Where the stack stops, the header does.
-pub carry_stack : (bytes : List ℕ) (flags a1 a2 a3 : ℕ) (m : Option ℕ) (q : Option Sequence) (t : Option ℕ) → Flags bytes flags → if_set (has_flag 1 flags) (var_at w32) (drop 1 bytes) ≡ Ok (m, drop a1 bytes) → if_set (has_flag 2 flags) sequence_at (drop a1 bytes) ≡ Ok (q, drop a2 bytes) → if_set (has_flag 4 flags) (var_at w64) (drop a2 bytes) ≡ Ok (t, drop a3 bytes) → Carries (if_set (has_flag 8 flags) (var_at w32)) bytes a3
+pub carry_stack : (bytes : List ℕ) (flags a1 a2 a3 : ℕ) (m : Option ℕ) (q : Option Sequence) (t : Option ℕ) → Flags bytes flags → if_set (has_flag METADATA flags) (var_at w32) (drop 1 bytes) ≡ Ok (m, drop a1 bytes) → if_set (has_flag SEQUENCE flags) sequence_at (drop a1 bytes) ≡ Ok (q, drop a2 bytes) → if_set (has_flag THREAD flags) (var_at w64) (drop a2 bytes) ≡ Ok (t, drop a3 bytes) → Carries (if_set (has_flag STACK flags) (var_at w32)) bytes a3
 unfolding fields_at
 carry_stack bytes flags a1 a2 a3 m q t e0 e1 e2 e3 = record { carry = λ fault e. rw (e0.read, e1, e2, e3, e) refl }
 
 -- Where the stamp stops, the header does.
-pub carry_increment : (bytes : List ℕ) (flags a1 a2 a3 a4 : ℕ) (m : Option ℕ) (q : Option Sequence) (t : Option ℕ) (k : Option ℕ) → Flags bytes flags → if_set (has_flag 1 flags) (var_at w32) (drop 1 bytes) ≡ Ok (m, drop a1 bytes) → if_set (has_flag 2 flags) sequence_at (drop a1 bytes) ≡ Ok (q, drop a2 bytes) → if_set (has_flag 4 flags) (var_at w64) (drop a2 bytes) ≡ Ok (t, drop a3 bytes) → if_set (has_flag 8 flags) (var_at w32) (drop a3 bytes) ≡ Ok (k, drop a4 bytes) → Carries (var_at w64) bytes a4
+pub carry_increment : (bytes : List ℕ) (flags a1 a2 a3 a4 : ℕ) (m : Option ℕ) (q : Option Sequence) (t : Option ℕ) (k : Option ℕ) → Flags bytes flags → if_set (has_flag METADATA flags) (var_at w32) (drop 1 bytes) ≡ Ok (m, drop a1 bytes) → if_set (has_flag SEQUENCE flags) sequence_at (drop a1 bytes) ≡ Ok (q, drop a2 bytes) → if_set (has_flag THREAD flags) (var_at w64) (drop a2 bytes) ≡ Ok (t, drop a3 bytes) → if_set (has_flag STACK flags) (var_at w32) (drop a3 bytes) ≡ Ok (k, drop a4 bytes) → Carries (var_at w64) bytes a4
 unfolding fields_at
 carry_increment bytes flags a1 a2 a3 a4 m q t k e0 e1 e2 e3 e4 = record { carry = λ fault e. rw (e0.read, e1, e2, e3, e4, e) refl }
 
 -- Where the activity id stops, the header does.
-pub carry_activity : (bytes : List ℕ) (flags a1 a2 a3 a4 a5 : ℕ) (m : Option ℕ) (q : Option Sequence) (t : Option ℕ) (k : Option ℕ) (i : ℕ) → Flags bytes flags → if_set (has_flag 1 flags) (var_at w32) (drop 1 bytes) ≡ Ok (m, drop a1 bytes) → if_set (has_flag 2 flags) sequence_at (drop a1 bytes) ≡ Ok (q, drop a2 bytes) → if_set (has_flag 4 flags) (var_at w64) (drop a2 bytes) ≡ Ok (t, drop a3 bytes) → if_set (has_flag 8 flags) (var_at w32) (drop a3 bytes) ≡ Ok (k, drop a4 bytes) → var_at w64 (drop a4 bytes) ≡ Ok (i, drop a5 bytes) → Carries (if_set (has_flag 16 flags) (bytes_at ID_BYTES)) bytes a5
+pub carry_activity : (bytes : List ℕ) (flags a1 a2 a3 a4 a5 : ℕ) (m : Option ℕ) (q : Option Sequence) (t : Option ℕ) (k : Option ℕ) (i : ℕ) → Flags bytes flags → if_set (has_flag METADATA flags) (var_at w32) (drop 1 bytes) ≡ Ok (m, drop a1 bytes) → if_set (has_flag SEQUENCE flags) sequence_at (drop a1 bytes) ≡ Ok (q, drop a2 bytes) → if_set (has_flag THREAD flags) (var_at w64) (drop a2 bytes) ≡ Ok (t, drop a3 bytes) → if_set (has_flag STACK flags) (var_at w32) (drop a3 bytes) ≡ Ok (k, drop a4 bytes) → var_at w64 (drop a4 bytes) ≡ Ok (i, drop a5 bytes) → Carries (if_set (has_flag ACTIVITY flags) (bytes_at ID_BYTES)) bytes a5
 unfolding fields_at
 carry_activity bytes flags a1 a2 a3 a4 a5 m q t k i e0 e1 e2 e3 e4 e5 = record { carry = λ fault e. rw (e0.read, e1, e2, e3, e4, e5, e) refl }
 
 -- Where the related activity id stops, the header does.
-pub carry_related : (bytes : List ℕ) (flags a1 a2 a3 a4 a5 a6 : ℕ) (m : Option ℕ) (q : Option Sequence) (t : Option ℕ) (k : Option ℕ) (i : ℕ) (y : Option (List ℕ)) → Flags bytes flags → if_set (has_flag 1 flags) (var_at w32) (drop 1 bytes) ≡ Ok (m, drop a1 bytes) → if_set (has_flag 2 flags) sequence_at (drop a1 bytes) ≡ Ok (q, drop a2 bytes) → if_set (has_flag 4 flags) (var_at w64) (drop a2 bytes) ≡ Ok (t, drop a3 bytes) → if_set (has_flag 8 flags) (var_at w32) (drop a3 bytes) ≡ Ok (k, drop a4 bytes) → var_at w64 (drop a4 bytes) ≡ Ok (i, drop a5 bytes) → if_set (has_flag 16 flags) (bytes_at ID_BYTES) (drop a5 bytes) ≡ Ok (y, drop a6 bytes) → Carries (if_set (has_flag 32 flags) (bytes_at ID_BYTES)) bytes a6
+pub carry_related : (bytes : List ℕ) (flags a1 a2 a3 a4 a5 a6 : ℕ) (m : Option ℕ) (q : Option Sequence) (t : Option ℕ) (k : Option ℕ) (i : ℕ) (y : Option (List ℕ)) → Flags bytes flags → if_set (has_flag METADATA flags) (var_at w32) (drop 1 bytes) ≡ Ok (m, drop a1 bytes) → if_set (has_flag SEQUENCE flags) sequence_at (drop a1 bytes) ≡ Ok (q, drop a2 bytes) → if_set (has_flag THREAD flags) (var_at w64) (drop a2 bytes) ≡ Ok (t, drop a3 bytes) → if_set (has_flag STACK flags) (var_at w32) (drop a3 bytes) ≡ Ok (k, drop a4 bytes) → var_at w64 (drop a4 bytes) ≡ Ok (i, drop a5 bytes) → if_set (has_flag ACTIVITY flags) (bytes_at ID_BYTES) (drop a5 bytes) ≡ Ok (y, drop a6 bytes) → Carries (if_set (has_flag RELATED flags) (bytes_at ID_BYTES)) bytes a6
 unfolding fields_at
 carry_related bytes flags a1 a2 a3 a4 a5 a6 m q t k i y e0 e1 e2 e3 e4 e5 e6 = record { carry = λ fault e. rw (e0.read, e1, e2, e3, e4, e5, e6, e) refl }
 
 -- Where the size stops, the header does.
-pub carry_size : (bytes : List ℕ) (flags a1 a2 a3 a4 a5 a6 a7 : ℕ) (m : Option ℕ) (q : Option Sequence) (t : Option ℕ) (k : Option ℕ) (i : ℕ) (y : Option (List ℕ)) (r : Option (List ℕ)) → Flags bytes flags → if_set (has_flag 1 flags) (var_at w32) (drop 1 bytes) ≡ Ok (m, drop a1 bytes) → if_set (has_flag 2 flags) sequence_at (drop a1 bytes) ≡ Ok (q, drop a2 bytes) → if_set (has_flag 4 flags) (var_at w64) (drop a2 bytes) ≡ Ok (t, drop a3 bytes) → if_set (has_flag 8 flags) (var_at w32) (drop a3 bytes) ≡ Ok (k, drop a4 bytes) → var_at w64 (drop a4 bytes) ≡ Ok (i, drop a5 bytes) → if_set (has_flag 16 flags) (bytes_at ID_BYTES) (drop a5 bytes) ≡ Ok (y, drop a6 bytes) → if_set (has_flag 32 flags) (bytes_at ID_BYTES) (drop a6 bytes) ≡ Ok (r, drop a7 bytes) → Carries (if_set (has_flag 128 flags) (var_at w32)) bytes a7
+pub carry_size : (bytes : List ℕ) (flags a1 a2 a3 a4 a5 a6 a7 : ℕ) (m : Option ℕ) (q : Option Sequence) (t : Option ℕ) (k : Option ℕ) (i : ℕ) (y : Option (List ℕ)) (r : Option (List ℕ)) → Flags bytes flags → if_set (has_flag METADATA flags) (var_at w32) (drop 1 bytes) ≡ Ok (m, drop a1 bytes) → if_set (has_flag SEQUENCE flags) sequence_at (drop a1 bytes) ≡ Ok (q, drop a2 bytes) → if_set (has_flag THREAD flags) (var_at w64) (drop a2 bytes) ≡ Ok (t, drop a3 bytes) → if_set (has_flag STACK flags) (var_at w32) (drop a3 bytes) ≡ Ok (k, drop a4 bytes) → var_at w64 (drop a4 bytes) ≡ Ok (i, drop a5 bytes) → if_set (has_flag ACTIVITY flags) (bytes_at ID_BYTES) (drop a5 bytes) ≡ Ok (y, drop a6 bytes) → if_set (has_flag RELATED flags) (bytes_at ID_BYTES) (drop a6 bytes) ≡ Ok (r, drop a7 bytes) → Carries (if_set (has_flag SIZE flags) (var_at w32)) bytes a7
 unfolding fields_at
 carry_size bytes flags a1 a2 a3 a4 a5 a6 a7 m q t k i y r e0 e1 e2 e3 e4 e5 e6 e7 = record { carry = λ fault e. rw (e0.read, e1, e2, e3, e4, e5, e6, e7, e) refl }
 
 -- All fields are read.
-pub fields_made : (bytes b0 b1 b2 b3 b4 b5 b6 b7 b8 : List ℕ) (flags : ℕ) (m : Option ℕ) (q : Option Sequence) (t : Option ℕ) (k : Option ℕ) (i : ℕ) (y : Option (List ℕ)) (r : Option (List ℕ)) (z : Option ℕ) → fixed_at w8 bytes ≡ Ok (flags, b0) → if_set (has_flag 1 flags) (var_at w32) b0 ≡ Ok (m, b1) → if_set (has_flag 2 flags) sequence_at b1 ≡ Ok (q, b2) → if_set (has_flag 4 flags) (var_at w64) b2 ≡ Ok (t, b3) → if_set (has_flag 8 flags) (var_at w32) b3 ≡ Ok (k, b4) → var_at w64 b4 ≡ Ok (i, b5) → if_set (has_flag 16 flags) (bytes_at ID_BYTES) b5 ≡ Ok (y, b6) → if_set (has_flag 32 flags) (bytes_at ID_BYTES) b6 ≡ Ok (r, b7) → if_set (has_flag 128 flags) (var_at w32) b7 ≡ Ok (z, b8) → fields_at bytes ≡ Ok (record { metadata = m; sequence = q; thread = t; stack = k; stamp_increment = i; activity = y; related = r; sorted = has_flag 64 flags; size = z }, b8)
+pub fields_made : (bytes b0 b1 b2 b3 b4 b5 b6 b7 b8 : List ℕ) (flags : ℕ) (m : Option ℕ) (q : Option Sequence) (t : Option ℕ) (k : Option ℕ) (i : ℕ) (y : Option (List ℕ)) (r : Option (List ℕ)) (z : Option ℕ) → fixed_at w8 bytes ≡ Ok (flags, b0) → if_set (has_flag METADATA flags) (var_at w32) b0 ≡ Ok (m, b1) → if_set (has_flag SEQUENCE flags) sequence_at b1 ≡ Ok (q, b2) → if_set (has_flag THREAD flags) (var_at w64) b2 ≡ Ok (t, b3) → if_set (has_flag STACK flags) (var_at w32) b3 ≡ Ok (k, b4) → var_at w64 b4 ≡ Ok (i, b5) → if_set (has_flag ACTIVITY flags) (bytes_at ID_BYTES) b5 ≡ Ok (y, b6) → if_set (has_flag RELATED flags) (bytes_at ID_BYTES) b6 ≡ Ok (r, b7) → if_set (has_flag SIZE flags) (var_at w32) b7 ≡ Ok (z, b8) → fields_at bytes ≡ Ok (record { metadata = m; sequence = q; thread = t; stack = k; stamp_increment = i; activity = y; related = r; sorted = has_flag SORTED flags; size = z }, b8)
 unfolding fields_at
 fields_made bytes b0 b1 b2 b3 b4 b5 b6 b7 b8 flags m q t k i y r z e0 e1 e2 e3 e4 e5 e6 e7 e8 = rw (e0, e1, e2, e3, e4, e5, e6, e7, e8) refl
 

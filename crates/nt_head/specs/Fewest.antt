@@ -65,6 +65,7 @@ keeps_fields before now =
 abbrev pub if_there : {A : Type 0} → (A → List ℕ) → Option A → List ℕ
 if_there bytes_of field = option_map_or bytes_of field []
 
+-- The sequence fields, each in its short form.
 abbrev pub sequence_bytes : Sequence → List ℕ
 sequence_bytes s = concat (short_var w32 s.increment ∷ short_var w64 s.capture ∷ short_var w32 s.processor ∷ [])
 

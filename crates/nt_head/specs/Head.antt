@@ -2,6 +2,7 @@
 use Rattle.std.specs.Prelude.{◌≡◌, ℕ, ◌+◌, ◌%◌, ◌^◌, ◌<◌, Bool, false, List, [], ◌∷◌, length, replicate, Option, is_some, unwrap_or, ◌==◌, if◌then◌else◌}
 use Rattle.std.specs.Int.{w32, w64}
 use Rattle.std.specs.Option.{option_map_or}
+use Rattle.nt_head.specs.declared.flags.TheConstants.{ACTIVITY, METADATA, RELATED, SEQUENCE, SIZE, SORTED, STACK, THREAD}
 use Rattle.nt_head.specs.declared.head.HeadState.{HeadState}
 use Rattle.pt_num.specs.Numbers.{IsVar}
 use Rattle.pt_num.specs.Pieces.{InTurn, Exactly, IfThere}
@@ -26,24 +27,27 @@ pub record HeadFields : Type 0 where
 
 -- ---- bytes
 
+-- What a flag adds to the byte of flags.
 abbrev pub flag : ℕ → Bool → ℕ
 flag worth set = if set then worth else 0
 
 -- One bit for each field that may be absent, and one for the mark that the blob is sorted.
 abbrev pub flag_byte : HeadFields → ℕ
 flag_byte fields =
-    flag 1 (is_some fields.metadata)
-    + flag 2 (is_some fields.sequence)
-    + flag 4 (is_some fields.thread)
-    + flag 8 (is_some fields.stack)
-    + flag 16 (is_some fields.activity)
-    + flag 32 (is_some fields.related)
-    + flag 64 fields.sorted
-    + flag 128 (is_some fields.size)
+    flag METADATA (is_some fields.metadata)
+    + flag SEQUENCE (is_some fields.sequence)
+    + flag THREAD (is_some fields.thread)
+    + flag STACK (is_some fields.stack)
+    + flag ACTIVITY (is_some fields.activity)
+    + flag RELATED (is_some fields.related)
+    + flag SORTED fields.sorted
+    + flag SIZE (is_some fields.size)
 
+-- The bytes are these sequence fields.
 abbrev pub IsSequence : Sequence → List ℕ → Type 0
 IsSequence sequence bytes = InTurn (IsVar w32 sequence.increment ∷ IsVar w64 sequence.capture ∷ IsVar w32 sequence.processor ∷ []) bytes
 
+-- The bytes are an id of 16 bytes.
 abbrev pub IsGuid : List ℕ → List ℕ → Type 0
 IsGuid id bytes = (bytes ≡ id) × (length id ≡ 16)
 
@@ -82,7 +86,8 @@ pub record IsState (s : HeadState) : Type 0 where
   pub activity : length s.activity ≡ 16
   pub related : length s.related ≡ 16
 
--- The number of a blob of an event; metadata id 0 uses no number, and what is read there is dropped (this project's profile).
+-- The number of a blob of an event; metadata id 0 uses no number, and what is read there is dropped (this project's
+-- profile).
 abbrev pub number_after : ℕ → ℕ → Option Sequence → ℕ
 number_after metadata before sequence =
     if metadata == 0

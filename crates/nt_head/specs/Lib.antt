@@ -1,4 +1,6 @@
-pub mod Fewest
+-- to be believed
 pub mod Head
-pub mod Places
+pub mod Fewest
 pub mod Reading
+-- what private functions answer
+pub mod Places

@@ -1,6 +1,8 @@
--- The header at the front of some bytes (the NetTrace format document of PerfView (version 4), "compressed header"; what is refused is this project's profile).
+-- The header at the front of some bytes (the NetTrace format document of PerfView (version 4), "compressed header";
+-- what is refused is this project's profile).
 use Rattle.std.specs.Prelude.{◌≡◌, ℕ, ◌≤◌, ◌/◌, ◌%◌, Bool, true, false, List, length, drop, Option, Some, None, Ok, Err, ◌==◌}
 use Rattle.std.specs.Int.{w8, w32, w64}
+use Rattle.nt_head.specs.declared.flags.TheConstants.{ACTIVITY, METADATA, RELATED, SEQUENCE, SIZE, SORTED, STACK, THREAD}
 use Rattle.nt_head.specs.declared.head.HeadState.{HeadState}
 use Rattle.nt_head.specs.declared.take.TakenHead.{TakenHead}
 use Rattle.nt_head.specs.declared.take.TakenHead.TheVariants as taken
@@ -18,6 +20,7 @@ if_set false field bytes = Ok (None, bytes)
 abbrev pub has_flag : ℕ → ℕ → Bool
 has_flag worth flags = flags / worth % 2 == 1
 
+-- The sequence fields at the front of some bytes.
 abbrev pub sequence_at : List ℕ → Field Sequence
 sequence_at bytes = do
   increment ← var_at w32 bytes
@@ -29,14 +32,14 @@ sequence_at bytes = do
 unfoldable pub fields_at : List ℕ → Field HeadFields
 fields_at bytes = do
   flags ← fixed_at w8 bytes
-  metadata ← if_set (has_flag 1 flags.0) (var_at w32) flags.1
-  sequence ← if_set (has_flag 2 flags.0) sequence_at metadata.1
-  thread ← if_set (has_flag 4 flags.0) (var_at w64) sequence.1
-  stack ← if_set (has_flag 8 flags.0) (var_at w32) thread.1
+  metadata ← if_set (has_flag METADATA flags.0) (var_at w32) flags.1
+  sequence ← if_set (has_flag SEQUENCE flags.0) sequence_at metadata.1
+  thread ← if_set (has_flag THREAD flags.0) (var_at w64) sequence.1
+  stack ← if_set (has_flag STACK flags.0) (var_at w32) thread.1
   stamp ← var_at w64 stack.1
-  activity ← if_set (has_flag 16 flags.0) (bytes_at ID_BYTES) stamp.1
-  related ← if_set (has_flag 32 flags.0) (bytes_at ID_BYTES) activity.1
-  size ← if_set (has_flag 128 flags.0) (var_at w32) related.1
+  activity ← if_set (has_flag ACTIVITY flags.0) (bytes_at ID_BYTES) stamp.1
+  related ← if_set (has_flag RELATED flags.0) (bytes_at ID_BYTES) activity.1
+  size ← if_set (has_flag SIZE flags.0) (var_at w32) related.1
   Ok (
     record {
       metadata = metadata.0;
@@ -46,7 +49,7 @@ fields_at bytes = do
       stamp_increment = stamp.0;
       activity = activity.0;
       related = related.0;
-      sorted = has_flag 64 flags.0;
+      sorted = has_flag SORTED flags.0;
       size = size.0;
     },
     size.1,

@@ -8,6 +8,7 @@ ghost use Rattle.nt_head.specs.Fewest.{has_sequence, head_bytes, if_there, keeps
 ghost use Rattle.nt_head.specs.Head.{IsHead};
 ghost use Rattle.nt_head.specs.Head.{flag as worth_of};
 
+use crate::flags::{ACTIVITY, METADATA, RELATED, SEQUENCE, SIZE, SORTED, STACK, THREAD};
 use crate::head::{HeadState, state_fits};
 use crate::limits::{HEAD_BYTES, ID_BYTES};
 use pt_num::{push_var32, push_var64};
@@ -52,7 +53,7 @@ pub fn push_head(out: &mut Vec<u8>, previous: &HeadState, now: &HeadState)
 {
     // The usual blob follows an event of the same thread: it has a flag byte and the stamp's increment.
     if says_nothing_new(previous, now) {
-        out.push_reserved(flag(64, now.sorted));
+        out.push_reserved(flag(SORTED, now.sorted));
         push_stamp(out, previous, now);
     } else {
         push_fields(out, previous, now);
@@ -75,14 +76,14 @@ fn push_fields(out: &mut Vec<u8>, previous: &HeadState, now: &HeadState)
     let related = !is_same_id(&previous.related, &now.related);
     let size = previous.size != now.size;
     out.push_reserved(
-        flag(1, metadata)
-            + flag(2, sequence)
-            + flag(4, thread)
-            + flag(8, stack)
-            + flag(16, activity)
-            + flag(32, related)
-            + flag(64, now.sorted)
-            + flag(128, size),
+        flag(METADATA, metadata)
+            + flag(SEQUENCE, sequence)
+            + flag(THREAD, thread)
+            + flag(STACK, stack)
+            + flag(ACTIVITY, activity)
+            + flag(RELATED, related)
+            + flag(SORTED, now.sorted)
+            + flag(SIZE, size),
     );
     push_new32(out, metadata, now.metadata);
     push_sequence(out, sequence, previous, now);
@@ -161,7 +162,8 @@ fn push_new64(out: &mut Vec<u8>, there: bool, value: u64)
 #[inline(always)]
 fn push_stamp(out: &mut Vec<u8>, previous: &HeadState, now: &HeadState)
     requires { vec_len out.old + 10 ≤ vec_capacity out.old }
-    ensures items { out.new.items ≡ out.old.items ++ short_var w64 ((now.now.stamp + 2 ^ 64 - previous.now.stamp) % 2 ^ 64) }
+    ensures items { out.new.items
+        ≡ out.old.items ++ short_var w64 ((now.now.stamp + 2 ^ 64 - previous.now.stamp) % 2 ^ 64) }
     ensures len { vec_len out.new ≤ vec_len out.old + 10 }
     ensures capacity { vec_capacity out.new ≡ vec_capacity out.old }
 {

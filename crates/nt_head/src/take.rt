@@ -6,6 +6,7 @@ ghost use Rattle.nt_head.specs.Head.{IsHead};
 ghost use Rattle.nt_head.specs.Reading.{has_flag, head_at, if_set, sequence_at, IfHead, TakesHead};
 ghost use Rattle.nt_head.specs.Places.{Reads, ReadsNew, ReadsSequence, Stops};
 
+use crate::flags::{ACTIVITY, METADATA, RELATED, SEQUENCE, SIZE, SORTED, STACK, THREAD};
 use crate::head::HeadState;
 use crate::limits::ID_BYTES;
 use pt_num::{Taken, take_var32, take_var64};
@@ -59,14 +60,14 @@ fn read_head(bytes: &[u8], at: &mut usize, previous: &HeadState) -> Result<HeadS
     }
     let flags = bytes[0];
     *at = 1;
-    let metadata = new32(bytes, at, has_flag(flags, 1), previous.metadata)?;
-    let numbers = new_numbers(bytes, at, has_flag(flags, 2), metadata, previous)?;
-    let thread = new64(bytes, at, has_flag(flags, 4), previous.thread)?;
-    let stack = new32(bytes, at, has_flag(flags, 8), previous.stack)?;
+    let metadata = new32(bytes, at, has_flag(flags, METADATA), previous.metadata)?;
+    let numbers = new_numbers(bytes, at, has_flag(flags, SEQUENCE), metadata, previous)?;
+    let thread = new64(bytes, at, has_flag(flags, THREAD), previous.thread)?;
+    let stack = new32(bytes, at, has_flag(flags, STACK), previous.stack)?;
     let increment = next64(bytes, at)?;
-    let activity = new_id(bytes, at, has_flag(flags, 16), &previous.activity)?;
-    let related = new_id(bytes, at, has_flag(flags, 32), &previous.related)?;
-    let size = new32(bytes, at, has_flag(flags, 128), previous.size)?;
+    let activity = new_id(bytes, at, has_flag(flags, ACTIVITY), &previous.activity)?;
+    let related = new_id(bytes, at, has_flag(flags, RELATED), &previous.related)?;
+    let size = new32(bytes, at, has_flag(flags, SIZE), previous.size)?;
     Ok(HeadState {
         metadata,
         number: numbers.number,
@@ -77,7 +78,7 @@ fn read_head(bytes: &[u8], at: &mut usize, previous: &HeadState) -> Result<HeadS
         stamp: previous.stamp.wrapping_add(increment),
         activity,
         related,
-        sorted: has_flag(flags, 64),
+        sorted: has_flag(flags, SORTED),
         size,
     })
 }

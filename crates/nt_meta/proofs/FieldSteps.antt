@@ -49,7 +49,7 @@ pub fields_at-suc : (more depth count : ℕ) (bytes : List ℕ) → fields_at (s
 unfolding fields_at
 fields_at-suc more depth count bytes = refl
 
--- Some fields are read, and so many are left.
+-- Some fields are read, and this many are left.
 pub record Going (depth count : ℕ) (bytes : List ℕ) (before : List FieldDef) (left : ℕ) (rest : List ℕ) (now : List FieldDef) : Type 0 where
   pub fields : List FieldDef
   pub added : now ≡ before ++ fields
@@ -122,7 +122,7 @@ abbrev pub named : ℕ → ℕ → Part (List FieldDef) → Part (List FieldDef)
 named depth code inside =
     inside >>= λ inner. text_at inner.1 >>= λ name. Ok (record { depth = depth; code = code; name = name.0 } ∷ inner.0, name.1)
 
--- A field behind its code.
+-- A field after its code.
 abbrev pub coded : (ℕ → ℕ → List ℕ → Part (List FieldDef)) → ℕ → ℕ → List ℕ → Part (List FieldDef)
 coded fields depth code rest =
     check (is_type_code code && nat_le depth READ_DEPTH) Wrong >>= λ known. named depth code (if_object (code == OBJECT_CODE) (within fields depth) rest)
@@ -168,7 +168,7 @@ pub same_part : {E A : Type 0} (a b : A) (x y : List ℕ) → ◌≡◌ {A = Res
 same_part {E = E} {A = A} a b x y e =
     (ap (λ (r : Result (A × List ℕ) E). elim r [ Ok p ↦ p.0 | Err fault ↦ a ]) e, ap (λ (r : Result (A × List ℕ) E). elim r [ Ok p ↦ p.1 | Err fault ↦ x ]) e)
 
--- What is behind so many bytes.
+-- What is after this many bytes.
 behind-shorter : (short : Bool) (value n k : ℕ) (bytes rest : List ℕ) → short ≡ nat_lt (length bytes) k → 0 < k → or_else_fault (cond short (Err Short) (let out : ℕ × List ℕ = (value, drop k bytes) in Ok out)) Cut ≡ Ok (n, rest) → length rest < length bytes
 behind-shorter true value n k bytes rest is some e = absurd (cc)
 behind-shorter false value n k bytes rest is some e =
@@ -214,7 +214,7 @@ text-shorter bytes rest units e = text_z-shorter bytes rest units (value_kept (t
 
 -- ---- one field, as it is read
 
--- The fields inside one are read, and added behind it.
+-- The fields inside one are read, and added after it.
 pub record Holds (depth code : ℕ) (bytes : List ℕ) (before : List FieldDef) (rest : List ℕ) (now : List FieldDef) : Type 0 where
   pub inner : List FieldDef
   pub added : now ≡ before ++ inner

@@ -13,6 +13,7 @@ use Rattle.pt_num.specs.Numbers.{fixed}
 use Rattle.pt_num.specs.Texts.{text_z, are_units}
 use Rattle.pt_num.specs.Steps.{check}
 use Rattle.pt_num.proofs.Steps.{bind_inv}
+use Rattle.pt_num.proofs.Joined.{four_grouped}
 use Rattle.nt_meta.specs.declared.limits.TheConstants.{READ_DEPTH}
 use Rattle.nt_meta.specs.Meta.{inside, after, inside_counts, fields_bytes, is_readable_field}
 use Rattle.nt_meta.specs.Reading.{Part, Cut, Wrong, number_at, text_at, if_object, field_at, with_fields, fields_at}
@@ -239,9 +240,6 @@ within-read fields reads depth code bytes inner rest false is e low =
       spelled = rw is same.1;
     }
 
-four_grouped : (a b c d rest : List ℕ) → a ++ (b ++ (c ++ (d ++ rest))) ≡ (((a ++ b) ++ c) ++ d) ++ rest
-four_grouped a b c d rest = simp append_assoc
-
 -- So many fields of a depth.
 pub forest_read : (more : ℕ) → ReadsForests (fields_at more)
 forest_read more depth zero bytes fields rest e low =
@@ -275,7 +273,7 @@ forest_read (suc more) depth (suc count) bytes fields rest e low =
       subst (Forest depth (suc count)) (sym all) forest,
       code.0
           ∙ ap (λ (back : List ℕ). fixed w32 coded.0.0 ++ back) (within.spelled ∙ ap (λ (back : List ℕ). inside_bytes field inner.0.0 ++ back) (name.0 ∙ ap (λ (back : List ℕ). text_z named.0.0 ++ back) (made.1 ∙ later.1)))
-          ∙ four_grouped (fixed w32 coded.0.0) (inside_bytes field inner.0.0) (text_z named.0.0) (fields_bytes (length others.0) others.0) rest
+          ∙ sym (four_grouped (fixed w32 coded.0.0) (inside_bytes field inner.0.0) (text_z named.0.0) (fields_bytes (length others.0) others.0) rest)
           ∙ ap (λ (front : List ℕ). front ++ rest) (sym (forest_bytes field inner.0.0 others.0 within.count count within.forest later.0))
           ∙ ap (λ (fs : List FieldDef). fields_bytes (length fs) fs ++ rest) (sym all),
     )

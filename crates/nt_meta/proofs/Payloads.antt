@@ -35,7 +35,7 @@ bytes-of bytes low = All-from_get_or (λ byte. byte < 2 ^ 8) bytes 0 (λ i withi
 
 -- ---- a definition
 
--- The bytes of a definition behind its id.
+-- The bytes of a definition after its id.
 abbrev pub def_bytes : EventDef → List ℕ → List ℕ
 def_bytes def rest =
     text_z def.provider ++ (fixed w32 def.id ++ (text_z def.name ++ (fixed w64 def.keywords ++ (fixed w32 def.version ++ (fixed w32 def.level ++ (fixed w32 (outermost_count def.fields) ++ (fields_bytes (length def.fields) def.fields ++ rest)))))))

@@ -6,6 +6,7 @@ use Rattle.std.proofs.lemmas.List.Folds.{length-prefix_len}
 use Rattle.std.proofs.lemmas.Grind.{common_steps}
 use Rattle.std.specs.Int.{w32}
 use Rattle.std.specs.List.{list_all, prefix_len}
+use Rattle.ep_defs.specs.declared.limits.TheConstants.{FIELD_DEPTH, FIELD_NAME_UNITS}
 use Rattle.ep_defs.specs.declared.event.FieldDef.{FieldDef}
 use Rattle.ep_defs.specs.Event.{is_valid_field, is_type_code, is_text}
 use Rattle.pt_num.specs.Numbers.{fixed}
@@ -109,7 +110,7 @@ Parts-of field rest within later some first valid is_within is_later =
     let whole = rest_is rest field some first in
     let all : IsTrue (list_all is_valid_field (field ∷ behind rest)) = subst (λ (fields : List FieldDef). IsTrue (list_all is_valid_field fields)) whole valid in
     let both = both_hold (is_valid_field field) (list_all is_valid_field (behind rest)) all in
-    let deep = both_hold (is_type_code field.code && is_text 200 field.name) (nat_le field.depth 8) both.0 in
+    let deep = both_hold (is_type_code field.code && is_text FIELD_NAME_UNITS field.name) (nat_le field.depth FIELD_DEPTH) both.0 in
     let count : length rest ≡ suc (length (behind rest)) = ap length whole in
     let few = length-inside field (behind rest) in
     let left = length-after field (behind rest) in

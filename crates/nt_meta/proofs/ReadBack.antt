@@ -17,6 +17,7 @@ use Rattle.nt_meta.specs.Meta.{inside, after, inside_count, inside_counts, field
 use Rattle.nt_meta.specs.Reading.{Part, Wrong, number_at, if_object, field_at, with_fields, fields_at, def_at, meta_at}
 use Rattle.nt_meta.specs.state.Fields.{inside_bytes}
 use Rattle.pt_num.proofs.Lengths.{length-fixed32}
+use Rattle.pt_num.proofs.Joined.{four_grouped}
 use Rattle.nt_meta.proofs.PutFields.{after_is, fields_bytes-cons, list_all-take, list_all-drop}
 use Rattle.nt_meta.proofs.FieldSteps.{fields_at-zero, fields_at-suc, field_coded, coded_known}
 use Rattle.nt_meta.proofs.FieldSteps.{within as inner_at, named as field_named}
@@ -227,9 +228,6 @@ field_back fields field inner rest good read =
     ∙ ap (field_named field.depth field.code) read
     ∙ ap (λ (p : Part (List ℕ)). p >>= λ name. Ok (record { depth = field.depth; code = field.code; name = name.0 } ∷ inner, name.1)) (text-read field.name rest known.1)
 
-four_apart : (a b c d rest : List ℕ) → (((a ++ b) ++ c) ++ d) ++ rest ≡ a ++ (b ++ (c ++ (d ++ rest)))
-four_apart a b c d rest = simp append_assoc
-
 -- The first field of some is read.
 first_back : (fields : ℕ → ℕ → List ℕ → Part (List FieldDef)) (depth count : ℕ) (field : FieldDef) (later : List FieldDef) (rest : List ℕ) → Split depth count field later → fields (depth + 1) (inside_count field later) (fields_bytes (length (inside field later)) (inside field later) ++ (text_z field.name ++ rest)) ≡ Ok (inside field later, text_z field.name ++ rest) → field_at fields depth (fixed w32 field.code ++ (inside_bytes field (inside field later) ++ (text_z field.name ++ rest))) ≡ Ok (field ∷ inside field later, rest)
 first_back fields depth count field later rest split read =
@@ -255,7 +253,7 @@ forest_back (suc more) depth count (field ∷ fields) rest forest few =
     let lengths = split-len field fields in
     let behind : List ℕ = fields_bytes (length others) others ++ rest in
     let bytes : fields_bytes (length (field ∷ fields)) (field ∷ fields) ++ rest ≡ fixed w32 field.code ++ (inside_bytes field inner ++ (text_z field.name ++ behind)) =
-    ap (λ (bs : List ℕ). bs ++ rest) (fields_bytes-cons field fields) ∙ four_apart (fixed w32 field.code) (inside_bytes field inner) (text_z field.name) (fields_bytes (length others) others) rest in
+    ap (λ (bs : List ℕ). bs ++ rest) (fields_bytes-cons field fields) ∙ four_grouped (fixed w32 field.code) (inside_bytes field inner) (text_z field.name) (fields_bytes (length others) others) rest in
     let inside_read = forest_back more (depth + 1) (inside_count field fields) inner (text_z field.name ++ behind) split.inner (omega (arith, lengths, few)) in
     let first = first_back (fields_at more) depth count field fields behind split inside_read in
     ap (λ (n : ℕ). fields_at (suc more) depth n (fields_bytes (length (field ∷ fields)) (field ∷ fields) ++ rest)) split.counted

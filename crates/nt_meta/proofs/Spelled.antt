@@ -31,7 +31,7 @@ low-after (b ∷ front) rest low = low-after front rest (λ i. low (suc i))
 
 -- ---- numbers
 
--- What is behind so many bytes.
+-- What is after this many bytes.
 number-is : (short : Bool) (value n k : ℕ) (bytes rest : List ℕ) → short ≡ nat_lt (length bytes) k → or_else_fault (cond short (Err Short) (let out : ℕ × List ℕ = (value, drop k bytes) in Ok out)) Cut ≡ Ok (n, rest) → (value ≡ n) × (drop k bytes ≡ rest) × (k ≤ length bytes)
 number-is true value n k bytes rest is e = absurd (cc)
 number-is false value n k bytes rest is e =

@@ -1,4 +1,5 @@
--- The payload of a metadata blob, which defines an event (the NetTrace format document of PerfView (version 4), "MetadataBlock").
+-- The payload of a metadata blob, which defines an event (the NetTrace format document of PerfView (version 4),
+-- "MetadataBlock").
 use Rattle.std.specs.Prelude.{◌≡◌, ℕ, zero, suc, ◌+◌, ◌^◌, ◌<◌, ◌≤◌, Bool, ◌&&◌, List, [], ◌∷◌, ◌++◌, length, drop, take_while, count_by, nat_lt, nat_le, ◌==◌, if◌then◌else◌, IsTrue}
 use Rattle.std.specs.List.{list_all, AllByRecursion}
 use Rattle.std.specs.Int.{w32, w64}
@@ -38,7 +39,8 @@ fields_bytes (suc more) (field ∷ fields) =
 abbrev pub outermost_count : List FieldDef → ℕ
 outermost_count fields = count_by (λ f. f.depth == 0) fields
 
--- The id, the provider's name, the event's number and name, its keywords, version and level, and the fields after their number.
+-- The id, the provider's name, the event's number and name, its keywords, version and level, and the fields after their
+-- number.
 abbrev pub meta_payload : ℕ → EventDef → List ℕ
 meta_payload id def =
     fixed w32 id

@@ -1,4 +1,5 @@
--- What stands in the payload of a metadata blob, or that nothing may stand there (the NetTrace format document of PerfView (version 4), "MetadataBlock"; what is refused is this project's profile).
+-- What stands in the payload of a metadata blob, or that nothing may stand there (the NetTrace format document of
+-- PerfView (version 4), "MetadataBlock"; what is refused is this project's profile).
 use Rattle.std.specs.Prelude.{ℕ, zero, suc, ◌+◌, Bool, true, false, ◌&&◌, List, [], ◌∷◌, ◌++◌, length, Result, Ok, Err, nat_le, ◌==◌}
 use Rattle.std.specs.Int.{Width, w32, w64, is_in_range}
 use Rattle.pt_num.specs.Steps.{◌>>=◌, check, or_else_fault}
@@ -31,8 +32,8 @@ abbrev pub if_object : Bool → (List ℕ → Part (List FieldDef)) → List ℕ
 if_object true fields bytes = fields bytes
 if_object false fields bytes = Ok ([], bytes)
 
--- A field of this depth, and behind it those inside it: its type code, for an object their number and themselves, and its name.
--- Reads so many fields of a depth, as the next definition does.
+-- A field of this depth, and after it those inside it: its type code, for an object their number and themselves, and
+-- its name. Reads this many fields of a depth, as the next definition does.
 abbrev pub field_at : (ℕ → ℕ → List ℕ → Part (List FieldDef)) → ℕ → List ℕ → Part (List FieldDef)
 field_at fields depth bytes = do
   code ← number_at w32 bytes
@@ -46,14 +47,14 @@ abbrev pub with_fields : List FieldDef → Part (List FieldDef) → Part (List F
 with_fields first (Ok others) = Ok (first ++ others.0, others.1)
 with_fields first (Err fault) = Err fault
 
--- So many fields of this depth, each with those inside it. The first number bounds how many there can be.
+-- This many fields of this depth, each with those inside it. The first number bounds how many there can be.
 unfoldable pub fields_at : ℕ → ℕ → ℕ → List ℕ → Part (List FieldDef)
 fields_at more depth zero bytes = Ok ([], bytes)
 fields_at zero depth (suc count) bytes = Err Cut
 fields_at (suc more) depth (suc count) bytes =
     field_at (fields_at more) depth bytes >>= λ first. with_fields first.0 (fields_at more depth count first.1)
 
--- A definition, behind its id.
+-- A definition, after its id.
 unfoldable pub def_at : List ℕ → Part EventDef
 def_at bytes = do
   provider ← text_at bytes

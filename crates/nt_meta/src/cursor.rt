@@ -113,7 +113,7 @@ impl<'a> Cursor<'a> {
         Ok(())
     }
 
-    // So many fields of this depth, each with those inside it.
+    // This many fields of this depth, each with those inside it.
     #[cycle(fields)]
     fn fields(
         &mut self,
@@ -131,7 +131,7 @@ impl<'a> Cursor<'a> {
         Ok(())
     }
 
-    // A definition, behind its id.
+    // A definition, after its id.
     fn definition(&mut self, alloc: Global) -> Result<EventDef, Stop>
         ensures { Answers (def_at self.old.rest.now) result self.new.rest.now }
     {
@@ -157,7 +157,8 @@ impl<'a> Cursor<'a> {
 
     /// A definition and its id.
     pub fn meta(&mut self, alloc: Global) -> Result<(u32, EventDef), Stop>
-        ensures { MatchResult result (λ meta. meta_at self.old.rest.now ≡ Ok (meta.0, meta.1)) (λ stop. stop ≡ Stop.BadMeta → IsErr (meta_at self.old.rest.now)) }
+        ensures { MatchResult result (λ meta. meta_at self.old.rest.now ≡ Ok (meta.0, meta.1)) (λ stop. stop
+            ≡ Stop.BadMeta → IsErr (meta_at self.old.rest.now)) }
     {
         let id = self.number()?;
         if !is_id(id) {
@@ -177,7 +178,8 @@ fn is_id(id: u32) -> bool
 
 // The type code, if it is one of the format and a field may stand at this depth.
 fn type_code(code: u32, depth: u32) -> Result<u8, Stop>
-    ensures { MatchResult result (λ known. (known ≡ code) × (is_type_code code ≡ true) × (depth ≤ READ_DEPTH)) (λ stop. (is_type_code code && nat_le depth READ_DEPTH) ≡ false) }
+    ensures { MatchResult result (λ known. (known ≡ code) × (is_type_code code ≡ true)
+        × (depth ≤ READ_DEPTH)) (λ stop. (is_type_code code && nat_le depth READ_DEPTH) ≡ false) }
 {
     if depth > READ_DEPTH {
         return Err(Stop::BadMeta);

@@ -67,7 +67,7 @@ fn changed(alloc: Global, place: usize, byte: u8) -> Result<Vec<u8>, AllocError>
     Ok(bytes)
 }
 
-// Objects that stand inside each other, so many in all, the innermost without fields.
+// Objects that stand inside each other, this many in all, the innermost without fields.
 fn objects(alloc: Global, count: u32) -> Result<Vec<u8>, AllocError> {
     let mut bytes = Vec::from_slice(alloc, &NESTED[..32])?;
     for _ in 0..count {

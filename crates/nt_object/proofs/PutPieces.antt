@@ -5,6 +5,7 @@ use Rattle.std.specs.Int.{w32}
 use Rattle.std.specs.Result.{OnErr}
 use Rattle.pt_num.specs.Numbers.{fixed}
 use Rattle.pt_num.specs.Begins.{Keeps}
+use Rattle.pt_num.proofs.Joined.{four_grouped}
 use Rattle.nt_object.specs.Making.{begun_object}
 use Rattle.nt_object.specs.Object.{object}
 
@@ -40,10 +41,6 @@ start_put version name first second third payload old o1 o2 o3 begun paid new e1
     rw (e6, e5, e4, e3, e2, e1)
     (six_grouped old first second third (begun_object version name) payload (6 ∷ [])
     ∙ ap (λ (bytes : List ℕ). old ++ ((first ++ second ++ third) ++ bytes)) (sym (object_grouped front payload)))
-
--- Four pieces, one after another.
-four_grouped : (old first second third fourth : List ℕ) → (((old ++ first) ++ second) ++ third) ++ fourth ≡ old ++ (first ++ (second ++ (third ++ fourth)))
-four_grouped old first second third fourth = simp append_assoc
 
 -- What was there before four pieces are put stays.
 pub begun_kept : (old first second third fourth o1 o2 o3 o4 : List ℕ) → o1 ≡ old ++ first → o2 ≡ o1 ++ second → o3 ≡ o2 ++ third → o4 ≡ o3 ++ fourth → Keeps old o4

@@ -9,7 +9,7 @@ use Rattle.pt_num.specs.Numbers.{fixed}
 use Rattle.pt_num.proofs.TextForms.{units_long}
 use Rattle.nt_object.specs.declared.object.BlockKind.{BlockKind}
 use Rattle.nt_object.specs.Object.{trace_payload, block_bytes, block_len, padded, padding_begins, to_multiple_of_4}
-use Rattle.nt_object.specs.Stream.{stream_start}
+use Rattle.nt_object.specs.Stream.{start_len, stream_start}
 
 -- A date has eight parts.
 date_8 : (info : TraceInfo) → IsTrue (is_info info) → length info.date ≡ 8
@@ -21,7 +21,7 @@ unfolding fixed
 payload_size info date = simp (length-append, units_long) (omega (arith, date))
 
 -- The start of a stream takes 102 bytes.
-pub start_size : (info : TraceInfo) → IsTrue (is_info info) → length (stream_start info) ≡ 102
+pub start_size : (info : TraceInfo) → IsTrue (is_info info) → length (stream_start info) ≡ start_len
 unfolding fixed
 start_size info h = omega (arith, length-append (trace_payload info) (6 ∷ []), payload_size info (date_8 info h))
 

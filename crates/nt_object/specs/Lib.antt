@@ -1,4 +1,6 @@
-pub mod Making
+-- to be believed
 pub mod Object
-pub mod Reading
 pub mod Stream
+pub mod Reading
+-- what private functions answer
+pub mod Making

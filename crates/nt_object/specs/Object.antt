@@ -19,6 +19,8 @@ object version name payload =
     ++ 6 ∷ payload
     ++ 6 ∷ []
 
+-- What the Trace object holds: the date, the clock, the size of a pointer, the process, the processors and the sampling
+-- rate.
 abbrev pub trace_payload : TraceInfo → List ℕ
 trace_payload info =
     flat_map (fixed w16) info.date
@@ -29,9 +31,11 @@ trace_payload info =
     ++ fixed w32 info.processors
     ++ fixed w32 info.rate
 
+-- The Trace object, of version 4.
 abbrev pub trace_object : TraceInfo → List ℕ
 trace_object info = object 4 (codes "Trace") (trace_payload info)
 
+-- The name of a block's type.
 abbrev pub block_name : BlockKind → List ℕ
 block_name kind.Event = codes "EventBlock"
 block_name kind.Metadata = codes "MetadataBlock"
@@ -44,6 +48,7 @@ pub record Block : Type 0 where
   pub padding : List ℕ
   pub body : List ℕ
 
+-- A block, of version 2: the size of its body, padding, and the body.
 abbrev pub block_bytes : Block → List ℕ
 block_bytes block =
     object 2 (block_name block.kind) (fixed w32 (length block.body) ++ block.padding ++ block.body)

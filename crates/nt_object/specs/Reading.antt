@@ -1,4 +1,6 @@
--- What an object's head is taken as, from its first tag up to the tag after its type's name (the NetTrace format document of PerfView (version 4), the objects of "FastSerialization"; what is refused, and where, is this project's profile).
+-- What an object's head is taken as, from its first tag up to the tag after its type's name (the NetTrace format
+-- document of PerfView (version 4), the objects of "FastSerialization"; what is refused, and where, is this project's
+-- profile).
 use Rattle.std.specs.Prelude.{ℕ, ◌+◌, Bool, ◌&&◌, ◌||◌, not, List, take, drop, length, slice_index, nat_eq, nat_lt, ◌==◌, codes, if◌then◌else◌, Option, Some, None}
 use Rattle.std.specs.Cmp.Lexicographic.{pointwise}
 use Rattle.nt_object.specs.declared.object.BlockKind.TheVariants as block

@@ -13,7 +13,8 @@ use pt_num::no_form_begins_another as numbers_begin_no_others;
 
 /// The head of an object that is put is taken as its kind, up to the tag after its type's name, whatever follows.
 pub fn what_is_put_is_taken()
-    ensures start { (info : TraceInfo) (rest : List ℕ) → object_head_at (drop HEAD_BYTES (stream_start info ++ rest))
+    ensures start { (info : TraceInfo) (rest : List ℕ)
+        → object_head_at (drop HEAD_BYTES (stream_start info ++ rest))
         ≡ head.Head kind.Trace 21 }
     ensures trace { (info : TraceInfo) (rest : List ℕ) → object_head_at (trace_object info ++ rest)
         ≡ head.Head kind.Trace 21 }
@@ -21,11 +22,14 @@ pub fn what_is_put_is_taken()
         ≡ head.Head (kind.Block block.kind) (16 + length (block_name block.kind)) }
 {}
 
-/// No start of a stream begins another, no block another that may stand at the same offset, and no block a Trace object.
+/// No start of a stream begins another, no block another that may stand at the same offset, and no block a Trace
+/// object.
 pub fn no_form_begins_another()
-    ensures start { (info other : TraceInfo) (more rest : List ℕ) → IsTrue (is_info info) → IsTrue (is_info other)
+    ensures start { (info other : TraceInfo) (more rest : List ℕ) → IsTrue (is_info info)
+        → IsTrue (is_info other)
         → stream_start info ++ more ≡ stream_start other ++ rest → (info ≡ other) × (more ≡ rest) }
-    ensures block { (at : ℕ) (block other : Block) (more rest : List ℕ) → CanStand at block → CanStand at other
+    ensures block { (at : ℕ) (block other : Block) (more rest : List ℕ) → CanStand at block
+        → CanStand at other
         → block_bytes block ++ more ≡ block_bytes other ++ rest → (block ≡ other) × (more ≡ rest) }
     ensures kinds { (info : TraceInfo) (block : Block) (more rest : List ℕ)
         → trace_object info ++ more ≡ block_bytes block ++ rest → ⊥ }

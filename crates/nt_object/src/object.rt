@@ -60,7 +60,8 @@ pub fn put_start(out: &mut Vec<u8>, info: &TraceInfo) -> Result<(), AllocError>
 
 /// Appends a block that is to stand at this offset of the stream, padded by zeros.
 ///
-/// It takes 21 bytes beside its type's name, at most three zeros and the body, and no memory where there is room for them.
+/// It takes 21 bytes beside its type's name, at most three zeros and the body, and no memory where there is room for
+/// them.
 pub fn put_block(out: &mut Vec<u8>, at: u64, kind: BlockKind, body: &[u8]) -> Result<(), AllocError>
     requires at { at < 2 ^ 62 }
     requires body { length body.now < 2 ^ 31 }
@@ -69,7 +70,8 @@ pub fn put_block(out: &mut Vec<u8>, at: u64, kind: BlockKind, body: &[u8]) -> Re
     ensures size { length (block_bytes (padded at kind body.now)) ≡ block_len at kind (length body.now) }
     ensures err { OnErr result (out.new.items ≡ out.old.items) }
     ensures len { OnOk result (vec_len out.new ≡ vec_len out.old + block_len at kind (length body.now)) }
-    ensures room { vec_len out.old + block_len at kind (length body.now) ≤ vec_capacity out.old → IsOk result }
+    ensures room { vec_len out.old + block_len at kind (length body.now) ≤ vec_capacity out.old
+        → IsOk result }
     ensures capacity { vec_capacity out.old ≤ vec_capacity out.new }
 {
     let start = out.len();
@@ -127,7 +129,8 @@ fn append_block(out: &mut Vec<u8>, at: u64, kind: BlockKind, body: &[u8]) -> Res
     ensures ok { OnOk result (out.new.items ≡ out.old.items ++ block_bytes (padded at kind body.now)) }
     ensures err { OnErr result (Keeps out.old.items out.new.items) }
     ensures len { OnOk result (vec_len out.new ≡ vec_len out.old + block_len at kind (length body.now)) }
-    ensures room { vec_len out.old + block_len at kind (length body.now) ≤ vec_capacity out.old → IsOk result }
+    ensures room { vec_len out.old + block_len at kind (length body.now) ≤ vec_capacity out.old
+        → IsOk result }
     ensures capacity { vec_capacity out.old ≤ vec_capacity out.new }
 {
     let name = kind.name();

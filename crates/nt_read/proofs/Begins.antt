@@ -32,7 +32,7 @@ end-begins has_trace at told tag bytes = by-tag ((tag == 1) && has_trace)
     by-tag true = by-rest (length bytes == 0)
     by-tag false = begins-all told told refl
 
--- The items of an object stand behind those before it.
+-- The items of an object stand after those before it.
 begins-more : (told items all : List Item) → Begins (told ++ items) all → Begins told all
 begins-more told items all begins = record {
   rest = items ++ begins.rest;

@@ -13,7 +13,7 @@ use Rattle.nt_blocks.specs.declared.limits.TheConstants.{READ_BYTES}
 use Rattle.nt_blocks.specs.Refusals.{BadObject, BadVersion, TooLarge, body_at}
 use Rattle.nt_blocks.specs.Verdict.{Object, Stop, Cut, closed, may_stand, named_at, object_at, objects_at, or_refused, payload_at, refused, unit}
 
--- What is left behind an object is no more than this.
+-- What is left after an object is no more than this.
 record Leaves (most : ℕ) (read : Result Object Stop) : Type 0 where
   few : (object : Object) → read ≡ Ok object → length object.rest ≤ most
 
@@ -28,7 +28,7 @@ leaves-end most object within = record {
       omega (arith, ap (λ (o : Object). length o.rest) same, within);
 }
 
--- Behind a unit no more is left than was there.
+-- After a unit no more is left than was there.
 pub unit-leaves : (n : ℕ) (bytes : List ℕ) (found : List ℕ × List ℕ) → unit n bytes ≡ Ok found → length found.1 ≤ length bytes
 unit-leaves n bytes found e = by-test (nat_lt (length bytes) n) e
   where
@@ -75,11 +75,11 @@ object-leaves most has_trace at bytes within =
     leaves-next {A = Unit {0}} most (check (pointwise nat_eq (take 2 head.0) (5 ∷ 1 ∷ []) && is_name_length (number_in head.0 10)) (refused at BadObject)) _ (λ begun e.
     named-leaves most has_trace (number_in head.0 10) at head.0 head.1 left))
 
--- Behind an object no more is left than was there.
+-- After an object no more is left than was there.
 pub object-left : (has_trace : Bool) (at : ℕ) (bytes : List ℕ) (object : Object) → object_at has_trace at bytes ≡ Ok object → length object.rest ≤ length bytes
 object-left has_trace at bytes object e = (object-leaves (length bytes) has_trace at bytes (omega arith)).few object e
 
--- Two bounds are alike behind a tag, where they are behind each object.
+-- Two bounds are alike after a tag, where they are after each object.
 turn-same : (n m : ℕ) (has_trace : Bool) (items : List Item) (at tag : ℕ) (bytes : List ℕ) → ((object : Object) → length object.rest ≤ length bytes → objects_at n true (items ++ object.items) object.next object.rest ≡ objects_at m true (items ++ object.items) object.next object.rest) → objects_at (suc n) has_trace items at (tag ∷ bytes) ≡ objects_at (suc m) has_trace items at (tag ∷ bytes)
 unfolding objects_at
 turn-same n m has_trace items at tag bytes later =

@@ -58,7 +58,7 @@ runs-out reader bytes items = record {
       };
 }
 
--- Memory ran out behind part of the bytes.
+-- Memory ran out after part of the bytes.
 pub reads-out : (a b : TraceReader) (bytes rest : List ℕ) (old new : List Item) → Reads a bytes b rest old new → RunsOut a bytes old new
 reads-out a b bytes rest old new reads = stops-then a b bytes rest old new new fault.OutOfMemory reads (runs-out b rest new)
 

@@ -59,7 +59,7 @@ verdict-starts bytes = by-head (unit 32 bytes) refl
 
 -- ---- a tag
 
--- Behind the tag of an object the bound is the number of bytes again.
+-- After the tag of an object the bound is the number of bytes again.
 after-tag : (most : ℕ) (has_trace : Bool) (told : List Item) (at : ℕ) (bytes : List ℕ) → length bytes ≤ most → elim (object_at has_trace at bytes) as (λ (read : Result Object Stop). Verdict) [ Ok found ↦ objects_at most true (told ++ found.items) found.next found.rest | Err stop ↦ stopped stop told ] ≡ objects_after told (object_at has_trace at bytes)
 after-tag most has_trace told at bytes within = by-object (object_at has_trace at bytes) refl
   where

@@ -9,6 +9,7 @@ use Rattle.nt_read.specs.declared.fault.ReadKind.TheVariants as kind
 use Rattle.nt_read.specs.declared.fault.ReadFault.{ReadFault}
 use Rattle.nt_read.specs.declared.fault.ReadFault.TheVariants as fault
 
+-- The reader's kind for a reason.
 abbrev pub kind_of : Reason → ReadKind
 kind_of reason.BadMagic = kind.BadMagic
 kind_of reason.BadObject = kind.BadObject
@@ -35,7 +36,7 @@ answer_of (Bad why items) = Err (fault_of why)
 answer_of (Good items) = Ok tt
 answer_of (More items) = Ok tt
 
--- The answer once these were all bytes, so many of them.
+-- The answer once these were all bytes, this many of them.
 abbrev pub end_answer : ℕ → Verdict → Result (Unit {0}) ReadFault
 end_answer n (Bad why items) = Err (fault_of why)
 end_answer n (Good items) = Ok tt
@@ -47,13 +48,13 @@ IsKept (Ok done) = Unit {0}
 IsKept (Err (fault.Bad at kind)) = Unit {0}
 IsKept (Err fault.OutOfMemory) = ⊥
 
--- The items by which there are more now are given behind those that were there.
+-- The items by which there are more now are given after those that were there.
 pub record Gives (earlier later old new : List Item) : Type 0 where
   pub found : List Item
   pub more : later ≡ earlier ++ found
   pub given : new ≡ old ++ found
 
--- Of the items by which there are more now the first are given behind those that were there.
+-- Of the items by which there are more now the first are given after those that were there.
 pub record GivesPart (earlier later old new : List Item) : Type 0 where
   pub found : List Item
   pub rest : List Item

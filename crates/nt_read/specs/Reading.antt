@@ -31,6 +31,7 @@ pub record IsRefused (bytes : List ℕ) (refused : ReadFault) : Type 0 where
   pub is : refused ≡ fault_of why
   pub goes : (more : List ℕ) → verdict (bytes ++ more) ≡ Bad why told
 
+-- A reader that was fed these bytes goes on, or has refused them so.
 abbrev pub HasJudged : List ℕ → TraceReader → Option ReadFault → Type 0
 HasJudged bytes reader None = GoesOn bytes reader
 HasJudged bytes reader (Some refused) = IsRefused bytes refused

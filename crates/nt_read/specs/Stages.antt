@@ -44,7 +44,7 @@ padding_on kind size at bytes = do
   padding ← unit (to_multiple_of_4 at) bytes
   body_on kind size (at + length padding.0) padding.1
 
--- The name of so many bytes, and what follows it. The versions stood before it.
+-- The name of this many bytes, and what follows it. The versions stood before it.
 abbrev pub name_on : Bool → ℕ → Version → Version → ℕ → List ℕ → Result Object Stop
 name_on has_trace n version least at bytes = do
   name ← unit (n + 1) bytes
@@ -71,7 +71,8 @@ abbrev pub after_head : ℕ → List Item → Result (List ℕ × List ℕ) Stop
 after_head at told (Ok head) = after_magic (pointwise nat_eq head.0 stream_head) at told head.1
 after_head at told (Err stop) = stopped stop told
 
--- The verdict on these bytes, of which the first belongs to the unit of this stage and stands at this offset. `pending` are the items of the object that isn't closed, `told` those of the objects before it.
+-- The verdict on these bytes, of which the first belongs to the unit of this stage and stands at this offset. `pending`
+-- are the items of the object that isn't closed, `told` those of the objects before it.
 abbrev pub goes_on : Stage → ℕ → List Item → List Item → List ℕ → Verdict
 goes_on stage.Head at pending told bytes = after_head at told (unit 32 bytes)
 goes_on (stage.Tag has_trace) at pending told bytes = objects_at (length bytes) has_trace told at bytes

@@ -6,8 +6,8 @@ use std::alloc::{AllocError, AllocFailed};
 pub enum ReadKind {
     /// The first 32 bytes are not those of a NetTrace stream. It stands at 0.
     BadMagic,
-    /// A tag, the length of a type's name or the name is wrong, the first object is not Trace or a later one is, or bytes
-    /// follow the end. It stands at the first byte of the unit.
+    /// A tag, the length of a type's name or the name is wrong, the first object is not Trace or a later one is, or
+    /// bytes follow the end. It stands at the first byte of the unit.
     BadObject,
     /// The version there is not that of the object's kind.
     BadVersion,

@@ -24,7 +24,7 @@ use nt_object::limits::{BEGIN_OBJECT, BLOCK_VERSION, END_OBJECT, NULL_REFERENCE,
 use nt_object::{BlockKind, ObjectKind};
 use std::alloc::Global;
 
-/// The stage behind a unit that stands at this offset of the stream, or why the unit is refused.
+/// The stage after a unit that stands at this offset of the stream, or why the unit is refused.
 ///
 /// `pending` has the items of the object whose end is not read yet. Only bodies take memory.
 pub fn judge(
@@ -186,7 +186,8 @@ fn name(
     unit: &[u8],
 ) -> Result<Stage, ReadFault>
     requires { length unit.now ≡ len + 1 }
-    ensures { (pending : List Item) → Judges (stage.Name has_trace len version least) at pending unit.now result pending }
+    ensures { (pending : List Item)
+        → Judges (stage.Name has_trace len version least) at pending unit.now result pending }
 {
     let len = len as usize;
     let Some(kind) = kind_named(&unit[..len]) else {

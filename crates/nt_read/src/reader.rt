@@ -12,8 +12,8 @@ use std::mem::swap;
 /// Reads a stream that comes in any pieces. A reader stands for the bytes that it was fed.
 ///
 /// It keeps the bytes of at most one unit, of which the largest is a body of `nt_blocks::limits::READ_BYTES`, and the
-/// items of one object. Memory is taken for bytes that have come, and not for a size that the stream claims. A unit that
-/// a piece holds whole is read where it stands.
+/// items of one object. Memory is taken for bytes that have come, and not for a size that the stream claims. A unit
+/// that a piece holds whole is read where it stands.
 #[derive(Drop)]
 pub struct TraceReader {
     alloc: Global,
@@ -55,21 +55,30 @@ impl TraceReader {
         }
     }
 
-    /// Reads the next piece of the stream, and appends the items of the objects that end in it. Offsets are counted from
-    /// the stream's first byte.
+    /// Reads the next piece of the stream, and appends the items of the objects that end in it. Offsets are counted
+    /// from the stream's first byte.
     ///
-    /// A unit is refused as soon as all its bytes are there; the items of the objects before it are appended. Where it is
-    /// out of memory the first of the items are appended. After a fault the reader takes nothing, and answers the same
-    /// fault from then on.
+    /// A unit is refused as soon as all its bytes are there; the items of the objects before it are appended. Where it
+    /// is out of memory the first of the items are appended. After a fault the reader takes nothing, and answers the
+    /// same fault from then on.
     pub fn feed(&mut self, piece: &[u8], items: &mut Vec<Item>) -> Result<(), ReadFault>
         requires { used self.old + length piece.now < 2 ^ 63 }
-        ensures read { IsKept result → (bytes : List ℕ) → HasRead bytes self.old → HasRead (bytes ++ piece.now) self.new }
-        ensures items { IsKept result → (bytes : List ℕ) → HasRead bytes self.old → Gives (items_of (verdict bytes)) (items_of (verdict (bytes ++ piece.now))) items.old.items items.new.items }
-        ensures answer { IsKept result → (bytes : List ℕ) → HasRead bytes self.old → result ≡ answer_of (verdict (bytes ++ piece.now)) }
-        ensures stays { (bytes : List ℕ) (why : Refusal) (told : List Item) → HasRead bytes self.old → verdict bytes ≡ Bad why told → StaysRefused why told (bytes ++ piece.now) result items.old.items items.new.items }
-        ensures part { result ≡ Err OutOfMemory → (bytes : List ℕ) → HasRead bytes self.old → GivesPart (items_of (verdict bytes)) (items_of (verdict (bytes ++ piece.now))) items.old.items items.new.items }
+        ensures read { IsKept result → (bytes : List ℕ) → HasRead bytes self.old
+            → HasRead (bytes ++ piece.now) self.new }
+        ensures items { IsKept result → (bytes : List ℕ) → HasRead bytes self.old
+            → Gives (items_of (verdict bytes)) (items_of (verdict (bytes
+            ++ piece.now))) items.old.items items.new.items }
+        ensures answer { IsKept result → (bytes : List ℕ) → HasRead bytes self.old
+            → result ≡ answer_of (verdict (bytes ++ piece.now)) }
+        ensures stays { (bytes : List ℕ) (why : Refusal) (told : List Item)
+            → HasRead bytes self.old → verdict bytes ≡ Bad why told
+            → StaysRefused why told (bytes ++ piece.now) result items.old.items items.new.items }
+        ensures part { result ≡ Err OutOfMemory → (bytes : List ℕ) → HasRead bytes self.old
+            → GivesPart (items_of (verdict bytes)) (items_of (verdict (bytes
+            ++ piece.now))) items.old.items items.new.items }
         ensures memory { result ≡ Err OutOfMemory → HasFailed self.new }
-        ensures fails { HasFailed self.old → (result ≡ Err OutOfMemory) × (items.new.items ≡ items.old.items) }
+        ensures fails { HasFailed self.old
+            → (result ≡ Err OutOfMemory) × (items.new.items ≡ items.old.items) }
         ensures used { used self.new ≤ used self.old + length piece.now }
     {
         if let Some(fault) = self.fault {
@@ -86,7 +95,8 @@ impl TraceReader {
 
     /// Whether the bytes are a whole stream: else the refusal that `feed` answered, or Truncated at their number.
     pub fn finish(&self) -> Result<(), ReadFault>
-        ensures read { (bytes : List ℕ) → HasRead bytes self.now → result ≡ end_answer (length bytes) (verdict bytes) }
+        ensures read { (bytes : List ℕ) → HasRead bytes self.now
+            → result ≡ end_answer (length bytes) (verdict bytes) }
         ensures fails { HasFailed self.now → result ≡ Err OutOfMemory }
     {
         if let Some(fault) = self.fault {
@@ -151,7 +161,8 @@ impl TraceReader {
     fn judge_next(&mut self, last: &[u8]) -> Result<Stage, ReadFault>
         requires whole { length self.old.kept.items + length last.now ≡ needs self.old.stage self.old.at }
         requires within { used self.old + length last.now < 2 ^ 63 }
-        ensures judged { Judges self.old.stage self.old.at self.old.pending.items (self.old.kept.items ++ last.now) result self.new.pending.items }
+        ensures judged { Judges self.old.stage self.old.at self.old.pending.items (self.old.kept.items
+            ++ last.now) result self.new.pending.items }
         ensures kept { IfOk result (λ next. self.new.kept.items ≡ []) }
         ensures few { length self.new.kept.items ≤ length self.old.kept.items }
         ensures stage { self.new.stage ≡ self.old.stage }

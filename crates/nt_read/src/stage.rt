@@ -26,7 +26,7 @@ pub enum Stage {
     Begun {
         has_trace: bool,
     },
-    /// The name of the object's type, of so many bytes, and the tag after it.
+    /// The name of the object's type, of this many bytes, and the tag after it.
     Name {
         has_trace: bool,
         len: u32,

@@ -17,7 +17,7 @@ fn bad(at: u64, kind: ReadKind) -> Result<(), ReadFault> {
     Err(ReadFault::Bad { at, kind })
 }
 
-// Feeds these bytes in pieces of at most so many, cut at random.
+// Feeds these bytes in pieces of at most this many, cut at random.
 fn feed_cut(
     reader: &mut TraceReader,
     bytes: &[u8],
@@ -92,7 +92,7 @@ fn cuts_change_nothing(rt: HostRuntime) -> Result<(), Fail> {
     Ok(())
 }
 
-// The number of objects among the first so many bytes, each of which tells one item.
+// The number of objects among the first this many bytes, each of which tells one item.
 fn objects(n: usize) -> usize {
     [102, 196, 256, 309].iter().filter(|end| **end <= n).count()
 }

@@ -13,7 +13,7 @@ abbrev pub stack_with : ℕ → List (List ℕ × ℕ) → List ℕ
 stack_with id [] = []
 stack_with id (entry ∷ entries) = if entry.1 == id then entry.0 else stack_with id entries
 
--- The stacks with so many ids from this one on.
+-- The stacks with this many ids from this one on.
 abbrev pub stacks_from : ℕ → ℕ → List (List ℕ × ℕ) → List (List ℕ)
 stacks_from zero id entries = []
 stacks_from (suc more) id entries = stack_with id entries ∷ stacks_from more (suc id) entries

@@ -1,2 +1,4 @@
-pub mod Interning
+-- to be believed
 pub mod Stacks
+-- what private fields stand for
+pub mod Interning

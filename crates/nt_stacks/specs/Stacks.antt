@@ -1,4 +1,5 @@
--- The ids of stacks: 1, 2, 3, .. in the order of first use, and 0 for no bytes (this project's profile; the NetTrace format document of PerfView (version 4), "StackBlock").
+-- The ids of stacks: 1, 2, 3, .. in the order of first use, and 0 for no bytes (this project's profile; the NetTrace
+-- format document of PerfView (version 4), "StackBlock").
 use Rattle.std.specs.Prelude.{◌≡◌, ℕ, ◌<◌, List, [], ◌∷◌, ◌++◌, ◌==◌, if◌then◌else◌, unwrap_or}
 use Rattle.std.specs.List.{position_from}
 use Rattle.std.specs.Str.{bytes_eq}

@@ -60,7 +60,8 @@ impl Interner {
 
         // Ids that were given before are those up to the number of stacks.
         ensures is_new { IfOk result (λ interned. interned.is_new ≡ nat_lt (length self.old) interned.id) }
-        ensures count { IfOk result (λ interned. length self.new ≡ length self.old + (if interned.is_new then 1 else 0)) }
+        ensures count { IfOk result (λ interned. length self.new
+            ≡ length self.old + (if interned.is_new then 1 else 0)) }
         ensures small { IfOk result (λ interned. interned.id ≤ length self.new) }
         ensures equal { IfOk result (λ interned. IsOfNoOther self.new interned.id bytes.now) }
         ensures err { OnErr result (self.new ≡ self.old) }

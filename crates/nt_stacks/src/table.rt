@@ -47,7 +47,8 @@ impl StackTable {
     /// Defines the stack with this id, and answers true. Where the id is there already it changes nothing, and answers
     /// false. Out of memory, it changes nothing.
     pub fn define(&mut self, alloc: Global, id: u32, bytes: &[u8]) -> Result<bool, AllocError>
-        ensures ok { IfOk result (λ defined. self.new ≡ (if defined then map.insert self.old id bytes.now else self.old)) }
+        ensures ok { IfOk result (λ defined. self.new
+            ≡ (if defined then map.insert self.old id bytes.now else self.old)) }
         ensures defined { IfOk result (λ defined. defined ≡ not (map.contains_key self.old id)) }
         ensures err { OnErr result (self.new ≡ self.old) }
     {

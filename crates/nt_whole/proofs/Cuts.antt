@@ -15,9 +15,10 @@ use Rattle.nt_object.specs.declared.object.BlockKind.{BlockKind}
 use Rattle.nt_object.specs.declared.object.BlockKind.TheVariants as block
 use Rattle.nt_object.specs.declared.head.ObjectKind.TheVariants as kind
 use Rattle.nt_object.specs.Object.{trace_object, trace_payload, block_name, Block, block_bytes, to_multiple_of_4}
-use Rattle.nt_object.specs.Stream.{stream_head, CanFollow, blocks_bytes}
+use Rattle.nt_object.specs.Stream.{CanFollow, blocks_bytes, start_len, stream_head}
 use Rattle.nt_object.specs.Reading.{number_in}
 use Rattle.nt_object.proofs.Fronts.{body_grouped}
+use Rattle.nt_blocks.specs.declared.limits.TheConstants.{READ_BYTES}
 use Rattle.nt_blocks.specs.Refusals.{body_at}
 use Rattle.nt_blocks.specs.Verdict.{Cut, More, Verdict, closed, info_in, named_at, object_at, objects_at, or_refused, payload_at, unit, verdict}
 use Rattle.nt_write.specs.Trace.{BlocksHold, IsTrace, trace_item}
@@ -75,9 +76,9 @@ closed-cut items at rest part left e =
 -- ---- an object
 
 -- The payload of a block is cut, or whole.
-payload-cut : (k : BlockKind) (at : ℕ) (size padding body rest part left : List ℕ) (items : List Item) → length size ≡ 4 → number_in size 0 ≡ length body → length body ≤ 16777216 → length padding ≡ to_multiple_of_4 (at + 4) → body_at k (at + 4 + length padding) body ≡ Ok items → size ++ (padding ++ (body ++ 6 ∷ rest)) ≡ part ++ left → (payload_at (kind.Block k) at part ≡ Err Cut) ⊎ ((more : List ℕ) × (part ≡ size ++ (padding ++ (body ++ 6 ∷ more))) × (rest ≡ more ++ left))
+payload-cut : (k : BlockKind) (at : ℕ) (size padding body rest part left : List ℕ) (items : List Item) → length size ≡ 4 → number_in size 0 ≡ length body → length body ≤ READ_BYTES → length padding ≡ to_multiple_of_4 (at + 4) → body_at k (at + 4 + length padding) body ≡ Ok items → size ++ (padding ++ (body ++ 6 ∷ rest)) ≡ part ++ left → (payload_at (kind.Block k) at part ≡ Err Cut) ⊎ ((more : List ℕ) × (part ≡ size ++ (padding ++ (body ++ 6 ∷ more))) × (rest ≡ more ++ left))
 payload-cut k at size padding body rest part left items four sized small padded held e =
-    let fits = le-leb (number_in size 0) 16777216 (omega (arith, sized, small)) in
+    let fits = le-leb (number_in size 0) READ_BYTES (omega (arith, sized, small)) in
     let with_size : List ℕ → List ℕ = λ more. size ++ more in
     let with_padding : List ℕ → List ℕ = λ more. size ++ (padding ++ more) in
     elim (split size (padding ++ (body ++ 6 ∷ rest)) part left e) [
@@ -214,7 +215,7 @@ unfolding objects_at
 no-fuel has_trace items at part = refl
 
 -- Blocks that are cut are read as far as they go.
-blocks-cut : BodiesRead → (blocks : List Block) (others items : List Item) (at fuel : ℕ) (part left : List ℕ) → CanFollow at blocks → BlocksHold at blocks others → AllByRecursion (λ block. length block.body ≤ 16777216) blocks → blocks_bytes blocks ++ 1 ∷ [] ≡ part ++ left → 0 < length left → Begins (objects_at fuel true items at part) (items ++ others)
+blocks-cut : BodiesRead → (blocks : List Block) (others items : List Item) (at fuel : ℕ) (part left : List ℕ) → CanFollow at blocks → BlocksHold at blocks others → AllByRecursion (λ block. length block.body ≤ READ_BYTES) blocks → blocks_bytes blocks ++ 1 ∷ [] ≡ part ++ left → 0 < length left → Begins (objects_at fuel true items at part) (items ++ others)
 blocks-cut reads blocks others items at zero part left follow hold small e some =
     record { first = items; others = others; more = no-fuel true items at part; all = refl }
 blocks-cut reads blocks others items at (suc fuel) [] left follow hold small e some =
@@ -241,7 +242,7 @@ blocks-cut reads (b ∷ blocks) others items at (suc fuel) (p ∷ part) left fol
     ]
 
 -- What is cut behind the head is read as far as it goes.
-behind-cut : BodiesRead → (info : TraceInfo) (blocks : List Block) (others : List Item) (fuel : ℕ) (part left : List ℕ) → IsTrue (is_info info) → CanFollow 102 blocks → BlocksHold 102 blocks others → AllByRecursion (λ block. length block.body ≤ 16777216) blocks → trace_object info ++ (blocks_bytes blocks ++ 1 ∷ []) ≡ part ++ left → 0 < length left → Begins (objects_at fuel false [] 32 part) (trace_item info ∷ others)
+behind-cut : BodiesRead → (info : TraceInfo) (blocks : List Block) (others : List Item) (fuel : ℕ) (part left : List ℕ) → IsTrue (is_info info) → CanFollow start_len blocks → BlocksHold start_len blocks others → AllByRecursion (λ block. length block.body ≤ READ_BYTES) blocks → trace_object info ++ (blocks_bytes blocks ++ 1 ∷ []) ≡ part ++ left → 0 < length left → Begins (objects_at fuel false [] 32 part) (trace_item info ∷ others)
 behind-cut reads info blocks others zero part left fits follow hold small e some =
     record { first = []; others = trace_item info ∷ others; more = no-fuel false [] 32 part; all = refl }
 behind-cut reads info blocks others (suc fuel) [] left fits follow hold small e some =
@@ -253,8 +254,8 @@ behind-cut reads info blocks others (suc fuel) (p ∷ part) left fits follow hol
     elim (trace-cut info rest part left fits same.1) [
       | inl cut ↦ record { first = []; others = trace_item info ∷ others; more = tagged ∙ object-stop fuel false [] 32 part cut; all = refl }
       | inr goes ↦
-          let later = blocks-cut reads blocks others (trace_item info ∷ []) 102 fuel goes.0 left follow hold small goes.2 some in
-          let found : objects_at (suc fuel) false [] 32 (5 ∷ part) ≡ objects_at fuel true (trace_item info ∷ []) 102 goes.0 =
+          let later = blocks-cut reads blocks others (trace_item info ∷ []) start_len fuel goes.0 left follow hold small goes.2 some in
+          let found : objects_at (suc fuel) false [] 32 (5 ∷ part) ≡ objects_at fuel true (trace_item info ∷ []) start_len goes.0 =
           ap (λ (bytes : List ℕ). objects_at (suc fuel) false [] 32 (5 ∷ bytes)) goes.1 ∙ object-step fuel false [] 32 (trace_behind info goes.0) _ (trace-found info goes.0 fits) in
           record { first = later.first; others = later.others; more = tagged ∙ found ∙ later.more; all = later.all }
     ]

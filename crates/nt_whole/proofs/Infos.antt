@@ -19,7 +19,7 @@ use Rattle.nt_blocks.specs.Verdict.{info_in}
 
 -- ---- numbers
 
--- A number of four bytes behind so many.
+-- A number of four bytes after this many.
 pub number-there : (bytes front more : List ℕ) (place n : ℕ) → n < 2 ^ 32 → length front ≡ place → bytes ≡ front ++ (fixed w32 n ++ more) → number_in bytes place ≡ n
 unfolding fixed
 number-there bytes front more place n fits long e =
@@ -27,7 +27,7 @@ number-there bytes front more place n fits long e =
     ∙ ap (little_number 4) (drop_at front (fixed w32 n ++ more) place long)
     ∙ little_number-reads_back 4 n more fits
 
--- A number of eight bytes behind so many.
+-- A number of eight bytes after this many.
 wide-there : (bytes front more : List ℕ) (place n : ℕ) → n < 2 ^ 64 → length front ≡ place → bytes ≡ front ++ (fixed w64 n ++ more) → little_number 8 (drop place bytes) ≡ n
 unfolding fixed
 wide-there bytes front more place n fits long e =
@@ -46,7 +46,7 @@ units-there (unit ∷ units) all =
 
 -- ---- the payload
 
--- Seven lists one after another, as each of them stands between those before it and those behind it.
+-- Seven lists one after another, as each of them stands between those before it and those after it.
 record Places (a b c d e f g : List ℕ) : Type 0 where
   pub first : a ++ b ++ c ++ d ++ e ++ f ++ g ≡ a ++ (b ++ (c ++ (d ++ (e ++ (f ++ g)))))
   pub third : a ++ b ++ c ++ d ++ e ++ f ++ g ≡ (a ++ b) ++ (c ++ (d ++ (e ++ (f ++ g))))

@@ -10,12 +10,14 @@ use Rattle.ep_defs.specs.declared.item.Item.{Item}
 use Rattle.ep_defs.specs.declared.item.ItemKind.TheVariants as item
 use Rattle.pt_num.specs.Numbers.{fixed}
 use Rattle.pt_num.proofs.Lengths.{length-fixed32}
+use Rattle.nt_object.specs.Stream.{start_len}
 use Rattle.nt_object.specs.declared.object.BlockKind.{BlockKind}
 use Rattle.nt_object.specs.declared.object.BlockKind.TheVariants as block
 use Rattle.nt_object.specs.declared.head.ObjectKind.TheVariants as kind
 use Rattle.nt_object.specs.Object.{object, trace_payload, trace_object, block_name, Block, block_bytes, padding_begins, to_multiple_of_4, CanStand}
 use Rattle.nt_object.specs.Reading.{number_in}
 use Rattle.nt_object.proofs.Fronts.{body_grouped}
+use Rattle.nt_blocks.specs.declared.limits.TheConstants.{READ_BYTES}
 use Rattle.nt_blocks.specs.Refusals.{body_at}
 use Rattle.nt_blocks.specs.Verdict.{Object, Stop, named_at, object_at, or_refused, payload_at}
 use Rattle.nt_write.specs.Trace.{body_begins, trace_item}
@@ -83,10 +85,10 @@ trace-payload at info rest fits =
     ∙ ap found (info-there info fits)
 
 -- The payload of a block is there.
-block-payload : (k : BlockKind) (at : ℕ) (size padding body rest : List ℕ) (items : List Item) → length size ≡ 4 → number_in size 0 ≡ length body → length body ≤ 16777216 → length padding ≡ to_multiple_of_4 (at + 4) → body_at k (at + 4 + length padding) body ≡ Ok items → payload_at (kind.Block k) at (size ++ (padding ++ (body ++ 6 ∷ rest))) ≡ Ok (record { items = items; next = at + 4 + length padding + length body + 1; rest = rest })
+block-payload : (k : BlockKind) (at : ℕ) (size padding body rest : List ℕ) (items : List Item) → length size ≡ 4 → number_in size 0 ≡ length body → length body ≤ READ_BYTES → length padding ≡ to_multiple_of_4 (at + 4) → body_at k (at + 4 + length padding) body ≡ Ok items → payload_at (kind.Block k) at (size ++ (padding ++ (body ++ 6 ∷ rest))) ≡ Ok (record { items = items; next = at + 4 + length padding + length body + 1; rest = rest })
 block-payload k at size padding body rest items four sized small padded held =
     next _ _ _ (unit-there size (padding ++ (body ++ 6 ∷ rest)) 4 four)
-    ∙ passed _ _ _ (le-leb (number_in size 0) 16777216 (omega (arith, sized, small)))
+    ∙ passed _ _ _ (le-leb (number_in size 0) READ_BYTES (omega (arith, sized, small)))
     ∙ next _ _ _ (unit-there padding (body ++ 6 ∷ rest) (to_multiple_of_4 (at + 4)) padded)
     ∙ next _ _ _ (unit-there body (6 ∷ rest) (number_in size 0) (sym sized))
     ∙ next _ _ _ (ap or_refused held)
@@ -103,7 +105,7 @@ pub trace-parts : (info : TraceInfo) (rest : List ℕ) → trace_object info ++ 
 trace-parts info rest = object-parts 4 (codes "Trace") (trace_payload info) rest
 
 -- A Trace object is found.
-pub trace-found : (info : TraceInfo) (rest : List ℕ) → IsTrue (is_info info) → object_at false 33 (trace_behind info rest) ≡ Ok (record { items = trace_item info ∷ []; next = 102; rest = rest })
+pub trace-found : (info : TraceInfo) (rest : List ℕ) → IsTrue (is_info info) → object_at false 33 (trace_behind info rest) ≡ Ok (record { items = trace_item info ∷ []; next = start_len; rest = rest })
 trace-found info rest fits = trace-begun 33 (trace_payload info ++ 6 ∷ rest) ∙ trace-payload 53 info rest fits
 
 -- The size of a body, its padding and the body.
@@ -139,11 +141,11 @@ length-block b =
 -- The payload of a block that stands at this offset, by its parts.
 pub record Parts (at : ℕ) (b : Block) (items : List Item) : Type 0 where
   pub sized : number_in (fixed w32 (length b.body)) 0 ≡ length b.body
-  pub small : length b.body ≤ 16777216
+  pub small : length b.body ≤ READ_BYTES
   pub padded : length b.padding ≡ to_multiple_of_4 (at + 1 + 14 + length (block_name b.kind) + 1 + 4)
   pub held : body_at b.kind (at + 1 + 14 + length (block_name b.kind) + 1 + 4 + length b.padding) b.body ≡ Ok items
 
-pub parts-of : (b : Block) (at : ℕ) (items : List Item) → CanStand at b → length b.body ≤ 16777216 → body_at b.kind (body_begins at b) b.body ≡ Ok items → Parts at b items
+pub parts-of : (b : Block) (at : ℕ) (items : List Item) → CanStand at b → length b.body ≤ READ_BYTES → body_at b.kind (body_begins at b) b.body ≡ Ok items → Parts at b items
 parts-of b at items stands small held =
     let same : padding_begins at b.kind ≡ at + 1 + 14 + length (block_name b.kind) + 1 + 4 = omega arith in
     record {

@@ -9,7 +9,8 @@ use Rattle.ep_defs.specs.declared.item.Item.{Item}
 use Rattle.pt_num.specs.Numbers.{fixed}
 use Rattle.nt_object.specs.declared.object.BlockKind.{BlockKind}
 use Rattle.nt_object.specs.Object.{trace_object, Block, block_bytes}
-use Rattle.nt_object.specs.Stream.{stream_head, CanFollow, blocks_bytes}
+use Rattle.nt_object.specs.Stream.{CanFollow, blocks_bytes, start_len, stream_head}
+use Rattle.nt_blocks.specs.declared.limits.TheConstants.{READ_BYTES}
 use Rattle.nt_blocks.specs.Bodies.{IsBody}
 use Rattle.nt_blocks.specs.Refusals.{body_at}
 use Rattle.nt_blocks.specs.Verdict.{Good, Object, object_at, objects_at, verdict}
@@ -32,7 +33,7 @@ unfolding objects_at
 ended more items at = refl
 
 -- Blocks that hold items are read up to the stream's end.
-blocks-read : BodiesRead → (blocks : List Block) (others items : List Item) (at more : ℕ) → CanFollow at blocks → BlocksHold at blocks others → AllByRecursion (λ block. length block.body ≤ 16777216) blocks → length (blocks_bytes blocks ++ 1 ∷ []) ≤ more → objects_at more true items at (blocks_bytes blocks ++ 1 ∷ []) ≡ Good (items ++ others)
+blocks-read : BodiesRead → (blocks : List Block) (others items : List Item) (at more : ℕ) → CanFollow at blocks → BlocksHold at blocks others → AllByRecursion (λ block. length block.body ≤ READ_BYTES) blocks → length (blocks_bytes blocks ++ 1 ∷ []) ≤ more → objects_at more true items at (blocks_bytes blocks ++ 1 ∷ []) ≡ Good (items ++ others)
 blocks-read reads [] others items at zero follow hold small few = absurd (omega arith)
 blocks-read reads [] others items at (suc more) follow hold small few =
     ended more items at ∙ ap Good (sym (ap (λ (more : List Item). items ++ more) hold ∙ append-nil items))
@@ -49,14 +50,14 @@ blocks-read reads (b ∷ blocks) others items at (suc more) follow hold small fe
     ∙ ap Good (append_assoc items hold.0 hold.1 ∙ ap (λ (more : List Item). items ++ more) (sym hold.4))
 
 -- Behind the head a stream is read up to its end.
-trace-read : BodiesRead → (info : TraceInfo) (blocks : List Block) (others : List Item) (more : ℕ) → IsTrue (is_info info) → CanFollow 102 blocks → BlocksHold 102 blocks others → AllByRecursion (λ block. length block.body ≤ 16777216) blocks → length (trace_object info ++ (blocks_bytes blocks ++ 1 ∷ [])) ≤ more → objects_at more false [] 32 (trace_object info ++ (blocks_bytes blocks ++ 1 ∷ [])) ≡ Good (trace_item info ∷ others)
+trace-read : BodiesRead → (info : TraceInfo) (blocks : List Block) (others : List Item) (more : ℕ) → IsTrue (is_info info) → CanFollow start_len blocks → BlocksHold start_len blocks others → AllByRecursion (λ block. length block.body ≤ READ_BYTES) blocks → length (trace_object info ++ (blocks_bytes blocks ++ 1 ∷ [])) ≤ more → objects_at more false [] 32 (trace_object info ++ (blocks_bytes blocks ++ 1 ∷ [])) ≡ Good (trace_item info ∷ others)
 trace-read reads info blocks others zero fits follow hold small few = absurd (omega (arith, length-append (trace_object info) (blocks_bytes blocks ++ 1 ∷ []), length-append (blocks_bytes blocks) (1 ∷ [])))
 trace-read reads info blocks others (suc more) fits follow hold small few =
     let rest = blocks_bytes blocks ++ 1 ∷ [] in
     let parts = trace-parts info rest in
     ap (objects_at (suc more) false [] 32) parts
     ∙ object-step more false [] 32 (trace_behind info rest) _ (trace-found info rest fits)
-    ∙ blocks-read reads blocks others (trace_item info ∷ []) 102 more follow hold small (omega (arith, few, ap length parts, length-append (trace_object info) rest))
+    ∙ blocks-read reads blocks others (trace_item info ∷ []) start_len more follow hold small (omega (arith, few, ap length parts, length-append (trace_object info) rest))
 
 -- The head is there.
 pub headed : (rest : List ℕ) → verdict (stream_head ++ rest) ≡ objects_at (length (stream_head ++ rest)) false [] 32 rest

@@ -6,7 +6,7 @@ use Rattle.ep_defs.specs.declared.item.Item.{Item}
 use Rattle.pt_num.specs.Steps.{◌>>=◌, check}
 use Rattle.nt_blocks.specs.Verdict.{Stop, closed, unit}
 
--- The front of the bytes is a unit, where it has so many.
+-- The front of the bytes is a unit, where it has this many.
 pub unit-there : (front rest : List ℕ) (n : ℕ) → length front ≡ n → unit n (front ++ rest) ≡ Ok (front, rest)
 unit-there front rest n long =
     let pair : List ℕ → List ℕ → Result (List ℕ × List ℕ) Stop = λ a b. Ok (a, b) in

@@ -21,14 +21,16 @@ pub record IsReadAs (info : TraceInfo) (entries : List Entry) (items : List Item
   pub first : items ≡ trace_item info ∷ others
   pub no_other_trace : AllByRecursion (λ kind. is_trace kind ≡ false) (kinds_of others)
 
--- The bytes are found to begin a stream: nothing in them is refused, and these items, the first of the stream's, are there.
+-- The bytes are found to begin a stream: nothing in them is refused, and these items, the first of the stream's, are
+-- there.
 pub record IsBegun (items : List Item) (bytes : List ℕ) : Type 0 where
   pub first : List Item
   pub others : List Item
   pub more : verdict bytes ≡ More first
   pub all : items ≡ first ++ others
 
--- The bytes are found to begin a stream, and its items that are there stand in order and tell the first of these entries.
+-- The bytes are found to begin a stream, and its items that are there stand in order and tell the first of these
+-- entries.
 pub record IsBegunAs (entries : List Entry) (bytes : List ℕ) : Type 0 where
   pub items : List Item
   pub more : verdict bytes ≡ More items

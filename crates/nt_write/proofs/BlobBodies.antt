@@ -5,6 +5,7 @@ use Rattle.std.specs.Prelude.{map, replicate}
 use Rattle.std.proofs.lemmas.List.Elements.{All-nil}
 use Rattle.std.specs.List.{concat, flat_map, AllByRecursion}
 use Rattle.std.specs.Int.{w16, w64}
+use Rattle.ep_defs.specs.declared.limits.TheConstants.{PAYLOAD_BYTES}
 use Rattle.ep_defs.specs.declared.event.EventDef.{EventDef}
 use Rattle.ep_defs.specs.declared.item.Item.{Item}
 use Rattle.ep_defs.specs.declared.item.ItemKind.{ItemKind}
@@ -158,7 +159,7 @@ meta_kinds id (def ∷ defs) = item.Meta id def ∷ meta_kinds (id + 1) defs
 -- What a metadata blob's header says fits its places.
 pub meta-state : (id : ℕ) (def : EventDef) → CanDefine def → IsState (meta_draft id def).state
 meta-state id def h =
-    let short : length (meta_payload id def) ≤ 60000 = h.short id in
+    let short : length (meta_payload id def) ≤ PAYLOAD_BYTES = h.short id in
     record {
       ids = record {
         metadata = omega arith;
@@ -174,7 +175,7 @@ meta-state id def h =
       related = refl;
     }
   where
-    below : (n : ℕ) → n ≤ 60000 → n < 2 ^ 32
+    below : (n : ℕ) → n ≤ PAYLOAD_BYTES → n < 2 ^ 32
     below n h = omega arith
 
 -- Drafts of definitions may be chained after a blob without a number.

@@ -12,6 +12,7 @@ use Rattle.pt_num.specs.Numbers.{fixed}
 use Rattle.nt_object.specs.Object.{Block, block_bytes, padding_begins, to_multiple_of_4, CanStand}
 use Rattle.nt_object.specs.Stream.{start_len, blocks_bytes, CanFollow}
 use Rattle.nt_write.specs.Trace.{body_begins, BlocksHold}
+use Rattle.nt_blocks.specs.declared.limits.TheConstants.{READ_BYTES}
 use Rattle.nt_blocks.specs.Bodies.{IsBody, stack_bytes, stack_body, stack_items, IsStackBody, thread_bytes, point_body, IsPointBody}
 use Rattle.ep_defs.specs.Entry.{PointEntry}
 use Rattle.nt_blocks.specs.Ordered.{kinds_of}
@@ -54,7 +55,7 @@ all-more P (y ∷ xs) x h p = (h.0, all-more P xs x h.1 p)
 pub record AreBlocks (blocks : List Block) (items : List Item) : Type 0 where
   pub follow : CanFollow start_len blocks
   pub hold : BlocksHold start_len blocks items
-  pub not_large : AllByRecursion (λ block. length block.body ≤ 16777216) blocks
+  pub not_large : AllByRecursion (λ block. length block.body ≤ READ_BYTES) blocks
 
 -- A stream can have no blocks.
 pub no_blocks : AreBlocks [] []
@@ -67,7 +68,7 @@ next_body kind blocks =
     padding_begins at kind + length {A = ℕ} (replicate (to_multiple_of_4 (padding_begins at kind)) 0)
 
 -- A block whose body holds some items is put at the end.
-pub block-more : (kind : BlockKind) (body : List ℕ) (blocks : List Block) (items more : List Item) → AreBlocks blocks items → length body ≤ 16777216 → IsBody kind (next_body kind blocks) more body → AreBlocks (with_block kind body blocks) (items ++ more)
+pub block-more : (kind : BlockKind) (body : List ℕ) (blocks : List Block) (items more : List Item) → AreBlocks blocks items → length body ≤ READ_BYTES → IsBody kind (next_body kind blocks) more body → AreBlocks (with_block kind body blocks) (items ++ more)
 unfolding next_body
 block-more kind body blocks items more h small is =
     let at : ℕ = start_len + length (blocks_bytes blocks) in
@@ -76,7 +77,7 @@ block-more kind body blocks items more h small is =
     record {
       follow = follow-more start_len blocks block h.follow stand;
       hold = hold-more start_len blocks items block more h.hold is;
-      not_large = all-more (λ block. length block.body ≤ 16777216) blocks block h.not_large small;
+      not_large = all-more (λ block. length block.body ≤ READ_BYTES) blocks block h.not_large small;
     }
 
 -- ---- points

@@ -1,5 +1,6 @@
 -- The bounds of the stacks since the last point.
 use Rattle.std.proofs.Common.{◌≡◌, ℕ, ◌+◌, ◌≤◌, List, [], ◌∷◌, ◌++◌, length, ap, sym, ◌∙◌, arith, length-append}
+use Rattle.nt_blocks.specs.declared.limits.TheConstants.{WRITTEN_BYTES}
 use Rattle.nt_blocks.specs.Bodies.{stack_body}
 use Rattle.nt_write.specs.Value.{AreBounded}
 use Rattle.nt_write.proofs.BlockSteps.{stack_body-len-none, stack-len-more}
@@ -30,7 +31,7 @@ bounded-settled known framed first size len old fresh h len-is empty =
     }
 
 -- One new stack more.
-pub bounded-more : (known : List (List ℕ)) (framed first size : ℕ) (old fresh : List (List ℕ)) (stack : List ℕ) → AreBounded known framed first old size → fresh ≡ old ++ stack ∷ [] → first + length old ≤ length known → length (stack_body first old) + (4 + length stack) ≤ 102400 → AreBounded known framed first fresh (size + (4 + length stack))
+pub bounded-more : (known : List (List ℕ)) (framed first size : ℕ) (old fresh : List (List ℕ)) (stack : List ℕ) → AreBounded known framed first old size → fresh ≡ old ++ stack ∷ [] → first + length old ≤ length known → length (stack_body first old) + (4 + length stack) ≤ WRITTEN_BYTES → AreBounded known framed first fresh (size + (4 + length stack))
 bounded-more known framed first size old fresh stack h is next room =
     let len : length fresh ≡ length old + 1 = ap (λ (ss : List (List ℕ)). length ss) is ∙ length-append old (stack ∷ []) in
     record {

@@ -12,6 +12,7 @@ use Rattle.ep_defs.specs.declared.event.TheConstants.{OBJECT_CODE}
 use Rattle.ep_defs.specs.Ranges.{AreBytes}
 use Rattle.pt_num.specs.Numbers.{fixed, short_groups, short_var}
 use Rattle.pt_num.specs.Texts.{units_bytes, text_z}
+use Rattle.nt_head.specs.declared.flags.TheConstants.{ACTIVITY, METADATA, RELATED, SEQUENCE, SIZE, SORTED, STACK, THREAD}
 use Rattle.nt_head.specs.declared.head.HeadState.{HeadState}
 use Rattle.nt_head.specs.Head.{HeadFields, flag, flag_byte, Sequence}
 use Rattle.nt_head.specs.Fewest.{fewest_fields, has_sequence, sequence_of, sequence_bytes, if_there, head_bytes}
@@ -116,7 +117,7 @@ low-flag worth false = omega arith
 
 low-flags : (fields : HeadFields) → flag_byte fields < 256
 low-flags fields =
-    omega (arith, low-flag 1 (is_some fields.metadata), low-flag 2 (is_some fields.sequence), low-flag 4 (is_some fields.thread), low-flag 8 (is_some fields.stack), low-flag 16 (is_some fields.activity), low-flag 32 (is_some fields.related), low-flag 64 fields.sorted, low-flag 128 (is_some fields.size))
+    omega (arith, low-flag METADATA (is_some fields.metadata), low-flag SEQUENCE (is_some fields.sequence), low-flag THREAD (is_some fields.thread), low-flag STACK (is_some fields.stack), low-flag ACTIVITY (is_some fields.activity), low-flag RELATED (is_some fields.related), low-flag SORTED fields.sorted, low-flag SIZE (is_some fields.size))
 
 -- A field that may be absent.
 low-there : {A : Type 0} (bytes_of : A → List ℕ) (set : Bool) (x : A) → AreLow (bytes_of x) → AreLow (if_there bytes_of (then_some set x))

@@ -4,6 +4,7 @@ use Rattle.std.proofs.lemmas.List.{length-drop, drop-append-le}
 use Rattle.std.proofs.lemmas.Bool.{ne_eqb, le-ltb, lt-ltb, cases_Bool, true≢false}
 use Rattle.std.specs.Prelude.{IsTrue, nat_lt, ◌&&◌, ◌||◌, if◌then◌else◌}
 use Rattle.std.specs.Option.{option_map}
+use Rattle.ep_defs.specs.declared.limits.TheConstants.{PAYLOAD_BYTES}
 use Rattle.ep_defs.specs.declared.event.EventDef.{EventDef}
 use Rattle.ep_defs.specs.Event.{is_same_event}
 use Rattle.ep_defs.specs.Entry.{EventEntry}
@@ -15,6 +16,7 @@ use Rattle.nt_blocks.specs.Making.{IsMaking}
 use Rattle.nt_blocks.specs.Value.{Making}
 use Rattle.nt_stacks.specs.declared.interner.Interned.{Interned}
 use Rattle.nt_stacks.specs.Stacks.{stack_id, with_stack}
+use Rattle.nt_write.specs.declared.limits.TheConstants.{STACK_BYTES}
 use Rattle.nt_write.specs.declared.pending.Pending.{Pending}
 use Rattle.nt_write.specs.declared.writer.EventOut.{EventOut}
 use Rattle.ep_defs.specs.Event.{is_valid_event}
@@ -178,15 +180,15 @@ can-define def valid fits = record { fits = fits-payload def valid fits; short =
 -- ---- what arrives
 
 -- What arrives is small where its parts are.
-pub small-arrival : (def : EventDef) (out : EventOut) (meta : Option (List ℕ)) (stack : Interned) → length out.payload.now ≤ 60000 → length out.frames.now ≤ 800 → ((payload : List ℕ) → meta ≡ Some payload → IsDefining def payload) → IsSmall (arrival_for out meta stack)
+pub small-arrival : (def : EventDef) (out : EventOut) (meta : Option (List ℕ)) (stack : Interned) → length out.payload.now ≤ PAYLOAD_BYTES → length out.frames.now ≤ STACK_BYTES → ((payload : List ℕ) → meta ≡ Some payload → IsDefining def payload) → IsSmall (arrival_for out meta stack)
 small-arrival def out meta stack payload frames defining =
     record { payload = payload; meta = of-meta meta defining; stack = of-stack stack.is_new (length out.frames.now) frames }
   where
-    of-meta : (m : Option (List ℕ)) → ((payload : List ℕ) → m ≡ Some payload → IsDefining def payload) → IsAtMost 60000 (option_map (λ bytes. length bytes) m)
+    of-meta : (m : Option (List ℕ)) → ((payload : List ℕ) → m ≡ Some payload → IsDefining def payload) → IsAtMost PAYLOAD_BYTES (option_map (λ bytes. length bytes) m)
     of-meta None h = tt
     of-meta (Some bytes) h = (h bytes refl).short
 
-    of-stack : (new : Bool) (n : ℕ) → n ≤ 800 → IsAtMost 800 (if new then Some n else None)
+    of-stack : (new : Bool) (n : ℕ) → n ≤ STACK_BYTES → IsAtMost STACK_BYTES (if new then Some n else None)
     of-stack true n h = h
     of-stack false n h = tt
 

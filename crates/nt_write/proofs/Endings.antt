@@ -1,4 +1,4 @@
--- Entries that end with a point leave no item behind it.
+-- Entries that end with a point leave no item after it.
 use Rattle.std.proofs.Common.{◌≡◌, ℕ, ◌^◌, ◌<◌, ◌≤◌, List, [], ◌∷◌, ◌++◌, length, Option, Some, None, refl, ap, sym, ◌∙◌, arith, subst, append_assoc}
 use Rattle.std.proofs.lemmas.List.{append-nil, drop_all}
 use Rattle.std.specs.Prelude.{unwrap_or}
@@ -18,7 +18,7 @@ abbrev pub AreEnded : List Entry → List ItemKind → Type 0
 AreEnded entries kinds =
     (front : List Entry) (point : PointEntry) → entries ≡ front ++ Point point ∷ [] → (before : List ItemKind) × (kinds ≡ before ++ item.Point point.stamp point.threads ∷ [])
 
--- The blocks tell the entries, and hold nothing behind a last point.
+-- The blocks tell the entries, and hold nothing after a last point.
 pub record AreWhole (blocks : List Block) (entries : List Entry) : Type 0 where
   pub names : Names
   pub all : AreTold blocks entries names
@@ -55,7 +55,7 @@ same-point p q e = cc
 point-flushed : (layout : Layout) (point : PointEntry) → (flushed (with_point layout point)).blocks ≡ (with_point layout point).blocks
 point-flushed layout point = rw (drop_all (length layout.definitions) layout.definitions (omega arith)) refl
 
--- One entry more is told, and nothing behind it where it is a point.
+-- One entry more is told, and nothing after it where it is a point.
 entry-whole : (layout : Layout) (entries : List Entry) (entry : Entry) → IsLaid layout entries → CanTell entry → length (with_entry layout entry).definitions < 2 ^ 31 → length (with_entry layout entry).stacks < 2 ^ 31 → AreWhole (flushed (with_entry layout entry)).blocks (entries ++ entry ∷ [])
 entry-whole layout entries (Event event) h can few few_stacks =
     let told = laid-told (with_entry layout (Event event)) (entries ++ Event event ∷ []) (laid-entry layout entries (Event event) h can few few_stacks) in

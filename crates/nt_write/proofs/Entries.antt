@@ -12,6 +12,7 @@ use Rattle.ep_defs.specs.Entry.{EventEntry, Entry, Event, Point}
 use Rattle.pt_io.specs.Taken.{IsPrefix}
 use Rattle.nt_object.specs.Stream.{stream_start, blocks_bytes}
 use Rattle.nt_stacks.specs.Stacks.{with_stack}
+use Rattle.nt_write.specs.declared.limits.TheConstants.{FRAMED_EVENTS}
 use Rattle.nt_write.specs.declared.fault.Fault.{Fault}
 use Rattle.nt_write.specs.declared.ids.IdTable.{IdTable}
 use Rattle.nt_write.specs.declared.output.Output.{Output}
@@ -74,14 +75,14 @@ one-definition layout (Point point) = omega arith
 fits-with : {S : Type 0} (tells : S → Bool) (taken : S → List ℕ) (before : List ℕ) (defs : ℕ → Option EventDef) (info : TraceInfo) (entries : List Entry) (entry : Entry) (writer : TraceWriter S) → IsWriting tells taken before defs info entries writer → StacksFit empty_layout (entries ++ entry ∷ [])
 fits-with tells taken before defs info entries entry writer h =
     let layout : Layout = with_entries empty_layout entries in
-    let known : length layout.stacks ≤ 2147483646 = subst (λ (ss : List (List ℕ)). length ss ≤ 2147483646) h.at.known (within (length writer.pending.stacks.known) writer.pending.stacks.framed h.at.few.few h.at.few.most) in
+    let known : length layout.stacks ≤ FRAMED_EVENTS = subst (λ (ss : List (List ℕ)). length ss ≤ FRAMED_EVENTS) h.at.known (within (length writer.pending.stacks.known) writer.pending.stacks.framed h.at.few.few h.at.few.most) in
     stacks_fit-more empty_layout entries entry h.stacks_fit
     (subst (λ (l : Layout). length l.stacks < 2 ^ 31) (sym (with_entries-more empty_layout entries entry)) (below (length layout.stacks) (length (with_entry layout entry).stacks) known (one-stack-more layout entry)))
   where
-    below : (n m : ℕ) → n ≤ 2147483646 → m ≤ n + 1 → m < 2 ^ 31
+    below : (n m : ℕ) → n ≤ FRAMED_EVENTS → m ≤ n + 1 → m < 2 ^ 31
     below n m h g = omega arith
 
-    within : (n m : ℕ) → n ≤ m → m ≤ 2147483646 → n ≤ 2147483646
+    within : (n m : ℕ) → n ≤ m → m ≤ FRAMED_EVENTS → n ≤ FRAMED_EVENTS
     within n m h g = omega arith
 
 -- Where a writer is does not depend on its fault.

@@ -1,14 +1,17 @@
 -- What a flush does to a layout, and to what a writer keeps of it.
 use Rattle.std.proofs.Common.{◌≡◌, ℕ, ◌+◌, ◌-◌, ◌≤◌, Bool, true, false, List, [], ◌++◌, length, Option, Some, refl, ap, sym, ◌∙◌, subst, arith}
 use Rattle.std.proofs.lemmas.List.{drop_all, length-drop}
+use Rattle.ep_defs.specs.declared.limits.TheConstants.{PAYLOAD_BYTES}
 use Rattle.pt_io.specs.Taken.{IsPrefix}
 use Rattle.nt_object.specs.declared.object.BlockKind.{BlockKind}
 use Rattle.nt_object.specs.declared.object.BlockKind.TheVariants as block
 use Rattle.nt_object.specs.Object.{Block}
 use Rattle.nt_object.specs.Stream.{blocks_bytes}
+use Rattle.nt_blocks.specs.declared.limits.TheConstants.{WRITTEN_BYTES}
 use Rattle.nt_blocks.specs.Bodies.{stack_body, point_body}
 use Rattle.nt_blocks.specs.Drafts.{Draft, meta_drafts, blob_body}
 use Rattle.nt_blocks.specs.Making.{IsMaking}
+use Rattle.nt_write.specs.declared.limits.TheConstants.{STACK_BYTES}
 use Rattle.nt_write.specs.declared.pending.Pending.{Pending}
 use Rattle.nt_write.specs.declared.pending.Arrival.{Arrival}
 use Rattle.nt_write.specs.Value.{StacksSeen}
@@ -115,17 +118,17 @@ pub emptied-room : (arrival : Arrival) (pending : Pending) → IsSmall arrival �
 emptied-room arrival pending small h =
     record {
       payload = blobs (length pending.events.bytes) arrival.payload (ap (λ (bytes : List ℕ). length bytes) h.events) small.payload;
-      meta = λ size is. blobs (length pending.metadata.bytes) size (ap (λ (bytes : List ℕ). length bytes) h.metadata) (at-most 60000 arrival.meta size small.meta is);
+      meta = λ size is. blobs (length pending.metadata.bytes) size (ap (λ (bytes : List ℕ). length bytes) h.metadata) (at-most PAYLOAD_BYTES arrival.meta size small.meta is);
       stack = λ size is.
           stacks (length (stack_body pending.stacks.first pending.stacks.fresh)) size
           (ap (λ (ss : List (List ℕ)). length (stack_body pending.stacks.first ss)) h.stacks ∙ stack_body-len-none pending.stacks.first)
-          (at-most 800 arrival.stack size small.stack is);
+          (at-most STACK_BYTES arrival.stack size small.stack is);
     }
   where
-    blobs : (n size : ℕ) → n ≡ 0 → size ≤ 60000 → 20 + n + 88 + size ≤ 102400
+    blobs : (n size : ℕ) → n ≡ 0 → size ≤ PAYLOAD_BYTES → 20 + n + 88 + size ≤ WRITTEN_BYTES
     blobs n size e h = omega arith
 
-    stacks : (n size : ℕ) → n ≡ 8 → size ≤ 800 → n + (4 + size) ≤ 102400
+    stacks : (n size : ℕ) → n ≡ 8 → size ≤ STACK_BYTES → n + (4 + size) ≤ WRITTEN_BYTES
     stacks n size e h = omega arith
 
 -- ---- points

@@ -1,7 +1,7 @@
 -- The ids of the definitions that were used, and the table that has them.
 use Rattle.std.proofs.Common.{◌≡◌, ◌≢◌, ℕ, zero, suc, ◌+◌, ◌<◌, Bool, true, false, cond, eqb, ◌⊎◌, inl, inr, List, [], ◌∷◌, ◌++◌, length, Option, Some, set, refl, ap, sym, ◌∙◌, arith, length-append}
 use Rattle.std.proofs.lemmas.List.{get_or-set_same, get_or-set_other}
-use Rattle.std.proofs.lemmas.Bool.{ne_eqb, cases_Bool}
+use Rattle.std.proofs.lemmas.Bool.{cases_Bool}
 use Rattle.std.proofs.lemmas.Bool.Decides.{eqb_tells}
 use Rattle.std.specs.Prelude.{slice_index, replicate, unwrap_or}
 use Rattle.std.specs.List.{position_from}
@@ -51,11 +51,6 @@ id-other definitions def other differs =
 pub with_new : (definitions : List EventDef) (def : EventDef) → id_in is_same_event def definitions ≡ 0 → with_member is_same_event definitions def ≡ definitions ++ def ∷ []
 with_new definitions def none =
     ap (λ (id : ℕ). cond (eqb id 0) (definitions ++ def ∷ []) definitions) none
-
--- The definitions with one that is known.
-pub with_known : (definitions : List EventDef) (def : EventDef) → id_in is_same_event def definitions ≢ 0 → with_member is_same_event definitions def ≡ definitions
-with_known definitions def known =
-    ap (λ (b : Bool). cond b (definitions ++ def ∷ []) definitions) (ne_eqb (id_in is_same_event def definitions) 0 known)
 
 -- The numbers of two definitions that are the same are one.
 same-number : (defs : ℕ → Option EventDef) (i j : ℕ) (a b : EventDef) → AreDistinct defs → defs i ≡ Some a → defs j ≡ Some b → i ≢ j → is_same_event a b ≡ false

@@ -15,6 +15,7 @@ use Rattle.nt_object.specs.declared.object.BlockKind.{BlockKind}
 use Rattle.nt_object.specs.declared.object.BlockKind.TheVariants as block
 use Rattle.nt_object.specs.Object.{Block, padded, padding_begins, to_multiple_of_4}
 use Rattle.nt_object.specs.Stream.{start_len, blocks_bytes}
+use Rattle.nt_blocks.specs.declared.limits.TheConstants.{WRITTEN_BYTES}
 use Rattle.nt_blocks.specs.Bodies.{stack_body, point_body}
 use Rattle.nt_blocks.specs.Drafts.{Draft, blob_body, meta_drafts}
 use Rattle.nt_stacks.specs.Stacks.{with_stack, stack_id}
@@ -61,7 +62,7 @@ said-more kind body blocks d s d2 s2 h small g =
 
 -- ---- a flush
 
-metas-said : (new : List EventDef) (blocks : List Block) (d s n : ℕ) → n ≡ d + length new → length (blob_body (meta_drafts (d + 1) new)) ≤ 102400 → AreSaid blocks d s → AreSaid (with_block_of block.Metadata (meta_drafts (d + 1) new) (blob_body (meta_drafts (d + 1) new)) blocks) n s
+metas-said : (new : List EventDef) (blocks : List Block) (d s n : ℕ) → n ≡ d + length new → length (blob_body (meta_drafts (d + 1) new)) ≤ WRITTEN_BYTES → AreSaid blocks d s → AreSaid (with_block_of block.Metadata (meta_drafts (d + 1) new) (blob_body (meta_drafts (d + 1) new)) blocks) n s
 metas-said [] blocks d s n e small h = subst (λ (k : ℕ). AreSaid blocks k s) (same d n e) h
   where
     same : (d n : ℕ) → n ≡ d + 0 → d ≡ n
@@ -69,7 +70,7 @@ metas-said [] blocks d s n e small h = subst (λ (k : ℕ). AreSaid blocks k s) 
 metas-said (def ∷ new) blocks d s n e small h =
     said-more block.Metadata (blob_body (meta_drafts (d + 1) (def ∷ new))) blocks d s n s h small (def ∷ new, omega arith, refl, e, refl)
 
-stacks-said : (new : List (List ℕ)) (blocks : List Block) (d s n : ℕ) → n ≡ s + length new → length (stack_body (s + 1) new) ≤ 102400 → AreSaid blocks d s → AreSaid (with_block_of block.Stack new (stack_body (s + 1) new) blocks) d n
+stacks-said : (new : List (List ℕ)) (blocks : List Block) (d s n : ℕ) → n ≡ s + length new → length (stack_body (s + 1) new) ≤ WRITTEN_BYTES → AreSaid blocks d s → AreSaid (with_block_of block.Stack new (stack_body (s + 1) new) blocks) d n
 stacks-said [] blocks d s n e small h = subst (λ (k : ℕ). AreSaid blocks d k) (same s n e) h
   where
     same : (s n : ℕ) → n ≡ s + 0 → s ≡ n
@@ -77,7 +78,7 @@ stacks-said [] blocks d s n e small h = subst (λ (k : ℕ). AreSaid blocks d k)
 stacks-said (stack ∷ new) blocks d s n e small h =
     said-more block.Stack (stack_body (s + 1) (stack ∷ new)) blocks d s d n h small (stack ∷ new, omega arith, refl, refl, e)
 
-events-said : (events : List Draft) (blocks : List Block) (d s : ℕ) → AllByRecursion (IsPlainDraft d s) events → length (blob_body events) ≤ 102400 → AreSaid blocks d s → AreSaid (with_block_of block.Event events (blob_body events) blocks) d s
+events-said : (events : List Draft) (blocks : List Block) (d s : ℕ) → AllByRecursion (IsPlainDraft d s) events → length (blob_body events) ≤ WRITTEN_BYTES → AreSaid blocks d s → AreSaid (with_block_of block.Event events (blob_body events) blocks) d s
 events-said [] blocks d s plain small h = h
 events-said (draft ∷ events) blocks d s plain small h =
     said-more block.Event (blob_body (draft ∷ events)) blocks d s d s h small (draft ∷ events, omega arith, plain, refl, refl, refl)
@@ -95,9 +96,9 @@ left flushed all rest h e = omega arith
 
 -- The bodies in the making are small.
 record AreRoomy (layout : Layout) : Type 0 where
-  events : length (blob_body layout.events) ≤ 102400
-  metas : length (blob_body (new_metas layout)) ≤ 102400
-  stacks : length (new_stack_body layout) ≤ 102400
+  events : length (blob_body layout.events) ≤ WRITTEN_BYTES
+  metas : length (blob_body (new_metas layout)) ≤ WRITTEN_BYTES
+  stacks : length (new_stack_body layout) ≤ WRITTEN_BYTES
 
 -- They are wherever entries were laid out.
 laid-roomy : (layout : Layout) (entries : List Entry) → IsLaid layout entries → AreRoomy layout
@@ -106,8 +107,8 @@ laid-roomy layout entries h =
     subst (λ (l : Layout). AreRoomy l) (sym h.is)
     (record {
       events = h.sound.small.events;
-      metas = subst (λ (new : List EventDef). length (blob_body (meta_drafts (length p.old_definitions + 1) new)) ≤ 102400) (sym (drop_at p.old_definitions p.new_definitions (length p.old_definitions) refl)) h.sound.small.metas;
-      stacks = subst (λ (new : List (List ℕ)). length (stack_body (length p.old_stacks + 1) new) ≤ 102400) (sym (drop_at p.old_stacks p.new_stacks (length p.old_stacks) refl)) h.sound.small.stacks;
+      metas = subst (λ (new : List EventDef). length (blob_body (meta_drafts (length p.old_definitions + 1) new)) ≤ WRITTEN_BYTES) (sym (drop_at p.old_definitions p.new_definitions (length p.old_definitions) refl)) h.sound.small.metas;
+      stacks = subst (λ (new : List (List ℕ)). length (stack_body (length p.old_stacks + 1) new) ≤ WRITTEN_BYTES) (sym (drop_at p.old_stacks p.new_stacks (length p.old_stacks) refl)) h.sound.small.stacks;
     })
 
 said-flushed : (layout : Layout) → IsSaid layout → AreRoomy layout → IsSaid (flushed layout)

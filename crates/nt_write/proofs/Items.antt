@@ -57,10 +57,6 @@ blocks-no-trace at (block ∷ blocks) items h =
     (body-no-trace block.kind (body_begins at block) h.0 block.body h.2)
     (blocks-no-trace (at + length (block_bytes block)) blocks h.1 h.3)))
 
--- The first item of a stream is that of the Trace object.
-pub one_trace : (info : TraceInfo) (items : List Item) (bytes : List ℕ) → (h : IsTrace info items bytes) → kinds_of items ≡ item.Trace info ∷ kinds_of h.others
-one_trace info items bytes h = ap (λ (is : List Item). kinds_of is) h.hold
-
 -- No other item is.
 pub no_other_trace : (info : TraceInfo) (items : List Item) (bytes : List ℕ) → (h : IsTrace info items bytes) → HaveNoTrace (kinds_of h.others)
 no_other_trace info items bytes h = blocks-no-trace start_len h.blocks h.others h.bodies

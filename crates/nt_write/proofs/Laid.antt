@@ -4,11 +4,13 @@ use Rattle.std.proofs.lemmas.List.{append-nil, map-append, drop_at, drop_all}
 use Rattle.std.proofs.lemmas.Bool.{or_parts, ltb-false, lt-ltb, eq-eqb, false≢true, cases_Bool}
 use Rattle.std.specs.Prelude.{map, ◌||◌, ◌&&◌, nat_lt}
 use Rattle.std.specs.List.{AllByRecursion}
+use Rattle.ep_defs.specs.declared.limits.TheConstants.{PAYLOAD_BYTES}
 use Rattle.ep_defs.specs.declared.event.EventDef.{EventDef}
 use Rattle.ep_defs.specs.Event.{is_same_text, is_same_event}
 use Rattle.nt_object.specs.declared.object.BlockKind.TheVariants as block
 use Rattle.nt_object.specs.Object.{Block}
 use Rattle.nt_meta.specs.Meta.{meta_payload}
+use Rattle.nt_blocks.specs.declared.limits.TheConstants.{WRITTEN_BYTES}
 use Rattle.nt_blocks.specs.Bodies.{stack_body, point_body}
 use Rattle.ep_defs.specs.Entry.{EventEntry, PointEntry, Entry, Event, Point}
 use Rattle.nt_blocks.specs.Ordered.{Names}
@@ -57,9 +59,9 @@ layout_of p =
 
 -- The bodies in the making have room left.
 pub record AreSmall (p : Parts) : Type 0 where
-  pub events : length (blob_body (map draft_of p.pending)) ≤ 102400
-  pub metas : length (blob_body (meta_drafts (length p.old_definitions + 1) p.new_definitions)) ≤ 102400
-  pub stacks : length (stack_body (length p.old_stacks + 1) p.new_stacks) ≤ 102400
+  pub events : length (blob_body (map draft_of p.pending)) ≤ WRITTEN_BYTES
+  pub metas : length (blob_body (meta_drafts (length p.old_definitions + 1) p.new_definitions)) ≤ WRITTEN_BYTES
+  pub stacks : length (stack_body (length p.old_stacks + 1) p.new_stacks) ≤ WRITTEN_BYTES
 
 -- What is flushed tells these entries up to those that are not.
 pub record IsSound (p : Parts) (entries : List Entry) : Type 0 where
@@ -139,9 +141,9 @@ flushed-sound p entries h =
 
 -- The bodies in the making have room for the event.
 record HasRoom (layout : Layout) (event : EventEntry) : Type 0 where
-  pub events : length (blob_body layout.events) + (88 + length event.payload) ≤ 102400
-  pub metas : id_in is_same_event event.def layout.definitions ≡ 0 → length (blob_body (new_metas layout)) + (88 + length (meta_payload (length layout.definitions + 1) event.def)) ≤ 102400
-  pub stacks : length layout.stacks < length (with_stack layout.stacks event.stack) → length (new_stack_body layout) + (4 + length event.stack) ≤ 102400
+  pub events : length (blob_body layout.events) + (88 + length event.payload) ≤ WRITTEN_BYTES
+  pub metas : id_in is_same_event event.def layout.definitions ≡ 0 → length (blob_body (new_metas layout)) + (88 + length (meta_payload (length layout.definitions + 1) event.def)) ≤ WRITTEN_BYTES
+  pub stacks : length layout.stacks < length (with_stack layout.stacks event.stack) → length (new_stack_body layout) + (4 + length event.stack) ≤ WRITTEN_BYTES
 
 -- Where both do not hold and one does, the other does not.
 both-false : (a b : Bool) → (a && b) ≡ false → a ≡ true → b ≡ false
@@ -149,8 +151,8 @@ both-false true b e h = e
 both-false false b e h = absurd (false≢true h)
 
 -- A body that does not pass the limit is within it.
-passes-false : (body : List ℕ) (more : ℕ) → passes body more ≡ false → length body + more ≤ 102400
-passes-false body more h = ltb-false 102400 (length body + more) h
+passes-false : (body : List ℕ) (more : ℕ) → passes body more ≡ false → length body + more ≤ WRITTEN_BYTES
+passes-false body more h = ltb-false WRITTEN_BYTES (length body + more) h
 
 -- Where no flush is needed there is room.
 room-by-test : (layout : Layout) (event : EventEntry) → needs_flush layout event ≡ false → HasRoom layout event
@@ -177,10 +179,10 @@ room-after-flush layout event h = record {
   stacks = λ lt. rw (drop_all (length layout.stacks) layout.stacks (omega arith)) (room (length (stack_body (length layout.stacks + 1) [])) (stack_body-len-none (length layout.stacks + 1)));
 }
   where
-    whole : (body n : ℕ) → body ≡ 20 → n ≤ 60000 → body + (88 + n) ≤ 102400
+    whole : (body n : ℕ) → body ≡ 20 → n ≤ PAYLOAD_BYTES → body + (88 + n) ≤ WRITTEN_BYTES
     whole body n e le = omega arith
 
-    room : (body : ℕ) → body ≡ 8 → body + (4 + length event.stack) ≤ 102400
+    room : (body : ℕ) → body ≡ 8 → body + (4 + length event.stack) ≤ WRITTEN_BYTES
     room body e = omega (arith, h.stack.short)
 
 -- ---- a definition and a stack more
@@ -192,11 +194,11 @@ record DefinitionsGrown (old new : List EventDef) (def : EventDef) : Type 0 wher
   pub list : with_member is_same_event (old ++ new) def ≡ old ++ now
   pub grown : old ++ now ≡ old ++ new ++ more
   pub can : AllByRecursion CanDefine now
-  pub small : length (blob_body (meta_drafts (length old + 1) now)) ≤ 102400
+  pub small : length (blob_body (meta_drafts (length old + 1) now)) ≤ WRITTEN_BYTES
   pub numbered : IsNumbered (old ++ now) (id_in is_same_event def (old ++ now)) def
 
 -- An event's definition is new and has room, or is there already.
-definitions-grown : (old new : List EventDef) (def : EventDef) → CanDefine def → AllByRecursion CanDefine new → length (blob_body (meta_drafts (length old + 1) new)) ≤ 102400 → (id_in is_same_event def (old ++ new) ≡ 0 → length (blob_body (meta_drafts (length old + 1) new)) + (88 + length (meta_payload (length (old ++ new) + 1) def)) ≤ 102400) → DefinitionsGrown old new def
+definitions-grown : (old new : List EventDef) (def : EventDef) → CanDefine def → AllByRecursion CanDefine new → length (blob_body (meta_drafts (length old + 1) new)) ≤ WRITTEN_BYTES → (id_in is_same_event def (old ++ new) ≡ 0 → length (blob_body (meta_drafts (length old + 1) new)) + (88 + length (meta_payload (length (old ++ new) + 1) def)) ≤ WRITTEN_BYTES) → DefinitionsGrown old new def
 definitions-grown old new def can all small room =
     let m = members is_same_event event_sameness (old ++ new) def in
     elim m.list [
@@ -215,7 +217,7 @@ definitions-grown old new def can all small room =
     same_id : (a b c : ℕ) → c ≡ a + b → a + 1 + b ≡ c + 1
     same_id a b c e = omega arith
 
-    within : (a b n : ℕ) → a ≤ b + n → b + n ≤ 102400 → a ≤ 102400
+    within : (a b n : ℕ) → a ≤ b + n → b + n ≤ WRITTEN_BYTES → a ≤ WRITTEN_BYTES
     within a b n h g = omega arith
 
     grown-by : Members is_same_event (old ++ new) def → (id_in is_same_event def (old ++ new) ≡ 0) × (with_member is_same_event (old ++ new) def ≡ (old ++ new) ++ def ∷ []) → DefinitionsGrown old new def
@@ -230,9 +232,9 @@ definitions-grown old new def can all small room =
           list = list;
           grown = sym (append_assoc old new (def ∷ []));
           can = all-more CanDefine new def all can;
-          small = subst (λ (ds : List Draft). length (blob_body ds) ≤ 102400) (sym (meta_drafts-more (length old + 1) new def))
+          small = subst (λ (ds : List Draft). length (blob_body ds) ≤ WRITTEN_BYTES) (sym (meta_drafts-more (length old + 1) new def))
               (within (length (blob_body (meta_drafts (length old + 1) new ++ meta_draft id def ∷ []))) (length (blob_body (meta_drafts (length old + 1) new))) (88 + length (meta_payload id def)) longer
-              (subst (λ (n : ℕ). length (blob_body (meta_drafts (length old + 1) new)) + (88 + length (meta_payload n def)) ≤ 102400) (sym id-is) (room e.0)));
+              (subst (λ (n : ℕ). length (blob_body (meta_drafts (length old + 1) new)) + (88 + length (meta_payload n def)) ≤ WRITTEN_BYTES) (sym id-is) (room e.0)));
           numbered = subst (λ (ds : List EventDef). IsNumbered ds (id_in is_same_event def ds) def) list m.numbered;
         }
 
@@ -243,7 +245,7 @@ record StacksGrown (old new : List (List ℕ)) (stack : List ℕ) : Type 0 where
   pub list : with_stack (old ++ new) stack ≡ old ++ now
   pub grown : old ++ now ≡ old ++ new ++ more
   pub short : AllByRecursion IsStack now
-  pub small : length (stack_body (length old + 1) now) ≤ 102400
+  pub small : length (stack_body (length old + 1) now) ≤ WRITTEN_BYTES
   pub stacked : IsStacked (old ++ now) (stack_id (old ++ now) stack) stack
 
 -- A stack under its number.
@@ -255,7 +257,7 @@ stacked-by stacks zero stack h = absurd (nothing h.some)
 stacked-by stacks (suc id) stack h = record { few = h.few; found = λ definitions. h.found }
 
 -- An event's stack is empty, new with room, or there already.
-stacks-grown : (old new : List (List ℕ)) (stack : List ℕ) → IsStack stack → AllByRecursion IsStack new → length (stack_body (length old + 1) new) ≤ 102400 → (length (old ++ new) < length (with_stack (old ++ new) stack) → length (stack_body (length old + 1) new) + (4 + length stack) ≤ 102400) → StacksGrown old new stack
+stacks-grown : (old new : List (List ℕ)) (stack : List ℕ) → IsStack stack → AllByRecursion IsStack new → length (stack_body (length old + 1) new) ≤ WRITTEN_BYTES → (length (old ++ new) < length (with_stack (old ++ new) stack) → length (stack_body (length old + 1) new) + (4 + length stack) ≤ WRITTEN_BYTES) → StacksGrown old new stack
 stacks-grown old new [] short all small room = record {
   now = new;
   more = [];
@@ -283,7 +285,7 @@ stacks-grown old new (b ∷ bytes) short all small room =
     longer : (n m : ℕ) → m ≡ n + 1 → n < m
     longer n m e = omega arith
 
-    within : (a b n : ℕ) → a ≡ b + n → b + n ≤ 102400 → a ≤ 102400
+    within : (a b n : ℕ) → a ≡ b + n → b + n ≤ WRITTEN_BYTES → a ≤ WRITTEN_BYTES
     within a b n h g = omega arith
 
     grown-by : Members is_same_text (old ++ new) (b ∷ bytes) → (id_in is_same_text (b ∷ bytes) (old ++ new) ≡ 0) × (with_member is_same_text (old ++ new) (b ∷ bytes) ≡ (old ++ new) ++ (b ∷ bytes) ∷ []) → StacksGrown old new (b ∷ bytes)
@@ -372,7 +374,7 @@ grown-is p event d s =
     with_last ∙ ap (λ (es : List Draft). record (layout_of (grown_parts p event d s)) { events = es }) (sym (map-append draft_of p.pending (grown_pending p event d s ∷ [])))
 
 -- With the event, the entries are told up to what waits.
-grown-sound : (p : Parts) (entries : List Entry) (event : EventEntry) (d : DefinitionsGrown p.old_definitions p.new_definitions event.def) (s : StacksGrown p.old_stacks p.new_stacks event.stack) → IsSound p entries → CanWrite event → length (blob_body (map draft_of p.pending)) + (88 + length event.payload) ≤ 102400 → length (p.old_definitions ++ d.now) < 2 ^ 31 → length (p.old_stacks ++ s.now) < 2 ^ 31 → IsSound (grown_parts p event d s) (entries ++ Event event ∷ [])
+grown-sound : (p : Parts) (entries : List Entry) (event : EventEntry) (d : DefinitionsGrown p.old_definitions p.new_definitions event.def) (s : StacksGrown p.old_stacks p.new_stacks event.stack) → IsSound p entries → CanWrite event → length (blob_body (map draft_of p.pending)) + (88 + length event.payload) ≤ WRITTEN_BYTES → length (p.old_definitions ++ d.now) < 2 ^ 31 → length (p.old_stacks ++ s.now) < 2 ^ 31 → IsSound (grown_parts p event d s) (entries ++ Event event ∷ [])
 grown-sound p entries event d s h can room few few_stacks =
     let definitions : List EventDef = p.old_definitions ++ d.now in
     let stacks : List (List ℕ) = p.old_stacks ++ s.now in
@@ -399,7 +401,7 @@ grown-sound p entries event d s h can room few few_stacks =
       };
     }
   where
-    within : (a b n : ℕ) → a ≤ b + n → b + n ≤ 102400 → a ≤ 102400
+    within : (a b n : ℕ) → a ≤ b + n → b + n ≤ WRITTEN_BYTES → a ≤ WRITTEN_BYTES
     within a b n h g = omega arith
 
 -- An event for which there is room.
@@ -414,9 +416,9 @@ laid-event layout entries event h can room few few_stacks = laid-by h.parts h.so
         let metas = drop_at p.old_definitions p.new_definitions (length p.old_definitions) refl in
         let stacks = drop_at p.old_stacks p.new_stacks (length p.old_stacks) refl in
         let d : DefinitionsGrown p.old_definitions p.new_definitions event.def = definitions-grown p.old_definitions p.new_definitions event.def can.def sound.definitions sound.small.metas
-        (subst (λ (new : List EventDef). id_in is_same_event event.def (definitions_of p) ≡ 0 → length (blob_body (meta_drafts (length p.old_definitions + 1) new)) + (88 + length (meta_payload (length (definitions_of p) + 1) event.def)) ≤ 102400) metas room.metas) in
+        (subst (λ (new : List EventDef). id_in is_same_event event.def (definitions_of p) ≡ 0 → length (blob_body (meta_drafts (length p.old_definitions + 1) new)) + (88 + length (meta_payload (length (definitions_of p) + 1) event.def)) ≤ WRITTEN_BYTES) metas room.metas) in
         let s : StacksGrown p.old_stacks p.new_stacks event.stack = stacks-grown p.old_stacks p.new_stacks event.stack can.stack sound.stacks sound.small.stacks
-        (subst (λ (new : List (List ℕ)). length (stacks_of p) < length (with_stack (stacks_of p) event.stack) → length (stack_body (length p.old_stacks + 1) new) + (4 + length event.stack) ≤ 102400) stacks room.stacks) in
+        (subst (λ (new : List (List ℕ)). length (stacks_of p) < length (with_stack (stacks_of p) event.stack) → length (stack_body (length p.old_stacks + 1) new) + (4 + length event.stack) ≤ WRITTEN_BYTES) stacks room.stacks) in
         record {
           parts = grown_parts p event d s;
           is = ap (λ (l : Layout). with_event l event) is ∙ grown-is p event d s;

@@ -56,7 +56,7 @@ pub lookup-below : {A : Type 0} (id n : ℕ) (xs : List A) (names : List (ℕ ×
 lookup-below id n [] names h = refl
 lookup-below id n (x ∷ xs) names h = lookup-below id (n + 1) xs ((n, x) ∷ names) (omega arith) ∙ lookup-other id n x names (λ e. omega arith)
 
--- Earlier names have no id behind theirs.
+-- Earlier names have no id after theirs.
 pub lookup-above : {A : Type 0} (id n : ℕ) (xs : List A) (names : List (ℕ × A)) → n + length xs ≤ id → lookup id (named n xs names) ≡ lookup id names
 lookup-above id n [] names h = refl
 lookup-above id n (x ∷ xs) names h = lookup-above id (n + 1) xs ((n, x) ∷ names) (omega arith) ∙ lookup-other id n x names (λ e. omega arith)
@@ -188,7 +188,7 @@ members same s xs x = members-by same s xs x (position_from (λ y. same x y) 1 x
 
 -- ---- what bodies tell
 
--- No id behind the last one stands for anything.
+-- No id after the last one stands for anything.
 pub no_more : {A : Type 0} (n : ℕ) (xs : List A) → (id : ℕ) → n + length xs ≤ id → lookup id (named n xs []) ≡ None
 no_more n xs id h = lookup-above id n xs [] h
 

@@ -1,9 +1,7 @@
 -- A block more at the end of a stream.
 use Rattle.std.proofs.Common.{◌≡◌, ℕ, ◌+◌, ◌-◌, ◌%◌, Bool, List, [], ◌∷◌, ◌++◌, length, ap, sym, ◌∙◌, subst, arith, length-append}
-use Rattle.std.proofs.lemmas.List.{append-nil}
-use Rattle.std.proofs.lemmas.Grind.{flat_map-append}
 use Rattle.std.specs.Prelude.{replicate, IsTrue}
-use Rattle.std.specs.List.{flat_map}
+use Rattle.pt_num.proofs.Joined.{flat_map-push}
 use Rattle.pt_io.specs.Taken.{IsPrefix, TookPartOf}
 use Rattle.nt_object.specs.declared.object.BlockKind.{BlockKind}
 use Rattle.nt_write.specs.declared.output.Output.{Output}
@@ -14,14 +12,10 @@ use Rattle.nt_write.specs.Layout.{with_block, with_block_of}
 use Rattle.nt_write.specs.Writing.{HasWritten, TookAll, TookSome}
 use Rattle.nt_write.proofs.Prefixes.{prefix-same, took-more, took-part}
 
--- One piece more at the end.
-flat_map-one : {X A : Type 0} (f : X → List A) (xs : List X) (x : X) → flat_map f (xs ++ x ∷ []) ≡ flat_map f xs ++ f x
-flat_map-one f xs x = flat_map-append f xs (x ∷ []) ∙ ap (λ y. flat_map f xs ++ y) (append-nil (f x))
-
 -- The bytes of a block more.
 pub with_block-bytes : (kind : BlockKind) (body : List ℕ) (blocks : List Block) → blocks_bytes (with_block kind body blocks) ≡ blocks_bytes blocks ++ block_bytes (padded (start_len + length (blocks_bytes blocks)) kind body)
 with_block-bytes kind body blocks =
-    flat_map-one block_bytes blocks (padded (start_len + length (blocks_bytes blocks)) kind body)
+    flat_map-push block_bytes blocks (padded (start_len + length (blocks_bytes blocks)) kind body)
 
 -- A remainder may be taken before a sum.
 remainder-first : (at k : ℕ) → (at % 4 + 3 + 12 + k + 1 + 4) % 4 ≡ (at + 3 + 12 + k + 1 + 4) % 4

@@ -12,6 +12,7 @@ use Rattle.nt_object.specs.declared.object.BlockKind.{BlockKind}
 use Rattle.nt_object.specs.declared.object.BlockKind.TheVariants as block
 use Rattle.nt_head.specs.Head.{zero_state}
 use Rattle.nt_object.specs.Object.{Block}
+use Rattle.nt_blocks.specs.declared.limits.TheConstants.{READ_BYTES, WRITTEN_BYTES}
 use Rattle.nt_blocks.specs.Bodies.{HoldsEvent, HoldsMeta, IsBody, stack_body, stack_items, point_body}
 use Rattle.ep_defs.specs.Entry.{EventEntry, PointEntry, Entry, Event, Point}
 use Rattle.nt_blocks.specs.Ordered.{Names, no_names, stack_of, kinds_of}
@@ -33,7 +34,7 @@ pub record AreTold (blocks : List Block) (told : List Entry) (names : Names) : T
   pub plain : ArePlain (kinds_of items)
 
 -- A block more tells what its items tell.
-pub block-told : (kind : BlockKind) (body : List ℕ) (blocks : List Block) (told more_told : List Entry) (names left : Names) (more : List Item) (kinds : List ItemKind) → AreTold blocks told names → length body ≤ 16777216 → IsBody kind (next_body kind blocks) more body → kinds_of more ≡ kinds → Tells names kinds more_told left → ArePlain kinds → AreTold (with_block kind body blocks) (told ++ more_told) left
+pub block-told : (kind : BlockKind) (body : List ℕ) (blocks : List Block) (told more_told : List Entry) (names left : Names) (more : List Item) (kinds : List ItemKind) → AreTold blocks told names → length body ≤ READ_BYTES → IsBody kind (next_body kind blocks) more body → kinds_of more ≡ kinds → Tells names kinds more_told left → ArePlain kinds → AreTold (with_block kind body blocks) (told ++ more_told) left
 block-told kind body blocks told more_told names left more kinds h small is e tells plain = record {
   items = h.items ++ more;
   are = block-more kind body blocks h.items more h.are small is;
@@ -54,7 +55,7 @@ named-next : {A : Type 0} (old new : List A) → named 1 (old ++ new) [] ≡ nam
 named-next old new = named-append 1 old new [] ∙ ap (λ (n : ℕ). named n new (named 1 old [])) (sym (one_more (length old)))
 
 -- A block of the new definitions, where there are any, names them.
-pub metas-told : (old new : List EventDef) (stacks : List (ℕ × List ℕ)) (blocks : List Block) (told : List Entry) → AreTold blocks told (record { definitions = named 1 old []; stacks = stacks }) → AllByRecursion CanDefine new → length (old ++ new) < 2 ^ 31 → length (blob_body (meta_drafts (length old + 1) new)) ≤ 102400 → AreTold (with_block_of block.Metadata (meta_drafts (length old + 1) new) (blob_body (meta_drafts (length old + 1) new)) blocks) told (record { definitions = named 1 (old ++ new) []; stacks = stacks })
+pub metas-told : (old new : List EventDef) (stacks : List (ℕ × List ℕ)) (blocks : List Block) (told : List Entry) → AreTold blocks told (record { definitions = named 1 old []; stacks = stacks }) → AllByRecursion CanDefine new → length (old ++ new) < 2 ^ 31 → length (blob_body (meta_drafts (length old + 1) new)) ≤ WRITTEN_BYTES → AreTold (with_block_of block.Metadata (meta_drafts (length old + 1) new) (blob_body (meta_drafts (length old + 1) new)) blocks) told (record { definitions = named 1 (old ++ new) []; stacks = stacks })
 metas-told old [] stacks blocks told h can few fits =
     subst (λ (defs : List EventDef). AreTold blocks told (record { definitions = named 1 defs []; stacks = stacks })) (sym (append-nil old)) h
 metas-told old (def ∷ new) stacks blocks told h can few fits =
@@ -75,7 +76,7 @@ metas-told old (def ∷ new) stacks blocks told h can few fits =
 -- ---- stacks
 
 -- A block of the new stacks, where there are any, names them.
-pub stacks-told : (old new : List (List ℕ)) (definitions : List (ℕ × EventDef)) (blocks : List Block) (told : List Entry) → AreTold blocks told (record { definitions = definitions; stacks = named 1 old [] }) → AllByRecursion IsStack new → length (old ++ new) < 2 ^ 31 → length (stack_body (length old + 1) new) ≤ 102400 → AreTold (with_block_of block.Stack new (stack_body (length old + 1) new) blocks) told (record { definitions = definitions; stacks = named 1 (old ++ new) [] })
+pub stacks-told : (old new : List (List ℕ)) (definitions : List (ℕ × EventDef)) (blocks : List Block) (told : List Entry) → AreTold blocks told (record { definitions = definitions; stacks = named 1 old [] }) → AllByRecursion IsStack new → length (old ++ new) < 2 ^ 31 → length (stack_body (length old + 1) new) ≤ WRITTEN_BYTES → AreTold (with_block_of block.Stack new (stack_body (length old + 1) new) blocks) told (record { definitions = definitions; stacks = named 1 (old ++ new) [] })
 stacks-told old [] definitions blocks told h can few fits =
     subst (λ (stacks : List (List ℕ)). AreTold blocks told (record { definitions = definitions; stacks = named 1 stacks [] })) (sym (append-nil old)) h
 stacks-told old (stack ∷ new) definitions blocks told h can few fits =
@@ -165,7 +166,7 @@ events-plain [] = tt
 events-plain (p ∷ ps) = (rw (eq-eqb p.event.thread p.event.thread refl) refl, events-plain ps)
 
 -- A block of the events that wait, where there are any, tells them.
-pub events-told : (definitions : List EventDef) (stacks : List (List ℕ)) (ps : List Pending) (blocks : List Block) (told : List Entry) → AreTold blocks told (record { definitions = named 1 definitions []; stacks = named 1 stacks [] }) → AllByRecursion (IsPending definitions stacks) ps → length definitions < 2 ^ 31 → length stacks < 2 ^ 31 → length (blob_body (map draft_of ps)) ≤ 102400 → AreTold (with_block_of block.Event (map draft_of ps) (blob_body (map draft_of ps)) blocks) (told ++ map entry_of ps) (record { definitions = named 1 definitions []; stacks = named 1 stacks [] })
+pub events-told : (definitions : List EventDef) (stacks : List (List ℕ)) (ps : List Pending) (blocks : List Block) (told : List Entry) → AreTold blocks told (record { definitions = named 1 definitions []; stacks = named 1 stacks [] }) → AllByRecursion (IsPending definitions stacks) ps → length definitions < 2 ^ 31 → length stacks < 2 ^ 31 → length (blob_body (map draft_of ps)) ≤ WRITTEN_BYTES → AreTold (with_block_of block.Event (map draft_of ps) (blob_body (map draft_of ps)) blocks) (told ++ map entry_of ps) (record { definitions = named 1 definitions []; stacks = named 1 stacks [] })
 events-told definitions stacks [] blocks told h pending few few_stacks fits =
     subst (λ (es : List Entry). AreTold blocks es (record { definitions = named 1 definitions []; stacks = named 1 stacks [] })) (sym (append-nil told)) h
 events-told definitions stacks (p ∷ ps) blocks told h pending few few_stacks fits =

@@ -17,7 +17,7 @@ use Rattle.nt_write.proofs.Items.{no_other_trace}
 use Rattle.nt_write.proofs.Laid.{laid-empty}
 use Rattle.nt_write.proofs.Endings.{AreWhole, all-whole, none-whole}
 
--- Blocks that tell the entries, with nothing behind a last point, make a stream that does.
+-- Blocks that tell the entries, with nothing after a last point, make a stream that does.
 canonical-by : (info : TraceInfo) (entries : List Entry) → IsTrue (is_info info) → AreWhole (flushed (with_entries empty_layout entries)).blocks entries → IsCanonical info entries (encoded info entries)
 canonical-by info entries fits whole =
     let h = whole.all in

@@ -44,7 +44,7 @@ pub record CanFlush (layout : Layout) : Type 0 where
 
 -- ---- room
 
--- A body would pass its limit by so many bytes more, if any come.
+-- A body would pass its limit by this many bytes more, if any come.
 abbrev pub passes_by : List ℕ → ℕ → Option ℕ → Bool
 passes_by body head None = false
 passes_by body head (Some size) = passes body (head + size)
@@ -54,7 +54,7 @@ abbrev pub IsAtMost : ℕ → Option ℕ → Type 0
 IsAtMost most None = Unit {0}
 IsAtMost most (Some size) = size ≤ most
 
--- A body of blobs has room for one more with so many bytes of payload.
+-- A body of blobs has room for one more with this many bytes of payload.
 abbrev pub HasRoomFor : ℕ → Making → Type 0
 HasRoomFor size making = HEADER_BYTES + length making.bytes + HEAD_BYTES + size ≤ WRITTEN_BYTES
 

@@ -31,6 +31,7 @@ pub record Layout : Type 0 where
   -- the events that are not flushed
   pub events : List Draft
 
+-- The layout before the first entry.
 abbrev pub empty_layout : Layout
 empty_layout =
     record { blocks = []; definitions = []; definitions_flushed = 0; stacks = []; stacks_flushed = 0; events = [] }
@@ -47,6 +48,7 @@ with_member same xs x = if id_in same x xs == 0 then xs ++ x ∷ [] else xs
 abbrev pub new_metas : Layout → List Draft
 new_metas layout = meta_drafts (layout.definitions_flushed + 1) (drop layout.definitions_flushed layout.definitions)
 
+-- The stacks that no block has yet.
 abbrev pub new_stacks : Layout → List (List ℕ)
 new_stacks layout = drop layout.stacks_flushed layout.stacks
 
@@ -76,7 +78,7 @@ flushed layout =
       events = [];
     }
 
--- A body would pass 102,400 bytes by so many more.
+-- A body would pass 102,400 bytes by this many more.
 abbrev pub passes : List ℕ → ℕ → Bool
 passes body more = nat_lt WRITTEN_BYTES (length body + more)
 
@@ -134,6 +136,7 @@ abbrev pub with_entry : Layout → Entry → Layout
 with_entry layout (Event event) = with_event (if needs_flush layout event then flushed layout else layout) event
 with_entry layout (Point point) = with_point layout point
 
+-- The layout once these entries were added, one after another.
 abbrev pub with_entries : Layout → List Entry → Layout
 with_entries layout [] = layout
 with_entries layout (entry ∷ entries) = with_entries (with_entry layout entry) entries

@@ -1,10 +1,12 @@
-pub mod Arriving
-pub mod Canonical
+-- to be believed
 pub mod Layout
-pub mod Trace
-pub mod Value
-pub mod Vectors
+pub mod Canonical
 pub mod Words
+pub mod Trace
 pub mod Writable
 pub mod Writer
+pub mod Value
+pub mod Vectors
+-- what private fields stand for, and what private functions make of them
+pub mod Arriving
 pub mod Writing

@@ -6,6 +6,7 @@ use Rattle.ep_defs.specs.declared.item.Item.{Item}
 use Rattle.ep_defs.specs.declared.item.ItemKind.TheVariants as item
 use Rattle.nt_object.specs.Object.{Block, block_bytes, padding_begins}
 use Rattle.nt_object.specs.Stream.{start_len, IsStream}
+use Rattle.nt_blocks.specs.declared.limits.TheConstants.{READ_BYTES}
 use Rattle.nt_blocks.specs.Bodies.{IsBody}
 
 -- Where the body of a block begins that stands at this offset.
@@ -21,7 +22,8 @@ BlocksHold at (block ∷ blocks) items =
     × BlocksHold (at + length (block_bytes block)) blocks rest
     × (items ≡ first ++ rest)
 
--- The Trace item is at the payload of the Trace object, after 32 bytes of head, three tags, three numbers, the name and a tag.
+-- The Trace item is at the payload of the Trace object, after 32 bytes of head, three tags, three numbers, the name and
+-- a tag.
 abbrev pub trace_item : TraceInfo → Item
 trace_item info = record { at = 32 + 3 + 12 + 5 + 1; kind = item.Trace info }
 
@@ -31,5 +33,5 @@ pub record IsTrace (info : TraceInfo) (items : List Item) (bytes : List ℕ) : T
   pub others : List Item
   pub stream : IsStream info blocks bytes
   pub bodies : BlocksHold start_len blocks others
-  pub not_large : AllByRecursion (λ block. length block.body ≤ 16777216) blocks
+  pub not_large : AllByRecursion (λ block. length block.body ≤ READ_BYTES) blocks
   pub hold : items ≡ trace_item info ∷ others

@@ -4,13 +4,15 @@ use Rattle.nt_blocks.specs.declared.limits.TheConstants.{WRITTEN_BYTES}
 use Rattle.nt_blocks.specs.Bodies.{stack_body}
 use Rattle.nt_write.specs.declared.limits.TheConstants.{FRAMED_EVENTS}
 
--- The stacks that have ids, in the order of their ids, and how many events had one; the id of the first that is not written yet, and those that are not.
+-- The stacks that have ids, in the order of their ids, and how many events had one; the id of the first that is not
+-- written yet, and those that are not.
 pub record StacksSeen : Type 0 where
   pub known : List (List ℕ)
   pub framed : ℕ
   pub first : ℕ
   pub fresh : List (List ℕ)
 
+-- No stack was seen.
 abbrev pub no_stacks : StacksSeen
 no_stacks = record { known = []; framed = 0; first = 1; fresh = [] }
 

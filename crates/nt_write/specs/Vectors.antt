@@ -1,4 +1,5 @@
--- Values and their bytes, worked out by hand from the NetTrace format document of PerfView (version 4) and this project's profile, for the laws of `src/vectors.rt`.
+-- Values and their bytes, worked out by hand from the NetTrace format document of PerfView (version 4) and this
+-- project's profile, for the laws of `src/vectors.rt`.
 use Rattle.std.specs.Prelude.{ℕ, ◌+◌, Bool, true, false, List, [], ◌∷◌, ◌++◌, map, filter, replicate}
 use Rattle.std.specs.List.{range_with_len}
 use Rattle.ep_defs.specs.declared.event.FieldDef.{FieldDef}
@@ -23,6 +24,7 @@ abbrev pub bare : ℕ → ℕ → ℕ → Entry
 bare thread number stamp =
     Event (record { thread = thread; number = number; stamp = stamp; def = event_e; activity = zero_id; related = zero_id; stack = []; payload = [] })
 
+-- A point that names these threads.
 abbrev pub point : ℕ → List (ℕ × ℕ) → Entry
 point stamp threads = Point (record { stamp = stamp; threads = threads })
 
@@ -74,6 +76,7 @@ one_written_bytes =
 
 -- ---- the bodies of blocks
 
+-- The kinds are the same.
 abbrev pub is_kind : BlockKind → BlockKind → Bool
 is_kind block.Event block.Event = true
 is_kind block.Metadata block.Metadata = true
@@ -145,6 +148,7 @@ first_of_thread_2 = record zero_state { metadata = 1; number = 1; capture = 2; t
 
 -- ---- nested fields
 
+-- A field with a name of one letter.
 abbrev pub field : ℕ → ℕ → ℕ → FieldDef
 field depth code letter = record { depth = depth; code = code; name = letter ∷ [] }
 
@@ -152,6 +156,7 @@ field depth code letter = record { depth = depth; code = code; name = letter ∷
 abbrev pub nested : EventDef
 nested = record event_e { fields = field 0 1 97 ∷ field 1 9 98 ∷ field 1 1 99 ∷ field 2 18 100 ∷ field 0 11 101 ∷ [] }
 
+-- Its payload, worked out by hand.
 abbrev pub nested_bytes : List ℕ
 nested_bytes =
     0x07 ∷ 0x00 ∷ 0x00 ∷ 0x00 ∷ 0x50 ∷ 0x00 ∷ 0x00 ∷ 0x00 ∷ 0x01 ∷ 0x00 ∷ 0x00 ∷ 0x00 ∷ 0x45 ∷ 0x00 ∷ 0x00 ∷ 0x00 ∷
@@ -163,7 +168,8 @@ nested_bytes =
 
 -- ---- what is read and never written
 
--- A body whose header has two bytes more than 20, with the event of `one_written`, whose definition's number stands in two bytes.
+-- A body whose header has two bytes more than 20, with the event of `one_written`, whose definition's number stands in
+-- two bytes.
 abbrev pub longer_header_bytes : List ℕ
 longer_header_bytes =
     0x16 ∷ 0x00 ∷ 0x01 ∷ 0x00 ∷ 0x64 ∷ 0x00 ∷ 0x00 ∷ 0x00 ∷ 0x00 ∷ 0x00 ∷ 0x00 ∷ 0x00 ∷ 0x64 ∷ 0x00 ∷ 0x00 ∷ 0x00 ∷

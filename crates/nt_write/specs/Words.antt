@@ -14,7 +14,8 @@ use Rattle.nt_blocks.specs.declared.limits.TheConstants.{WRITTEN_BYTES}
 use Rattle.nt_blocks.specs.Bodies.{stack_body, point_body}
 use Rattle.nt_blocks.specs.Drafts.{Draft, blob_body, meta_drafts}
 
--- An event names a definition and a stack that have ids by then, was written by its own thread, on processor 0, and does not count as sorted.
+-- An event names a definition and a stack that have ids by then, was written by its own thread, on processor 0, and
+-- does not count as sorted.
 pub record IsPlainDraft (definitions stacks : ℕ) (draft : Draft) : Type 0 where
   pub some : 0 < draft.state.metadata
   pub defined : draft.state.metadata ≤ definitions
@@ -24,8 +25,8 @@ pub record IsPlainDraft (definitions stacks : ℕ) (draft : Draft) : Type 0 wher
   pub unsorted : draft.state.sorted ≡ false
   pub size : draft.state.size ≡ length draft.payload
 
--- A body, where so many definitions have ids before it, and so many stacks since the last point, and so many after it. No body is empty.
--- New definitions and new stacks have the next ids. A point begins the ids of stacks anew.
+-- A body, where this many definitions have ids before it, and this many stacks since the last point, and this many
+-- after it. No body is empty. New definitions and new stacks have the next ids. A point begins the ids of stacks anew.
 abbrev pub GoesOn : BlockKind → List ℕ → ℕ → ℕ → ℕ → ℕ → Type 0
 GoesOn block.Metadata body definitions stacks all_definitions all_stacks =
     (new : List EventDef)
@@ -60,7 +61,7 @@ IsSmallBody block.Stack body = length body ≤ WRITTEN_BYTES
 IsSmallBody block.Event body = length body ≤ WRITTEN_BYTES
 IsSmallBody block.Point body = Unit {0}
 
--- Blocks one after another, with so many ids before and after them.
+-- Blocks one after another, with this many ids before and after them.
 abbrev pub GoOn : ℕ → ℕ → List Block → ℕ → ℕ → Type 0
 GoOn definitions stacks [] all_definitions all_stacks = (all_definitions ≡ definitions) × (all_stacks ≡ stacks)
 GoOn definitions stacks (block ∷ blocks) all_definitions all_stacks =
@@ -81,7 +82,8 @@ pub record AreInWords (info : TraceInfo) (bytes : List ℕ) : Type 0 where
   pub stacks : ℕ
   pub order : GoOn 0 0 blocks definitions stacks
 
--- A flag of a blob's header stands exactly where the value differs from the one before; that of the sequence where the number is not the next one, or where the thread or the processor differs.
+-- A flag of a blob's header stands exactly where the value differs from the one before; that of the sequence where the
+-- number is not the next one, or where the thread or the processor differs.
 pub record FlagsStand (before now : HeadState) : Type 0 where
   pub metadata : is_some (fewest_fields before now).metadata ≡ not (before.metadata == now.metadata)
   pub sequence : is_some (fewest_fields before now).sequence ≡ has_sequence before now

@@ -1,4 +1,5 @@
--- Which entries can be written: the format's ranges (the NetTrace format document of PerfView (version 4)), and the bounds of this project's profile.
+-- Which entries can be written: the format's ranges (the NetTrace format document of PerfView (version 4)), and the
+-- bounds of this project's profile.
 use Rattle.std.specs.Prelude.{◌≡◌, ℕ, ◌%◌, ◌^◌, ◌<◌, ◌≤◌, List, [], ◌∷◌, length, fold}
 use Rattle.std.specs.List.{AllByRecursion}
 use Rattle.ep_defs.specs.declared.limits.TheConstants.{FRAME_BYTES, PAYLOAD_BYTES}
@@ -34,16 +35,19 @@ pub record CanWrite (e : EventEntry) : Type 0 where
   pub payload : AreBytes e.payload
   pub def : CanDefine e.def
 
+-- A point can be written: its numbers fit, and it does not name too many threads.
 pub record CanPoint (p : PointEntry) : Type 0 where
   pub stamp : p.stamp < 2 ^ 64
   pub few : length p.threads ≤ POINT_THREADS
   pub fit : AllByRecursion (λ thread. (thread.0 < 2 ^ 64) × (thread.1 < 2 ^ 32)) p.threads
 
+-- An entry can be written.
 abbrev pub CanTell : Entry → Type 0
 CanTell (Event e) = CanWrite e
 CanTell (Point p) = CanPoint p
 
--- While these entries are laid out, the ids of the stacks since each point fit (the NetTrace format document of PerfView (version 4): signed numbers of 32 bits).
+-- While these entries are laid out, the ids of the stacks since each point fit (the NetTrace format document of
+-- PerfView (version 4): signed numbers of 32 bits).
 abbrev pub StacksFit : Layout → List Entry → Type 0
 StacksFit layout [] = Unit {0}
 StacksFit layout (entry ∷ entries) =

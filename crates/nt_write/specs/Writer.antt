@@ -15,9 +15,11 @@ use Rattle.nt_write.specs.Writable.{CanTell, StacksFit, framed}
 use Rattle.nt_write.specs.Writing.{IsAt}
 use Rattle.nt_write.specs.Canonical.{IsCanonical}
 
+-- The fault that the writer answered, if it did.
 abbrev pub fault_of : {S : Type 0} → TraceWriter S → Option Fault
 fault_of writer = writer.fault
 
+-- The sink of the writer.
 abbrev pub sink_of : {S : Type 0} → TraceWriter S → S
 sink_of writer = writer.output.sink
 
@@ -35,6 +37,7 @@ entry_of def out =
       payload = out.payload.now;
     }
 
+-- The entry of a point.
 abbrev pub point_of : ℕ → List (ℕ × ℕ) → PointEntry
 point_of stamp threads = record { stamp = stamp; threads = threads }
 

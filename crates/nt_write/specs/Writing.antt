@@ -40,18 +40,19 @@ pub record AreIds (defs : ℕ → Option EventDef) (definitions : List EventDef)
 
 -- ---- the sink
 
+-- The sink of the output.
 abbrev pub output_sink : {S : Type 0} → Output S → S
 output_sink output = output.sink
 
--- Behind what it had taken at the start, the sink took these bytes.
+-- After what it had taken at the start, the sink took these bytes.
 pub record TookAll {S : Type 0} (tells : S → Bool) (taken : S → List ℕ) (start bytes : List ℕ) (sink : S) : Type 0 where
   pub all : IsTrue (tells sink) → taken sink ≡ start ++ bytes
 
--- Behind what it had taken at the start, the sink took a part of these bytes, from the first one on.
+-- After what it had taken at the start, the sink took a part of these bytes, from the first one on.
 pub record TookSome {S : Type 0} (tells : S → Bool) (taken : S → List ℕ) (start bytes : List ℕ) (sink : S) : Type 0 where
   pub some : IsTrue (tells sink) → (part : List ℕ) × IsPrefix part bytes × (taken sink ≡ start ++ part)
 
--- Behind what the sink had taken at the start it took these blocks.
+-- After what the sink had taken at the start it took these blocks.
 pub record HasWritten {S : Type 0} (tells : S → Bool) (taken : S → List ℕ) (start : List ℕ) (blocks : List Block) (output : Output S) : Type 0 where
   pub took : TookAll tells taken start (blocks_bytes blocks) output.sink
   pub alignment : output.alignment ≡ (start_len + length (blocks_bytes blocks)) % 4
@@ -106,9 +107,11 @@ pub record KeepsStacks (old new : Pending) : Type 0 where
 
 -- ---- the writer
 
+-- The ids of definitions that the writer gave.
 abbrev pub ids_of : {S : Type 0} → TraceWriter S → IdTable
 ids_of writer = writer.ids
 
+-- What the writer has not flushed.
 abbrev pub pending_of : {S : Type 0} → TraceWriter S → Pending
 pending_of writer = writer.pending
 

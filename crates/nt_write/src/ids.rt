@@ -16,9 +16,9 @@ pub struct IdTable {
     table: Vec<u32>,
     // How many ids were given.
     used: u32,
-    ghost places: { length table.items ≡ 1002 },
+    ghost places: { length table.items ≡ LAST_EVENT + 1 },
     // Each id that is given takes a free place.
-    ghost few: { used + count_by (λ id. id == 0) table.items ≤ 1002 },
+    ghost few: { used + count_by (λ id. id == 0) table.items ≤ LAST_EVENT + 1 },
 }
 
 impl IdTable {
@@ -47,7 +47,8 @@ impl IdTable {
     pub fn next(&self) -> u32
         ensures positive { 0 < result }
         ensures small { result ≤ LAST_ID }
-        ensures next { (defs : ℕ → Option EventDef) (definitions : List EventDef) → AreIds defs definitions self.now → result ≡ length definitions + 1 }
+        ensures next { (defs : ℕ → Option EventDef) (definitions : List EventDef)
+            → AreIds defs definitions self.now → result ≡ length definitions + 1 }
     {
         self.used + 1
     }
@@ -57,7 +58,8 @@ impl IdTable {
         requires number { number ≤ LAST_EVENT }
         requires free { id_at self.old number ≡ 0 }
         ensures positive { 0 < result }
-        ensures next { (defs : ℕ → Option EventDef) (definitions : List EventDef) → AreIds defs definitions self.old → result ≡ length definitions + 1 }
+        ensures next { (defs : ℕ → Option EventDef) (definitions : List EventDef)
+            → AreIds defs definitions self.old → result ≡ length definitions + 1 }
         ensures given { (defs : ℕ → Option EventDef) (definitions : List EventDef) (def : EventDef)
             → AreIds defs definitions self.old → AreDistinct defs → defs number ≡ Some def
             → AreIds defs (definitions ++ def ∷ []) self.new }

@@ -1,10 +1,10 @@
 //! NetTrace streams, version 4: the writer of a stream.
 //!
 //! `writer` takes events and points, `stacks` and `pending` keep what is not written yet, `output` writes blocks, and
-//! `ids` has the ids of definitions; `laws` and `vectors` have what holds of the definitions alone, `limits` the bounds.
-//! It stands on nt_object, nt_head, nt_meta and nt_blocks, for the parts of the format, on nt_stacks, for the ids of
-//! stacks, on pt_io, for the sink, and on ep_defs. Which stream is written for which entries is in `specs/Layout` and
-//! `specs/Canonical`.
+//! `ids` has the ids of definitions; `laws` and `vectors` have what holds of the definitions alone, `limits` the
+//! bounds. It stands on nt_object, nt_head, nt_meta and nt_blocks, for the parts of the format, on nt_stacks, for the
+//! ids of stacks, on pt_io, for the sink, and on ep_defs. Which stream is written for which entries is in
+//! `specs/Layout` and `specs/Canonical`.
 //!
 //! Its one contract: what the sink of a `TraceWriter` took is the canonical stream of the entries of its calls.
 #![tactic(auto)]

@@ -3,8 +3,8 @@
 /// The greatest number of a definition: those of a schedule, and one more.
 pub const LAST_EVENT: u32 = 1_001;
 
-/// The events with frames between two points: each may have a stack of its own, and ids are signed numbers of 32 bits in
-/// the NetTrace format.
+/// The events with frames between two points: each may have a stack of its own, and ids are signed numbers of 32 bits
+/// in the NetTrace format.
 pub const FRAMED_EVENTS: u32 = 2_147_483_646;
 
 /// The bytes of a stack body before its first stack.

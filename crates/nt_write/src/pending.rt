@@ -61,7 +61,8 @@ impl Pending {
     /// Whether a body has no room for what arrives.
     pub fn lacks_room(&self, arrival: &Arrival) -> bool
         requires { IsSmall arrival.now }
-        ensures lacks { (layout : Layout) → IsPending layout self.now → result ≡ lacks_room layout arrival.now }
+        ensures lacks { (layout : Layout) → IsPending layout self.now
+            → result ≡ lacks_room layout arrival.now }
         ensures room { result ≡ false → HasRoom arrival.now self.now }
     {
         !self.events.fits(HEAD_BYTES + arrival.payload)
@@ -75,7 +76,8 @@ impl Pending {
         requires room { HasRoomFor (length payload.now) self.old.metadata }
         ensures ok { (layout : Layout) (def : EventDef)
             → IsPending layout self.old → layout.definitions_flushed ≤ length layout.definitions
-            → IsNew layout.definitions def (Some payload.now) → OnOk result (IsPending (with_definition layout def) self.new) }
+            → IsNew layout.definitions def (Some payload.now)
+            → OnOk result (IsPending (with_definition layout def) self.new) }
         ensures events { self.new.events ≡ self.old.events }
         ensures stacks { self.new.stacks ≡ self.old.stacks }
     {
@@ -89,10 +91,14 @@ impl Pending {
         stack: &Interned,
         frames: &[u8],
     ) -> Result<(), AllocError>
-        requires room { IsTrue stack.now.is_new → length (stack_body self.old.stacks.first self.old.stacks.fresh) + (SIZE_BYTES + length frames.now) ≤ WRITTEN_BYTES }
-        requires next { IsTrue stack.now.is_new → self.old.stacks.first + length self.old.stacks.fresh ≤ length self.old.stacks.known }
-        ensures ok { (layout : Layout) → IsPending layout self.old → layout.stacks_flushed ≤ length layout.stacks
-            → IsInterned layout.stacks frames.now stack.now → OnOk result (IsPending (with_new_stack layout frames.now) self.new) }
+        requires room { IsTrue stack.now.is_new
+            → length (stack_body self.old.stacks.first self.old.stacks.fresh) + (SIZE_BYTES + length frames.now) ≤ WRITTEN_BYTES }
+        requires next { IsTrue stack.now.is_new
+            → self.old.stacks.first + length self.old.stacks.fresh ≤ length self.old.stacks.known }
+        ensures ok { (layout : Layout) → IsPending layout self.old
+            → layout.stacks_flushed ≤ length layout.stacks
+            → IsInterned layout.stacks frames.now stack.now
+            → OnOk result (IsPending (with_new_stack layout frames.now) self.new) }
         ensures known { self.new.stacks.known ≡ self.old.stacks.known }
         ensures framed { self.new.stacks.framed ≡ self.old.stacks.framed }
         ensures metadata { self.new.metadata ≡ self.old.metadata }
@@ -109,7 +115,8 @@ impl Pending {
         requires room { HasRoomFor (length payload.now) self.old.events }
         requires size { head.now.size ≡ length payload.now }
         requires named { 0 < head.now.metadata }
-        ensures ok { (layout : Layout) → IsPending layout self.old → OnOk result (IsPending (with_draft layout (record { state = head.now; payload = payload.now })) self.new) }
+        ensures ok { (layout : Layout) → IsPending layout self.old
+            → OnOk result (IsPending (with_draft layout (record { state = head.now; payload = payload.now })) self.new) }
         ensures stacks { self.new.stacks ≡ self.old.stacks }
     {
         self.events.add(head, payload)
@@ -118,8 +125,10 @@ impl Pending {
     // Whether the body of the new stacks has no room for one of this size.
     fn lacks_stack(&self, stack: Option<usize>) -> bool
         requires { IsAtMost STACK_BYTES stack }
-        ensures lacks { (layout : Layout) → IsPending layout self.now → result ≡ passes_by (new_stack_body layout) SIZE_BYTES stack }
-        ensures room { (size : ℕ) → result ≡ false → stack ≡ Some size → length (stack_body self.now.stacks.first self.now.stacks.fresh) + (SIZE_BYTES + size) ≤ WRITTEN_BYTES }
+        ensures lacks { (layout : Layout) → IsPending layout self.now
+            → result ≡ passes_by (new_stack_body layout) SIZE_BYTES stack }
+        ensures room { (size : ℕ) → result ≡ false → stack ≡ Some size
+            → length (stack_body self.now.stacks.first self.now.stacks.fresh) + (SIZE_BYTES + size) ≤ WRITTEN_BYTES }
     {
         match stack {
             Some(size) => !self.stacks.fits(SIZE_BYTES + size),
@@ -131,7 +140,8 @@ impl Pending {
 // Whether a body has no room for a payload of this size.
 fn lacks(block: &BlobBlock, payload: Option<usize>) -> bool
     requires { IsAtMost PAYLOAD_BYTES payload }
-    ensures lacks { (drafts : List Draft) → IsMaking drafts block.now → result ≡ passes_by (blob_body drafts) HEAD_BYTES payload }
+    ensures lacks { (drafts : List Draft) → IsMaking drafts block.now
+        → result ≡ passes_by (blob_body drafts) HEAD_BYTES payload }
     ensures room { (size : ℕ) → result ≡ false → payload ≡ Some size → HasRoomFor size block.now }
 {
     match payload {

@@ -66,10 +66,14 @@ impl Stacks {
     /// The id of the stack of one event more, and whether it is new. Out of memory, nothing changes.
     pub fn id_of(&mut self, alloc: Global, frames: &[u8]) -> Result<Interned, AllocError>
         requires { (frames.now ≡ []) ⊎ (self.old.framed < FRAMED_EVENTS) }
-        ensures ok { OnOk result (self.new ≡ record self.old { known = with_stack self.old.known frames.now; framed = framed_with self.old.framed frames.now }) }
+        ensures ok { OnOk result (self.new ≡ record self.old {
+          known = with_stack self.old.known frames.now;
+          framed = framed_with self.old.framed frames.now;
+        }) }
         ensures id { IfOk result (λ stack. stack.id ≡ stack_id self.new.known frames.now) }
         ensures is_new { IfOk result (λ stack. stack.is_new ≡ nat_lt (length self.old.known) (length self.new.known)) }
-        ensures next { IfOk result (λ stack. IsTrue stack.is_new → self.new.first + length self.new.fresh ≤ length self.new.known) }
+        ensures next { IfOk result (λ stack. IsTrue stack.is_new
+            → self.new.first + length self.new.fresh ≤ length self.new.known) }
         ensures few { OnOk result (AreFew self.new.known self.new.framed) }
         ensures err { OnErr result (self.new ≡ self.old) }
     {
@@ -80,9 +84,10 @@ impl Stacks {
         Ok(stack)
     }
 
-    /// Whether so many bytes more keep the body of the new stacks at 102,400 bytes at most.
+    /// Whether this many bytes more keep the body of the new stacks at 102,400 bytes at most.
     pub fn fits(&self, bytes: usize) -> bool
-        ensures { IsTrue result ↔ (length (stack_body self.now.first self.now.fresh) + bytes ≤ WRITTEN_BYTES) }
+        ensures { IsTrue result
+            ↔ (length (stack_body self.now.first self.now.fresh) + bytes ≤ WRITTEN_BYTES) }
     {
         bytes <= WRITTEN_BYTES - self.size
     }

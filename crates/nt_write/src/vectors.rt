@@ -1,3 +1,4 @@
+//! What small streams and their parts are as bytes, computed by the prover and worked out by hand.
 ghost use Rattle.std.specs.Prelude.{◌≡◌, List, Ok, [], ◌∷◌, ◌++◌, length};
 ghost use Rattle.std.specs.Int.{w32, w64};
 ghost use Rattle.ep_defs.specs.Session.{standard_info_of};
@@ -37,7 +38,8 @@ pub fn varuints_have_their_low_bits_first()
     ensures two_bytes { short_var w32 128 ≡ 0x80 ∷ 0x01 ∷ [] }
     ensures a_long_payload { short_var w32 60000 ≡ 0xe0 ∷ 0xd4 ∷ 0x03 ∷ [] }
     ensures below_zero { short_var w32 4294967291 ≡ 0xfb ∷ 0xff ∷ 0xff ∷ 0xff ∷ 0x0f ∷ [] }
-    ensures greatest { short_var w64 18446744073709551615 ≡ 0xff ∷ 0xff ∷ 0xff ∷ 0xff ∷ 0xff ∷ 0xff ∷ 0xff ∷ 0xff ∷ 0xff ∷ 0x01 ∷ [] }
+    ensures greatest { short_var w64 18446744073709551615
+        ≡ 0xff ∷ 0xff ∷ 0xff ∷ 0xff ∷ 0xff ∷ 0xff ∷ 0xff ∷ 0xff ∷ 0xff ∷ 0x01 ∷ [] }
 {}
 
 /// The header of a block's first event says its definition, its thread and its stamp.
@@ -53,7 +55,8 @@ pub fn a_second_event_takes_two_bytes()
 /// An activity's id stands whole where it is new, and so does a related one.
 pub fn a_new_activity_takes_16_bytes()
     ensures activity { head_bytes (nth 1) (record (nth 2) { activity = some_id }) ≡ 0x10 ∷ 0x01 ∷ some_id }
-    ensures related { head_bytes (nth 1) (record (nth 2) { activity = some_id; related = some_id }) ≡ 0x30 ∷ 0x01 ∷ (some_id ++ some_id) }
+    ensures related { head_bytes (nth 1) (record (nth 2) { activity = some_id; related = some_id })
+        ≡ 0x30 ∷ 0x01 ∷ (some_id ++ some_id) }
 {}
 
 /// A number that is missing before an event shows in its header.
@@ -66,9 +69,11 @@ pub fn a_body_of_964_events_takes_1956_bytes()
     ensures count { length (blob_body many_drafts) ≡ 1956 }
 {}
 
-/// Behind the fifth event of one thread, the number of another's first event is five less than the next one, modulo 2^32.
+/// After the fifth event of one thread, the number of another's first event is five less than the next one, modulo
+/// 2^32.
 pub fn five_events_of_one_thread_and_one_of_another()
-    ensures head { head_bytes (nth 5) first_of_thread_2 ≡ 0x06 ∷ 0xfb ∷ 0xff ∷ 0xff ∷ 0xff ∷ 0x0f ∷ 0x02 ∷ 0x00 ∷ 0x02 ∷ 0x06 ∷ [] }
+    ensures head { head_bytes (nth 5) first_of_thread_2
+        ≡ 0x06 ∷ 0xfb ∷ 0xff ∷ 0xff ∷ 0xff ∷ 0x0f ∷ 0x02 ∷ 0x00 ∷ 0x02 ∷ 0x06 ∷ [] }
     ensures body { bodies_of block.Event two_threads ≡ two_threads_bytes ∷ [] }
 {}
 
@@ -78,12 +83,14 @@ pub fn a_stack_is_written_again_after_a_point()
     ensures events { bodies_of block.Event one_stack ≡ before_point_bytes ∷ after_point_bytes ∷ [] }
 {}
 
-/// A field's name stands behind the fields inside it.
+/// A field's name stands after the fields inside it.
 pub fn nested_fields_stand_before_the_name()
     ensures bytes { meta_payload 7 nested ≡ nested_bytes }
 {}
 
-/// A reader passes over what a body's header has behind its first 20 bytes, and takes a number that is not in its shortest form.
+/// A reader passes over what a body's header has after its first 20 bytes, and takes a number that is not in its
+/// shortest form.
 pub fn a_header_of_22_bytes_is_passed_over()
-    ensures { body_at block.Event 100 longer_header_bytes ≡ Ok (record { at = 122; kind = item.Event 1 1 1 0 1 0 100 zero_id zero_id [] } ∷ []) }
+    ensures { body_at block.Event 100 longer_header_bytes
+        ≡ Ok (record { at = 122; kind = item.Event 1 1 1 0 1 0 100 zero_id zero_id [] } ∷ []) }
 {}

@@ -70,11 +70,14 @@ impl<S: Sink> TraceWriter<S> {
 
     /// Writes the stream's start, 102 bytes in one write. The sink comes back where that fails.
     pub fn begin(alloc: Global, sink: S, info: &TraceInfo) -> Result<TraceWriter<S>, (S, Fault)>
-        ensures ok { IfOk result (λ writer. (defs : ℕ → Option EventDef) → IsWriting S.tells_taken S.taken (S.taken sink) defs info.now [] writer) }
+        ensures ok { IfOk result (λ writer. (defs : ℕ → Option EventDef)
+            → IsWriting S.tells_taken S.taken (S.taken sink) defs info.now [] writer) }
         ensures part { IfErr result (λ failed. TookPart S.tells_taken S.taken (S.taken sink) info.now [] failed.0) }
-        ensures write_fault { IfErr result (λ failed. failed.1 ≡ WriteFault → HasRisen (S.write_faults sink) (S.write_faults failed.0)) }
+        ensures write_fault { IfErr result (λ failed. failed.1 ≡ WriteFault
+            → HasRisen (S.write_faults sink) (S.write_faults failed.0)) }
         ensures not_long { IfErr result (λ failed. failed.1 ≢ TooLong) }
-        ensures memory { IfErr result (λ failed. failed.1 ≡ OutOfMemory → S.write_faults failed.0 ≡ S.write_faults sink) }
+        ensures memory { IfErr result (λ failed. failed.1 ≡ OutOfMemory
+            → S.write_faults failed.0 ≡ S.write_faults sink) }
         ensures wrote { IfOk result (λ writer. S.write_faults (sink_of writer) ≡ S.write_faults sink) }
         ensures later { IfErr result (λ failed. S.write_faults sink ≤ S.write_faults failed.0) }
     {
@@ -94,8 +97,8 @@ impl<S: Sink> TraceWriter<S> {
     /// Writes one event of a definition. Two events have the same number of a definition exactly where their
     /// definitions are the same.
     ///
-    /// It answers [`Fault::TooLong`] for an event with frames where 2,147,483,646 others had frames since the last point.
-    /// After a fault the writer answers that fault from then on and writes nothing more.
+    /// It answers [`Fault::TooLong`] for an event with frames where 2,147,483,646 others had frames since the last
+    /// point. After a fault the writer answers that fault from then on and writes nothing more.
     pub fn event(&mut self, alloc: Global, def: &EventDef, out: &EventOut) -> Result<(), Fault>
         requires valid { IsTrue (is_valid_event def.now) }
         requires event { out.now.event ≤ LAST_EVENT }
@@ -107,19 +110,26 @@ impl<S: Sink> TraceWriter<S> {
         ensures ok { (before : List ℕ) (defs : ℕ → Option EventDef) (info : TraceInfo) (entries : List Entry)
             → IsWriting S.tells_taken S.taken before defs info entries self.old
             → AreDistinct defs → defs out.now.event ≡ Some def.now
-            → OnOk result (IsWriting S.tells_taken S.taken before defs info (entries ++ Event (entry_of def.now out.now) ∷ []) self.new) }
-        ensures part { (before : List ℕ) (defs : ℕ → Option EventDef) (info : TraceInfo) (entries : List Entry)
+            → OnOk result (IsWriting S.tells_taken S.taken before defs info (entries
+            ++ Event (entry_of def.now out.now) ∷ []) self.new) }
+        ensures part { (before : List ℕ) (defs : ℕ → Option EventDef) (info : TraceInfo)
+            (entries : List Entry)
             → IsWriting S.tells_taken S.taken before defs info entries self.old
             → AreDistinct defs → defs out.now.event ≡ Some def.now
-            → OnErr result (TookPart S.tells_taken S.taken before info (entries ++ Event (entry_of def.now out.now) ∷ []) (sink_of self.new)) }
+            → OnErr result (TookPart S.tells_taken S.taken before info (entries
+            ++ Event (entry_of def.now out.now) ∷ []) (sink_of self.new)) }
         ensures fails { IfErr result (λ fault. fault_of self.new ≡ Some fault) }
         ensures sound { OnOk result (fault_of self.new ≡ None) }
-        ensures stays { (fault : _) → fault_of self.old ≡ Some fault → (result ≡ Err fault) × (self.new ≡ self.old) }
-        ensures write_fault { result ≡ Err WriteFault → (fault_of self.old ≡ Some WriteFault) ⊎ HasRisen (S.write_faults (sink_of self.old)) (S.write_faults (sink_of self.new)) }
-        ensures too_long { (before : List ℕ) (defs : ℕ → Option EventDef) (info : TraceInfo) (entries : List Entry)
+        ensures stays { (fault : _) → fault_of self.old ≡ Some fault
+            → (result ≡ Err fault) × (self.new ≡ self.old) }
+        ensures write_fault { result ≡ Err WriteFault → (fault_of self.old ≡ Some WriteFault)
+            ⊎ HasRisen (S.write_faults (sink_of self.old)) (S.write_faults (sink_of self.new)) }
+        ensures too_long { (before : List ℕ) (defs : ℕ → Option EventDef) (info : TraceInfo)
+            (entries : List Entry)
             → IsWriting S.tells_taken S.taken before defs info entries self.old
             → (result ≡ Err TooLong) ↔ ((0 < length out.now.frames.now) × (framed entries ≡ FRAMED_EVENTS)) }
-        ensures memory { result ≡ Err OutOfMemory → S.write_faults (sink_of self.new) ≡ S.write_faults (sink_of self.old) }
+        ensures memory { result ≡ Err OutOfMemory
+            → S.write_faults (sink_of self.new) ≡ S.write_faults (sink_of self.old) }
         ensures wrote { OnOk result (S.write_faults (sink_of self.new) ≡ S.write_faults (sink_of self.old)) }
         ensures later { S.write_faults (sink_of self.old) ≤ S.write_faults (sink_of self.new) }
     {
@@ -138,16 +148,22 @@ impl<S: Sink> TraceWriter<S> {
 
         ensures ok { (before : List ℕ) (defs : ℕ → Option EventDef) (info : TraceInfo) (entries : List Entry)
             → IsWriting S.tells_taken S.taken before defs info entries self.old
-            → OnOk result (IsWriting S.tells_taken S.taken before defs info (entries ++ Point (point_of stamp threads.now) ∷ []) self.new) }
-        ensures part { (before : List ℕ) (defs : ℕ → Option EventDef) (info : TraceInfo) (entries : List Entry)
+            → OnOk result (IsWriting S.tells_taken S.taken before defs info (entries
+            ++ Point (point_of stamp threads.now) ∷ []) self.new) }
+        ensures part { (before : List ℕ) (defs : ℕ → Option EventDef) (info : TraceInfo)
+            (entries : List Entry)
             → IsWriting S.tells_taken S.taken before defs info entries self.old
-            → OnErr result (TookPart S.tells_taken S.taken before info (entries ++ Point (point_of stamp threads.now) ∷ []) (sink_of self.new)) }
+            → OnErr result (TookPart S.tells_taken S.taken before info (entries
+            ++ Point (point_of stamp threads.now) ∷ []) (sink_of self.new)) }
         ensures fails { IfErr result (λ fault. fault_of self.new ≡ Some fault) }
         ensures sound { OnOk result (fault_of self.new ≡ None) }
-        ensures stays { (fault : _) → fault_of self.old ≡ Some fault → (result ≡ Err fault) × (self.new ≡ self.old) }
-        ensures write_fault { result ≡ Err WriteFault → (fault_of self.old ≡ Some WriteFault) ⊎ HasRisen (S.write_faults (sink_of self.old)) (S.write_faults (sink_of self.new)) }
+        ensures stays { (fault : _) → fault_of self.old ≡ Some fault
+            → (result ≡ Err fault) × (self.new ≡ self.old) }
+        ensures write_fault { result ≡ Err WriteFault → (fault_of self.old ≡ Some WriteFault)
+            ⊎ HasRisen (S.write_faults (sink_of self.old)) (S.write_faults (sink_of self.new)) }
         ensures too_long { result ≡ Err TooLong → fault_of self.old ≡ Some TooLong }
-        ensures memory { result ≡ Err OutOfMemory → S.write_faults (sink_of self.new) ≡ S.write_faults (sink_of self.old) }
+        ensures memory { result ≡ Err OutOfMemory
+            → S.write_faults (sink_of self.new) ≡ S.write_faults (sink_of self.old) }
         ensures wrote { OnOk result (S.write_faults (sink_of self.new) ≡ S.write_faults (sink_of self.old)) }
         ensures later { S.write_faults (sink_of self.old) ≤ S.write_faults (sink_of self.new) }
     {
@@ -165,13 +181,17 @@ impl<S: Sink> TraceWriter<S> {
         ensures ok { (before : List ℕ) (defs : ℕ → Option EventDef) (info : TraceInfo) (entries : List Entry)
             → IsWriting S.tells_taken S.taken before defs info entries self
             → OnOk result.1 (TookStream S.tells_taken S.taken before info entries result.0) }
-        ensures part { (before : List ℕ) (defs : ℕ → Option EventDef) (info : TraceInfo) (entries : List Entry)
+        ensures part { (before : List ℕ) (defs : ℕ → Option EventDef) (info : TraceInfo)
+            (entries : List Entry)
             → IsWriting S.tells_taken S.taken before defs info entries self
             → OnErr result.1 (TookPart S.tells_taken S.taken before info entries result.0) }
-        ensures stays { (fault : _) → fault_of self ≡ Some fault → (result.1 ≡ Err fault) × (result.0 ≡ sink_of self) }
-        ensures write_fault { result.1 ≡ Err WriteFault → (fault_of self ≡ Some WriteFault) ⊎ HasRisen (S.write_faults (sink_of self)) (S.write_faults result.0) }
+        ensures stays { (fault : _) → fault_of self ≡ Some fault
+            → (result.1 ≡ Err fault) × (result.0 ≡ sink_of self) }
+        ensures write_fault { result.1 ≡ Err WriteFault → (fault_of self ≡ Some WriteFault)
+            ⊎ HasRisen (S.write_faults (sink_of self)) (S.write_faults result.0) }
         ensures too_long { result.1 ≡ Err TooLong → fault_of self ≡ Some TooLong }
-        ensures memory { result.1 ≡ Err OutOfMemory → S.write_faults result.0 ≡ S.write_faults (sink_of self) }
+        ensures memory { result.1 ≡ Err OutOfMemory
+            → S.write_faults result.0 ≡ S.write_faults (sink_of self) }
         ensures wrote { OnOk result.1 (S.write_faults result.0 ≡ S.write_faults (sink_of self)) }
         ensures later { S.write_faults (sink_of self) ≤ S.write_faults result.0 }
     {
@@ -204,16 +224,22 @@ impl<S: Sink> TraceWriter<S> {
         requires payload { length out.now.payload.now ≤ PAYLOAD_BYTES }
 
         ensures ok { (start : List ℕ) (defs : ℕ → Option EventDef) (layout : Layout)
-            → IsAt S.tells_taken S.taken start defs layout self.old → AreDistinct defs → defs out.now.event ≡ Some def.now
+            → IsAt S.tells_taken S.taken start defs layout self.old → AreDistinct defs
+            → defs out.now.event ≡ Some def.now
             → OnOk result (IsAt S.tells_taken S.taken start defs (with_event (roomy layout (entry_of def.now out.now)) (entry_of def.now out.now)) self.new) }
-        ensures framed { OnOk result ((pending_of self.new).stacks.framed ≡ framed_with (pending_of self.old).stacks.framed out.now.frames.now) }
+        ensures framed { OnOk result ((pending_of self.new).stacks.framed
+            ≡ framed_with (pending_of self.old).stacks.framed out.now.frames.now) }
         ensures part { (start : List ℕ) (defs : ℕ → Option EventDef) (layout : Layout)
-            → IsAt S.tells_taken S.taken start defs layout self.old → AreDistinct defs → defs out.now.event ≡ Some def.now
+            → IsAt S.tells_taken S.taken start defs layout self.old → AreDistinct defs
+            → defs out.now.event ≡ Some def.now
             → OnErr result (TookSome S.tells_taken S.taken start (blocks_bytes (roomy layout (entry_of def.now out.now)).blocks) (sink_of self.new)) }
-        ensures too_long { (result ≡ Err TooLong) ↔ ((0 < length out.now.frames.now) × ((pending_of self.old).stacks.framed ≡ FRAMED_EVENTS)) }
+        ensures too_long { (result ≡ Err TooLong) ↔ ((0 < length out.now.frames.now)
+            × ((pending_of self.old).stacks.framed ≡ FRAMED_EVENTS)) }
         ensures wrote { OnOk result (S.write_faults (sink_of self.new) ≡ S.write_faults (sink_of self.old)) }
-        ensures write_fault { result ≡ Err WriteFault → HasRisen (S.write_faults (sink_of self.old)) (S.write_faults (sink_of self.new)) }
-        ensures memory { result ≡ Err OutOfMemory → S.write_faults (sink_of self.new) ≡ S.write_faults (sink_of self.old) }
+        ensures write_fault { result ≡ Err WriteFault
+            → HasRisen (S.write_faults (sink_of self.old)) (S.write_faults (sink_of self.new)) }
+        ensures memory { result ≡ Err OutOfMemory
+            → S.write_faults (sink_of self.new) ≡ S.write_faults (sink_of self.old) }
         ensures later { S.write_faults (sink_of self.old) ≤ S.write_faults (sink_of self.new) }
     {
         if !out.frames.is_empty() && self.pending.stacks.are_spent() {
@@ -228,14 +254,18 @@ impl<S: Sink> TraceWriter<S> {
         requires event { out.now.event ≤ LAST_EVENT }
         requires frames { length out.now.frames.now ≤ STACK_BYTES }
         requires payload { length out.now.payload.now ≤ PAYLOAD_BYTES }
-        requires not_spent { (out.now.frames.now ≡ []) ⊎ ((pending_of self.old).stacks.framed < FRAMED_EVENTS) }
+        requires not_spent { (out.now.frames.now ≡ [])
+            ⊎ ((pending_of self.old).stacks.framed < FRAMED_EVENTS) }
 
         ensures ok { (start : List ℕ) (defs : ℕ → Option EventDef) (layout : Layout)
-            → IsAt S.tells_taken S.taken start defs layout self.old → AreDistinct defs → defs out.now.event ≡ Some def.now
+            → IsAt S.tells_taken S.taken start defs layout self.old → AreDistinct defs
+            → defs out.now.event ≡ Some def.now
             → OnOk result (IsAt S.tells_taken S.taken start defs (with_event (roomy layout (entry_of def.now out.now)) (entry_of def.now out.now)) self.new) }
-        ensures framed { OnOk result ((pending_of self.new).stacks.framed ≡ framed_with (pending_of self.old).stacks.framed out.now.frames.now) }
+        ensures framed { OnOk result ((pending_of self.new).stacks.framed
+            ≡ framed_with (pending_of self.old).stacks.framed out.now.frames.now) }
         ensures part { (start : List ℕ) (defs : ℕ → Option EventDef) (layout : Layout)
-            → IsAt S.tells_taken S.taken start defs layout self.old → AreDistinct defs → defs out.now.event ≡ Some def.now
+            → IsAt S.tells_taken S.taken start defs layout self.old → AreDistinct defs
+            → defs out.now.event ≡ Some def.now
             → OnErr result (TookSome S.tells_taken S.taken start (blocks_bytes (roomy layout (entry_of def.now out.now)).blocks) (sink_of self.new)) }
         ensures counted { IsCounted S.write_faults (sink_of self.old) (sink_of self.new) result }
     {
@@ -258,13 +288,17 @@ impl<S: Sink> TraceWriter<S> {
         requires event { out.now.event ≤ LAST_EVENT }
         requires payload { length out.now.payload.now ≤ PAYLOAD_BYTES }
         requires room { HasRoom (arrival_for out.now meta.now stack.now) (pending_of self.old) }
-        requires next { IsTrue stack.now.is_new → (pending_of self.old).stacks.first + length (pending_of self.old).stacks.fresh ≤ length (pending_of self.old).stacks.known }
-        requires defining { (payload : List ℕ) → meta.now ≡ Some payload → (def : EventDef) × IsDefining def payload }
-        requires free { (payload : List ℕ) → meta.now ≡ Some payload → id_at (ids_of self.old) out.now.event ≡ 0 }
+        requires next { IsTrue stack.now.is_new
+            → (pending_of self.old).stacks.first + length (pending_of self.old).stacks.fresh ≤ length (pending_of self.old).stacks.known }
+        requires defining { (payload : List ℕ) → meta.now ≡ Some payload
+            → (def : EventDef) × IsDefining def payload }
+        requires free { (payload : List ℕ) → meta.now ≡ Some payload
+            → id_at (ids_of self.old) out.now.event ≡ 0 }
         requires given { meta.now ≡ None → 0 < id_at (ids_of self.old) out.now.event }
 
         ensures ok { (start : List ℕ) (defs : ℕ → Option EventDef) (layout : Layout) (def : EventDef)
-            → IsKept S.tells_taken S.taken start defs layout self.old → AreDistinct defs → defs out.now.event ≡ Some def
+            → IsKept S.tells_taken S.taken start defs layout self.old → AreDistinct defs
+            → defs out.now.event ≡ Some def
             → IsNew layout.definitions def meta.now → IsInterned layout.stacks out.now.frames.now stack.now
             → OnOk result (IsKept S.tells_taken S.taken start defs (with_event layout (entry_of def out.now)) self.new) }
         ensures known { OnOk result ((pending_of self.new).stacks.known ≡ (pending_of self.old).stacks.known) }
@@ -280,17 +314,21 @@ impl<S: Sink> TraceWriter<S> {
     // Defines an event at its first use, and answers the id of its definition.
     fn define(&mut self, event: u32, meta: &Option<Bytes>) -> Result<u32, AllocError>
         requires event { event ≤ LAST_EVENT }
-        requires defining { (payload : List ℕ) → meta.now ≡ Some payload → (def : EventDef) × IsDefining def payload }
-        requires room { (payload : List ℕ) → meta.now ≡ Some payload → HasRoomFor (length payload) (pending_of self.old).metadata }
+        requires defining { (payload : List ℕ) → meta.now ≡ Some payload
+            → (def : EventDef) × IsDefining def payload }
+        requires room { (payload : List ℕ) → meta.now ≡ Some payload
+            → HasRoomFor (length payload) (pending_of self.old).metadata }
         requires free { (payload : List ℕ) → meta.now ≡ Some payload → id_at (ids_of self.old) event ≡ 0 }
         requires given { meta.now ≡ None → 0 < id_at (ids_of self.old) event }
 
         ensures positive { IfOk result (λ id. 0 < id) }
         ensures id { (start : List ℕ) (defs : ℕ → Option EventDef) (layout : Layout) (def : EventDef)
-            → IsKept S.tells_taken S.taken start defs layout self.old → AreDistinct defs → defs event ≡ Some def → IsNew layout.definitions def meta.now
+            → IsKept S.tells_taken S.taken start defs layout self.old → AreDistinct defs
+            → defs event ≡ Some def → IsNew layout.definitions def meta.now
             → IfOk result (λ id. id ≡ id_in is_same_event def (with_definition layout def).definitions) }
         ensures ok { (start : List ℕ) (defs : ℕ → Option EventDef) (layout : Layout) (def : EventDef)
-            → IsKept S.tells_taken S.taken start defs layout self.old → AreDistinct defs → defs event ≡ Some def → IsNew layout.definitions def meta.now
+            → IsKept S.tells_taken S.taken start defs layout self.old → AreDistinct defs
+            → defs event ≡ Some def → IsNew layout.definitions def meta.now
             → OnOk result (IsKept S.tells_taken S.taken start defs (with_definition layout def) self.new) }
         ensures events { (pending_of self.new).events ≡ (pending_of self.old).events }
         ensures stacks { (pending_of self.new).stacks ≡ (pending_of self.old).stacks }
@@ -333,10 +371,12 @@ impl<S: Sink> TraceWriter<S> {
     fn finish(&mut self, alloc: Global) -> Result<(), Fault>
         ensures ok { (start : List ℕ) (defs : ℕ → Option EventDef) (layout : Layout)
             → IsAt S.tells_taken S.taken start defs layout self.old
-            → OnOk result (TookAll S.tells_taken S.taken start (blocks_bytes (flushed layout).blocks ++ 1 ∷ []) (sink_of self.new)) }
+            → OnOk result (TookAll S.tells_taken S.taken start (blocks_bytes (flushed layout).blocks
+            ++ 1 ∷ []) (sink_of self.new)) }
         ensures part { (start : List ℕ) (defs : ℕ → Option EventDef) (layout : Layout)
             → IsAt S.tells_taken S.taken start defs layout self.old
-            → OnErr result (TookSome S.tells_taken S.taken start (blocks_bytes (flushed layout).blocks ++ 1 ∷ []) (sink_of self.new)) }
+            → OnErr result (TookSome S.tells_taken S.taken start (blocks_bytes (flushed layout).blocks
+            ++ 1 ∷ []) (sink_of self.new)) }
         ensures counted { IsCounted S.write_faults (sink_of self.old) (sink_of self.new) result }
     {
         let output = &mut self.output;
@@ -405,8 +445,10 @@ fn new_meta(
     requires valid { IsTrue (is_valid_event def.now) }
     requires number { number ≤ LAST_EVENT }
     ensures new { (defs : ℕ → Option EventDef) (definitions : List EventDef)
-        → AreIds defs definitions ids.now → defs number ≡ Some def.now → IfOk result (λ meta. IsNew definitions def.now meta) }
-    ensures defining { IfOk result (λ meta. (payload : List ℕ) → meta ≡ Some payload → IsDefining def.now payload) }
+        → AreIds defs definitions ids.now → defs number ≡ Some def.now
+        → IfOk result (λ meta. IsNew definitions def.now meta) }
+    ensures defining { IfOk result (λ meta. (payload : List ℕ) → meta ≡ Some payload
+        → IsDefining def.now payload) }
     ensures free { IfOk result (λ meta. (payload : List ℕ) → meta ≡ Some payload → id_at ids.now number ≡ 0) }
     ensures given { IfOk result (λ meta. meta ≡ None → 0 < id_at ids.now number) }
 {

@@ -1,5 +1,5 @@
 -- What was read of a text, with a byte more and at its end.
-use Rattle.std.proofs.Common.{◌≡◌, ℕ, ◌+◌, ◌<◌, ◌≤◌, true, false, not, List, [], ◌∷◌, ◌++◌, length, Option, Some, None, refl, sym, ap, ◌∙◌, subst, inl, inr, append_assoc, arith, length-append}
+use Rattle.std.proofs.Common.{◌≡◌, ℕ, ◌+◌, ◌<◌, ◌≤◌, true, not, List, [], ◌∷◌, ◌++◌, length, Option, Some, None, refl, sym, ap, ◌∙◌, subst, inl, inr, append_assoc, arith, length-append}
 use Rattle.std.specs.Prelude.{IsTrue, ◌≢◌, is_some}
 use Rattle.std.proofs.lemmas.Bool.{lt-ltb, ne_eqb}
 use Rattle.std.proofs.lemmas.List.{append-nil}
@@ -40,11 +40,6 @@ judged-good bytes schedule (Some refusal) none judged = cc
 pub refused-judged : (bytes : List ℕ) (schedule : Schedule) (part : List ℕ) (refusal : Option Refusal) → is_some refusal ≡ true → IsSoFar bytes schedule part refusal → IsJudgedAs bytes schedule refusal
 refused-judged bytes schedule part None some so_far = cc
 refused-judged bytes schedule part (Some refusal) some so_far = subst (λ bs. IsRefused bs refusal) (append-nil bytes) (so_far [])
-
--- What is not there is None.
-pub is_some-false : {A : Type 0} (x : Option A) → is_some x ≡ false → x ≡ None
-is_some-false None not = refl
-is_some-false (Some a) not = cc
 
 -- The lines of bytes that begin with a part of a line.
 lines_of-part : (part rest : List ℕ) → IsTrue (is_line part) → 0 < length part → Begins part (lines_of (part ++ rest))

@@ -6,6 +6,7 @@ use Rattle.std.proofs.lemmas.Slice.Eq.{bytes_eq-Decides, starts_is}
 use Rattle.std.specs.Prelude.{◌==◌, Bool, true, false, IsTrue, IfSome, IfNone}
 use Rattle.std.specs.Int.{is_in_range}
 use Rattle.std.specs.Str.Parse.{digits_value}
+use Rattle.std.proofs.lemmas.Bool.{and_parts}
 use Rattle.ep_plan.specs.Words.{numeral_in, number_in, at_most}
 use Rattle.pt_words.specs.Words.{is_option}
 use Rattle.pt_words.specs.Session.{is_alone, is_attached, attached_text, session_in}
@@ -77,10 +78,6 @@ Asks None session = ⊥
 Asks (Some None) session = session ≡ 1
 Asks (Some (Some digits)) session = IsSession digits session
 
-both : (a b : Bool) → (a && b) ≡ true → (a ≡ true) × (b ≡ true)
-both true b are = (refl, are)
-both false b are = cc
-
 pub asks-replay : (rest : List (List ℕ)) (session : ℕ) → Asks (session_in rest) session → IsReplay (codes "replay" ∷ rest) session
 asks-replay [] session one = inl (refl, one)
 asks-replay (word ∷ []) session asks = go (is_attached word) refl asks
@@ -94,7 +91,7 @@ asks-replay (option ∷ text ∷ []) session asks = go (is_alone option && not (
   where
     go : (b : Bool) → (is_alone option && not (is_option text)) ≡ b → Asks (cond b (Some (Some text)) None) session → IsReplay (codes "replay" ∷ option ∷ text ∷ []) session
     go true is named =
-        let same : option ≡ codes "--session" = (bytes_eq-Decides option (codes "--session")).0 (both (is_alone option) (not (is_option text)) is).0 in
+        let same : option ≡ codes "--session" = (bytes_eq-Decides option (codes "--session")).0 (and_parts (is_alone option) (not (is_option text)) is).0 in
         inr (inl (text, ap (λ (w : List ℕ). codes "replay" ∷ w ∷ text ∷ []) same, named))
     go false is named = absurd named
 asks-replay (option ∷ text ∷ third ∷ more) session asks = absurd asks
@@ -119,16 +116,8 @@ session-plain (byte ∷ digits) session is = go (byte == 45) refl
         let none : None ≡ Some session = sym (no-hyphen 18446744073709551615 digits) ∙ sym (ap (λ (b : ℕ). number_in 18446744073709551615 (b ∷ digits)) first) ∙ is.0 in
         absurd (let bad : ⊥ = cc in bad)
 
-first-is : (a c : List ℕ) (b d : List (List ℕ)) → a ∷ b ≡ c ∷ d → a ≡ c
-first-is a c b d is = cc
-
 later-is : (a c : List ℕ) (b d : List (List ℕ)) → a ∷ b ≡ c ∷ d → b ≡ d
 later-is a c b d is = cc
-
-pub replay-first : (command : List ℕ) (rest : List (List ℕ)) (session : ℕ) → IsReplay (command ∷ rest) session → command ≡ codes "replay"
-replay-first command rest session (inl alone) = first-is _ _ _ _ alone.0
-replay-first command rest session (inr (inl two)) = first-is _ _ _ _ two.1
-replay-first command rest session (inr (inr one)) = first-is _ _ _ _ one.1
 
 pub replay-asks : (command : List ℕ) (rest : List (List ℕ)) (session : ℕ) → IsReplay (command ∷ rest) session → Asks (session_in rest) session
 replay-asks command rest session (inl alone) = subst (λ (rest : List (List ℕ)). Asks (session_in rest) session) (sym (later-is _ _ _ _ alone.0)) alone.1
@@ -136,14 +125,6 @@ replay-asks command rest session (inr (inl two)) =
     subst (λ (rest : List (List ℕ)). Asks (session_in rest) session) (sym (later-is _ _ _ _ two.1))
     (subst (λ (b : Bool). Asks (cond (not b) (Some (Some two.0)) None) session) (sym (session-plain two.0 session two.2)) two.2)
 replay-asks command rest session (inr (inr one)) = subst (λ (rest : List (List ℕ)). Asks (session_in rest) session) (sym (later-is _ _ _ _ one.1)) one.2
-
-nil-cons : (a : List ℕ) (b : List (List ℕ)) → [] ≡ a ∷ b → ⊥
-nil-cons a b is = cc
-
-pub no-words : (session : ℕ) → IsReplay [] session → ⊥
-no-words session (inl alone) = nil-cons _ _ alone.0
-no-words session (inr (inl two)) = nil-cons _ _ two.1
-no-words session (inr (inr one)) = nil-cons _ _ one.1
 
 -- The words ask for the session that was read from them, or for none.
 pub asked-some : (words : List (List ℕ)) (asked : Option ℕ) (session : ℕ) → IfSome asked (IsReplay words) → asked ≡ Some session → IsReplay words session

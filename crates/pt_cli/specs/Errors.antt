@@ -8,10 +8,12 @@ use Rattle.pt_cli.specs.declared.errors.Reason.{Reason}
 use Rattle.pt_cli.specs.declared.errors.Reason.TheVariants as reason
 use Rattle.pt_cli.specs.declared.errors.Refusal.{Refusal}
 
+-- The name of a reason, as an error line has it.
 abbrev pub reason_name : Reason → List ℕ
 reason_name (reason.Line kind) = kind_name kind
 reason_name (reason.Step kind) = step_kind_name kind
 
+-- The error line for words that are none of the program's.
 abbrev pub words_error : List ℕ
 words_error = codes "error: words" ++ 10 ∷ []
 

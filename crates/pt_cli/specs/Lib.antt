@@ -1,9 +1,11 @@
-pub mod Errors
-pub mod Finished
-pub mod Machines
-pub mod Outcomes
-pub mod Reading
-pub mod Replay
-pub mod Schedule
+-- to be believed
 pub mod Text
 pub mod Words
+pub mod Schedule
+pub mod Replay
+pub mod Errors
+pub mod Finished
+-- what private fields stand for
+pub mod Reading
+pub mod Machines
+pub mod Outcomes

@@ -1,3 +1,1 @@
-mod RuleWords
 mod Silent
-mod TextWords

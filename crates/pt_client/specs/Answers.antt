@@ -63,7 +63,7 @@ to_peer_error code = record { end = record { status = PEER_ERROR; code = code; a
 abbrev pub to_bad_reply : ℕ → Answer
 to_bad_reply at = record { end = record { status = BAD_REPLY; code = 0; at = at }; text = reply_error at }
 
--- The text for an OK reply in these bytes: the stream behind it, or a line.
+-- The text for an OK reply in these bytes: the stream after it, or a line.
 abbrev pub text_for : Command → List ℕ → Reply → List ℕ
 text_for (command.Collect target megabytes rules) bytes reply = later_bytes bytes
 text_for (command.Stop target number) bytes (reply.Session id) = stopped_line id

@@ -1,13 +1,13 @@
 -- The words of the client's commands (this project's profile).
 use Rattle.std.specs.Prelude.{ℕ, ◌-◌, ◌^◌, nat_le, if◌then◌else◌, List, [], ◌∷◌, length, codes, Option, Some, None}
 use Rattle.std.specs.Int.{is_in_range}
+use Rattle.ep_defs.specs.declared.limits.TheConstants.{RULES}
 use Rattle.ep_defs.specs.Event.{is_same_text}
 use Rattle.ep_defs.specs.declared.session.Rule.{Rule}
 use Rattle.ep_plan.specs.Words.{number_in, rule_in, all_in, at_least, at_most}
 use Rattle.ipc_frame.specs.declared.limits.TheConstants.{MESSAGE_BYTES}
 use Rattle.ipc_body.specs.Asking.{collect_request}
 use Rattle.pt_words.specs.Words.{has_option}
-use Rattle.pt_client.specs.declared.limits.TheConstants.{MOST_RULES}
 use Rattle.pt_client.specs.declared.words.Command.{Command}
 use Rattle.pt_client.specs.declared.words.Command.TheVariants as command
 
@@ -26,7 +26,7 @@ id_in word = number_in (2 ^ 64 - 1) word
 
 -- 1 to 1,000 rules.
 abbrev pub rules_in : List (List ℕ) → Option (List Rule)
-rules_in words = if is_in_range 1 MOST_RULES (length words) then all_in rule_in words else None
+rules_in words = if is_in_range 1 RULES (length words) then all_in rule_in words else None
 
 -- A request for a session has to fit a message.
 abbrev pub collect_of : Option (List ℕ) → Option ℕ → Option (List Rule) → Option Command
@@ -34,10 +34,12 @@ collect_of (Some target) (Some megabytes) (Some rules) =
     if nat_le (length (collect_request megabytes rules)) MESSAGE_BYTES then Some (command.Collect target megabytes rules) else None
 collect_of target megabytes rules = None
 
+-- A stop, where both of its words are good.
 abbrev pub stop_of : Option (List ℕ) → Option ℕ → Option Command
 stop_of (Some target) (Some id) = Some (command.Stop target id)
 stop_of target id = None
 
+-- A `ps`, where its word is good.
 abbrev pub ps_of : Option (List ℕ) → Option Command
 ps_of (Some target) = Some (command.Ps target)
 ps_of None = None

@@ -53,7 +53,8 @@ pub(crate) fn ask<L: Link, O: Sink>(
     // Faults.
     ensures link_fault { result ≡ Err LinkFault → HasFailed L.read_faults L.write_faults link.old link.new }
     ensures sound { result ≢ Err LinkFault → IsSound L.read_faults L.write_faults link.old link.new }
-    ensures write_fault { result ≡ Err WriteFault → HasRisen (O.write_faults output.old) (O.write_faults output.new) }
+    ensures write_fault { result ≡ Err WriteFault
+        → HasRisen (O.write_faults output.old) (O.write_faults output.new) }
     ensures written { result ≢ Err WriteFault → O.write_faults output.new ≡ O.write_faults output.old }
 {
     match command {
@@ -100,7 +101,8 @@ fn ask_to_stop<L: Link, O: Sink>(
     ensures asked_part { TookPart L.tells_taken L.taken link.old link.new (stop_request id) }
     ensures link_fault { result ≡ Err LinkFault → HasFailed L.read_faults L.write_faults link.old link.new }
     ensures sound { result ≢ Err LinkFault → IsSound L.read_faults L.write_faults link.old link.new }
-    ensures write_fault { result ≡ Err WriteFault → HasRisen (O.write_faults output.old) (O.write_faults output.new) }
+    ensures write_fault { result ≡ Err WriteFault
+        → HasRisen (O.write_faults output.old) (O.write_faults output.new) }
     ensures written { result ≢ Err WriteFault → O.write_faults output.new ≡ O.write_faults output.old }
 {
     let stopped = stop(alloc, link, id)?;
@@ -133,7 +135,8 @@ fn ask_what_it_is<L: Link, O: Sink>(
     ensures asked_part { TookPart L.tells_taken L.taken link.old link.new info_request }
     ensures link_fault { result ≡ Err LinkFault → HasFailed L.read_faults L.write_faults link.old link.new }
     ensures sound { result ≢ Err LinkFault → IsSound L.read_faults L.write_faults link.old link.new }
-    ensures write_fault { result ≡ Err WriteFault → HasRisen (O.write_faults output.old) (O.write_faults output.new) }
+    ensures write_fault { result ≡ Err WriteFault
+        → HasRisen (O.write_faults output.old) (O.write_faults output.new) }
     ensures written { result ≢ Err WriteFault → O.write_faults output.new ≡ O.write_faults output.old }
 {
     let program = info(alloc, link)?;

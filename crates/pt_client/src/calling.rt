@@ -37,8 +37,8 @@ pub struct Called<L> {
 
 /// Calls the peer that the command names, asks it, and writes what it answers.
 ///
-/// `collect` writes the stream that comes after the reply piece by piece, as it comes. The others write a line, and so do
-/// an error of the peer and a reply that is none.
+/// `collect` writes the stream that comes after the reply piece by piece, as it comes. The others write a line, and so
+/// do an error of the peer and a reply that is none.
 pub fn client<K: Caller, O: Sink>(
     alloc: Global,
     command: &Command<'_>,
@@ -49,7 +49,8 @@ pub fn client<K: Caller, O: Sink>(
 
     // The answer to what the peer says, where the link tells it.
     ensures answered { IfSome result.peer (λ link. IsTrue (K.Link.tells_given link)
-        → Answers O.tells_taken O.taken output.old output.new command.now (K.Link.given link ++ K.Link.left link) result.end) }
+        → Answers O.tells_taken O.taken output.old output.new command.now (K.Link.given link
+        ++ K.Link.left link) result.end) }
     ensures peer_line { result.end.status ≡ statuses.PEER_ERROR
         → TookAll O.tells_taken O.taken output.old output.new (peer_error result.end.code) }
     ensures reply_line { result.end.status ≡ statuses.BAD_REPLY
@@ -73,13 +74,17 @@ pub fn client<K: Caller, O: Sink>(
         × (K.links caller.new ≡ K.links caller.old) × (output.new ≡ output.old)) }
 
     // A fault comes only from the object that was handed in, or from its link.
-    ensures link_fault { result.end.status ≡ statuses.LINK_FAULT → HasRisen (K.call_faults caller.old) (K.call_faults caller.new)
-        ⊎ ((link : K.Link) × (result.peer ≡ Some link) × ((0 < K.Link.read_faults link) ⊎ (0 < K.Link.write_faults link))) }
-    ensures sound { result.end.status ≢ statuses.LINK_FAULT → (K.call_faults caller.new ≡ K.call_faults caller.old)
+    ensures link_fault { result.end.status ≡ statuses.LINK_FAULT
+        → HasRisen (K.call_faults caller.old) (K.call_faults caller.new)
+        ⊎ ((link : K.Link) × (result.peer ≡ Some link)
+        × ((0 < K.Link.read_faults link) ⊎ (0 < K.Link.write_faults link))) }
+    ensures sound { result.end.status ≢ statuses.LINK_FAULT
+        → (K.call_faults caller.new ≡ K.call_faults caller.old)
         × IfSome result.peer (λ link. (K.Link.read_faults link ≡ 0) × (K.Link.write_faults link ≡ 0)) }
     ensures write_fault { result.end.status ≡ statuses.WRITE_FAULT
         → HasRisen (O.write_faults output.old) (O.write_faults output.new) }
-    ensures written { result.end.status ≢ statuses.WRITE_FAULT → O.write_faults output.new ≡ O.write_faults output.old }
+    ensures written { result.end.status ≢ statuses.WRITE_FAULT
+        → O.write_faults output.new ≡ O.write_faults output.old }
 {
     let Ok(mut link) = caller.call(command.target()) else {
         return Called {
@@ -114,9 +119,12 @@ fn end_by<O: Sink>(alloc: Global, fault: CallFault, output: &mut O) -> End
         → WritesLine O.tells_taken O.taken O.write_faults output.old output.new (to_peer_error code) result }
     ensures bad_reply { (at : ℕ) → fault ≡ BadReply at
         → WritesLine O.tells_taken O.taken O.write_faults output.old output.new (to_bad_reply at) result }
-    ensures link_fault { fault ≡ LinkFault → (result ≡ ended statuses.LINK_FAULT) × (output.new ≡ output.old) }
-    ensures write_fault { fault ≡ WriteFault → (result ≡ ended statuses.WRITE_FAULT) × (output.new ≡ output.old) }
-    ensures memory { fault ≡ OutOfMemory → (result ≡ ended statuses.OUT_OF_MEMORY) × (output.new ≡ output.old) }
+    ensures link_fault { fault ≡ LinkFault
+        → (result ≡ ended statuses.LINK_FAULT) × (output.new ≡ output.old) }
+    ensures write_fault { fault ≡ WriteFault
+        → (result ≡ ended statuses.WRITE_FAULT) × (output.new ≡ output.old) }
+    ensures memory { fault ≡ OutOfMemory
+        → (result ≡ ended statuses.OUT_OF_MEMORY) × (output.new ≡ output.old) }
 {
     match fault {
         CallFault::PeerError { code } => say(
@@ -146,7 +154,10 @@ fn end_by<O: Sink>(alloc: Global, fault: CallFault, output: &mut O) -> End
 // Writes a line, where there was memory for it, and ends so.
 fn say<O: Sink>(output: &mut O, line: Result<String, AllocError>, end: End) -> End
     ensures ok { (text : List ℕ) → IfOk line (λ line. string_bytes line ≡ text)
-        → WritesLine O.tells_taken O.taken O.write_faults output.old output.new (record { end = end; text = text }) result }
+        → WritesLine O.tells_taken O.taken O.write_faults output.old output.new (record {
+          end = end;
+          text = text;
+        }) result }
 {
     let Ok(line) = line else {
         return end_of(OUT_OF_MEMORY);

@@ -4,7 +4,7 @@ ghost use Rattle.std.specs.String.{string_bytes};
 ghost use Rattle.pt_client.specs.Words.{command_in, target_in, megabytes_in, rules_in, collect_in, stop_in, ps_in, without_options};
 ghost use Rattle.pt_client.specs.Answers.{Fits};
 
-use crate::limits::MOST_RULES;
+use ep_defs::limits::RULES;
 use ep_defs::{Items, RuleList};
 use ep_plan::{number, rule};
 use ipc_body::{Asked, collect_size};
@@ -173,7 +173,7 @@ fn megabytes_of(word: &[u8]) -> Option<u32>
 fn rules_of(alloc: Global, words: &[&str]) -> Result<Option<RuleList>, AllocError>
     ensures { IfOk result (λ rules. rules ≡ rules_in (map (λ word. word.now) words.now)) }
 {
-    if words.is_empty() || words.len() > MOST_RULES {
+    if words.is_empty() || words.len() > RULES {
         return Ok(None);
     }
     let mut rules = Vec::new(alloc);

@@ -14,6 +14,7 @@ seed_in word = number_in (2 ^ 64 - 1) word
 abbrev pub writes_in : List ℕ → Option ℕ
 writes_in word = at_least 1 (at_most MOST_WRITES (number_in (2 ^ 64 - 1) word))
 
+-- What is asked for, where both numbers are good.
 abbrev pub asked_by : Option ℕ → Option ℕ → Option Asked
 asked_by (Some seed) (Some writes) = Some (record { seed = seed; writes = writes })
 asked_by seed writes = None

@@ -35,14 +35,15 @@ impl From<Failed> for Fault {
     }
 }
 
-/// Makes a whole schedule, and writes what its sessions came to, in one write. Nothing is written before the schedule has
-/// ended.
+/// Makes a whole schedule, and writes what its sessions came to, in one write. Nothing is written before the schedule
+/// has ended.
 pub fn generate<O: Sink>(alloc: Global, asked: Asked, output: &mut O) -> Result<(), Fault>
     requires few { asked.writes ≤ MOST_WRITES }
     ensures done { OnOk result (TookAll O.tells_taken O.taken output.old output.new (gen_text asked.seed asked.writes)) }
 
     // A fault comes only from the output, in this call.
-    ensures write_fault { result ≡ Err fault.Write → HasRisen (O.write_faults output.old) (O.write_faults output.new) }
+    ensures write_fault { result ≡ Err fault.Write
+        → HasRisen (O.write_faults output.old) (O.write_faults output.new) }
     ensures written_part { result ≡ Err fault.Write
         → TookPart O.tells_taken O.taken output.old output.new (gen_text asked.seed asked.writes) }
     ensures all_written { result ≢ Err fault.Write → O.write_faults output.new ≡ O.write_faults output.old }

@@ -78,7 +78,8 @@ fn sums(marks: &[Marks]) -> Counts
 
 /// The lines that tell what a schedule came to.
 pub(crate) fn text_of(alloc: Global, asked: Asked, summary: &Summary) -> Result<Vec<u8>, AllocError>
-    ensures { IfOk result (λ text. text.items ≡ summary_text asked.seed asked.writes summary.now.wide summary.now.narrow) }
+    ensures { IfOk result (λ text. text.items
+        ≡ summary_text asked.seed asked.writes summary.now.wide summary.now.narrow) }
 {
     let mut text = Vec::new(alloc);
     put_word(&mut text, "gen")?;

@@ -30,7 +30,7 @@ one_more count = min (count + 1) (2 ^ 64 - 1)
 abbrev pub fresh_source : List ℕ → ℕ → List ℕ → SourceState
 fresh_source bytes most fails = record { given = []; left = bytes; most = most; fails = fails; calls = 0; faults = 0 }
 
--- The source after a call that gave so many of the bytes that were left.
+-- The source after a call that gave this many of the bytes that were left.
 abbrev pub after_giving : ℕ → SourceState → SourceState
 after_giving count source =
     record source { given = source.given ++ take count source.left; left = drop count source.left; calls = one_more source.calls }
@@ -51,7 +51,7 @@ fresh_sink fails = partial_sink fails 0
 abbrev pub after_taking : List ℕ → SinkState → SinkState
 after_taking piece sink = record sink { taken = sink.taken ++ piece; calls = one_more sink.calls }
 
--- What such a sink takes of a piece at a call that fails: so many bytes, or all but the last where that is fewer.
+-- What such a sink takes of a piece at a call that fails: this many bytes, or all but the last where that is fewer.
 abbrev pub kept_of : ℕ → List ℕ → List ℕ
 kept_of keep piece = take (min keep (length piece - 1)) piece
 

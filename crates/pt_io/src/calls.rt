@@ -12,7 +12,7 @@ pub(crate) fn count_call(calls: &mut u64, fails: &[u64]) -> bool
             *calls = number;
             fails.contains(&number)
         }
-        // No number names the calls behind the last that can be counted.
+        // No number names the calls after the last that can be counted.
         None => false,
     }
 }

@@ -18,7 +18,7 @@ pub enum Moment {
     Wrote { thread: u32, index: u32 },
     /// A session is open on all rows.
     Opened { session: u64 },
-    /// A session's records were taken, so many of them, or none.
+    /// A session's records were taken, this many of them, or none.
     Swept { session: u64, taken: u64 },
     /// A connection got its reply.
     Answered { conn: u32 },

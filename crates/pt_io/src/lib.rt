@@ -1,5 +1,5 @@
-//! The outside: where bytes come from and where they go, peers, clocks and gates, as traits whose contracts say what each
-//! call read, took or gave.
+//! The outside: where bytes come from and where they go, peers, clocks and gates, as traits whose contracts say what
+//! each call read, took or gave.
 //!
 //! It stands on nothing. A crate above is generic over these traits, so that its contracts speak of bytes: over
 //! objects in memory they tell all of them, over a file or a socket none. Logic never opens anything by itself.

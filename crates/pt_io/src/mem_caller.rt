@@ -61,7 +61,8 @@ impl Caller for MemCaller {
 
     /// Gives the next link. It fails where its number is one of `fails`, and where no link is left.
     fn call(&mut self, _target: &str) -> Result<MemLink, Failed>
-        ensures fails { IsErr result ↔ (Contains self.old.fails (self.old.calls + 1) ⊎ (self.old.links ≡ [])) }
+        ensures fails { IsErr result
+            ↔ (Contains self.old.fails (self.old.calls + 1) ⊎ (self.old.links ≡ [])) }
         ensures first { IfOk result (λ link. self.old.links ≡ link ∷ self.new.links) }
         ensures after { OnOk result (self.new ≡ after_call self.old) }
         ensures after_err { OnErr result (self.new ≡ after_failed_call self.old) }

@@ -11,8 +11,8 @@ use crate::source::Failed;
 use std::collections::VecDeque;
 use std::marker::Model;
 
-/// A dock that has some quiet turns, then gives links of memory in their order and is closed then. It fails at the calls
-/// that it is told. It greets nobody.
+/// A dock that has some quiet turns, then gives links of memory in their order and is closed then. It fails at the
+/// calls that it is told. It greets nobody.
 #[derive(Debug, Drop)]
 pub struct MemDock {
     quiet: u32,
@@ -42,7 +42,7 @@ impl Model for MemDock {
 }
 
 impl MemDock {
-    /// A dock of so many quiet turns and these links. `fails` are the numbers, from 1, of the calls that fail.
+    /// A dock of this many quiet turns and these links. `fails` are the numbers, from 1, of the calls that fail.
     pub fn new(links: VecDeque<MemLink>, quiet: u32, fails: Vec<u64>) -> MemDock
         requires { All IsUnused links.items }
         ensures { result ≡ fresh_dock links.items quiet fails.items }

@@ -58,7 +58,8 @@ impl Source for MemLink {
         requires { 0 < length buf.old }
 
         ensures fails { IsErr result ↔ Contains self.old.source.fails (self.old.source.calls + 1) }
-        ensures count { IfOk result (λ n. n ≡ min (min self.old.source.most (length buf.old)) (length self.old.source.left)) }
+        ensures count { IfOk result (λ n. n
+            ≡ min (min self.old.source.most (length buf.old)) (length self.old.source.left)) }
         ensures front { IfOk result (λ n. take n buf.new ≡ take n self.old.source.left) }
         ensures rest { IfOk result (λ n. drop n buf.new ≡ drop n buf.old) }
         ensures after { IfOk result (λ n. self.new.source ≡ after_giving n self.old.source) }

@@ -39,8 +39,8 @@ impl MemSink {
         MemSink::partial(fails, 0)
     }
 
-    /// A sink that has taken nothing. `fails` are the numbers, from 1, of the writes that fail. Such a write takes the first
-    /// `keep` bytes of its piece, or all but the last where that is fewer.
+    /// A sink that has taken nothing. `fails` are the numbers, from 1, of the writes that fail. Such a write takes the
+    /// first `keep` bytes of its piece, or all but the last where that is fewer.
     pub fn partial(fails: Vec<u64>, keep: usize) -> MemSink
         ensures { result ≡ partial_sink fails.items keep }
     {
@@ -68,8 +68,8 @@ impl Sink for MemSink {
 
     ghost write_faults = { λ s. s.faults };
 
-    /// Takes the whole piece. It fails where its number is one of `fails`, and takes then what it keeps, or where no memory
-    /// is left, and takes nothing then.
+    /// Takes the whole piece. It fails where its number is one of `fails`, and takes then what it keeps, or where no
+    /// memory is left, and takes nothing then.
     fn write(&mut self, piece: &[u8]) -> Result<(), Failed>
         ensures fails { Contains self.old.fails (self.old.calls + 1) → IsErr result }
         ensures after { OnOk result (self.new ≡ after_taking piece.now self.old) }

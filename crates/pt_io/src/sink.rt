@@ -23,7 +23,8 @@ pub trait Sink {
     /// Takes the whole piece, or fails and has taken a prefix of it.
     fn write(&mut self, piece: &[u8]) -> Result<(), Failed>
         ensures told { tells_taken self.new ≡ tells_taken self.old }
-        ensures taken { IsTrue (tells_taken self.old) → OnOk result (taken self.new ≡ taken self.old ++ piece.now) }
+        ensures taken { IsTrue (tells_taken self.old)
+            → OnOk result (taken self.new ≡ taken self.old ++ piece.now) }
         ensures part { IsTrue (tells_taken self.old)
             → OnErr result (TookPartOf piece.now (taken self.old) (taken self.new)) }
         ensures failed { OnErr result (HasRisen (write_faults self.old) (write_faults self.new)) }

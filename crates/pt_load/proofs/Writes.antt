@@ -68,11 +68,6 @@ pub activity_none : (event thread index : ℕ) → 3 < event → replicate 16 0 
 unfolding activity_of
 activity_none event thread index many = rw (lt-leb event 3 many) refl
 
--- a list of no length
-pub no_length : (xs : List ℕ) → length xs ≡ 0 → xs ≡ []
-no_length [] e = refl
-no_length (x ∷ xs) e = absurd (omega arith)
-
 -- a list with these numbers is the list of the frames
 pub frames_are : (index : ℕ) (l : List ℕ) → length l ≡ index % 4 → ((k : ℕ) → k < index % 4 → get_or l k 0 ≡ frame_of index k) → l ≡ frames_of index
 unfolding frames_of

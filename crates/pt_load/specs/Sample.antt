@@ -7,6 +7,7 @@ use Rattle.ep_defs.specs.declared.event.EventDef.{EventDef}
 use Rattle.ep_defs.specs.declared.event.FieldDef.{FieldDef}
 use Rattle.ep_defs.specs.declared.session.Write.{Write}
 use Rattle.pt_load.specs.declared.plan.Plan.{Plan}
+use Rattle.pt_load.specs.declared.draft.TheConstants.{CALL_BYTES, CODE_ADDRESS, FRAME_COUNTS, FUNCTION_BYTES, FUNCTIONS}
 use Rattle.pt_load.specs.declared.events.TheConstants.{INDEX_CODE, THREAD_CODE}
 
 -- ---- the events
@@ -58,11 +59,11 @@ payload_of event thread index = flat_map (field_bytes thread index) (fields_of e
 
 -- A return address.
 abbrev pub frame_of : ℕ → ℕ → ℕ
-frame_of index place = 4194304 + 4096 * (index % 16) + 16 * place
+frame_of index place = CODE_ADDRESS + FUNCTION_BYTES * (index % FUNCTIONS) + CALL_BYTES * place
 
 -- None to three frames.
 unfoldable pub frames_of : ℕ → List ℕ
-frames_of index = take (index % 4) (map (frame_of index) (0 ∷ 1 ∷ 2 ∷ []))
+frames_of index = take (index % FRAME_COUNTS) (map (frame_of index) (0 ∷ 1 ∷ 2 ∷ []))
 
 -- Requests have an activity: the thread and the index, each in eight bytes.
 unfoldable pub activity_of : ℕ → ℕ → ℕ → List ℕ

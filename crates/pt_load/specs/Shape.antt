@@ -15,7 +15,7 @@ pub record IsShape (event thread index : ℕ) (write : Write) : Type 0 where
   pub related : write.related ≡ replicate 16 0
   pub frames : length write.frames ≡ index % 4
   pub payload : length write.payload ≡ length (payload_of event thread 0)
-  -- what stands behind the index
+  -- what stands after the index
   pub rest : drop 4 write.payload ≡ drop 4 (payload_of event thread 0)
 
 -- The eight shapes of a thread's writes.

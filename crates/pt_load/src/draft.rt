@@ -62,7 +62,7 @@ impl Draft {
         })
     }
 
-    /// The thread's write after so many others. It takes no memory.
+    /// The thread's write after this many others. It takes no memory.
     pub fn nth(&mut self, index: u32) -> &Write
         ensures write { result.now ≡ nth self.old.plan self.old.thread index }
         ensures* after { sem 𝓛 (StaysTheSame self.entry) }
@@ -73,7 +73,7 @@ impl Draft {
     }
 }
 
-/// The write of a thread, from 1, after so many others, in memory of its own.
+/// The write of a thread, from 1, after this many others, in memory of its own.
 pub fn nth_write(alloc: Global, plan: &Plan, thread: u32, index: u32) -> Result<Write, AllocError>
     ensures { IfOk result (λ write. write ≡ nth plan.now thread index) }
 {

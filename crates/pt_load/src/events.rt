@@ -83,7 +83,8 @@ fn event(
     name: &str,
     fields: &[(&str, u8)],
 ) -> Result<EventDef, AllocError>
-    ensures { IfOk result (λ def. def ≡ sample.event provider.now id level keywords name.now (map (λ field. record { depth = 0; code = field.1; name = field.0.now }) fields.now)) }
+    ensures { IfOk result (λ def. def
+        ≡ sample.event provider.now id level keywords name.now (map (λ field. record { depth = 0; code = field.1; name = field.0.now }) fields.now)) }
 {
     Ok(EventDef {
         provider: units(alloc, provider)?,
@@ -108,7 +109,8 @@ pub fn units(alloc: Global, text: &str) -> Result<Units, AllocError>
 }
 
 fn outermost(alloc: Global, fields: &[(&str, u8)]) -> Result<FieldList, AllocError>
-    ensures { IfOk result (λ defs. defs ≡ map (λ field. record { depth = 0; code = field.1; name = field.0.now }) fields.now) }
+    ensures { IfOk result (λ defs. defs
+        ≡ map (λ field. record { depth = 0; code = field.1; name = field.0.now }) fields.now) }
 {
     let mut defs = Vec::with_capacity(alloc, fields.len())?;
     for field in fields {

@@ -50,6 +50,13 @@ fixed_few w bytes few = cond-true _ _ _ (lt-ltb (length bytes) (byte_len w) few)
 pub fixed_enough : (w : Width) (bytes : List ℕ) → byte_len w ≤ length bytes → fixed_at w bytes ≡ Ok (little_number (byte_len w) bytes, drop (byte_len w) bytes)
 fixed_enough w bytes enough = cond-false _ _ _ (le-ltb (length bytes) (byte_len w) enough)
 
+-- What is read as a number is there.
+pub number_within : (w : Width) (bytes rest : List ℕ) (value : ℕ) → fixed_at w bytes ≡ Ok (value, rest) → byte_len w ≤ length bytes
+number_within w bytes rest value e = elim (cases_lt (length bytes) (byte_len w)) [
+  | inl few ↦ absurd (cc (fixed_few w bytes few))
+  | inr enough ↦ enough
+]
+
 -- A number that is read begins the bytes.
 begins_fixed : (w : Width) (bytes rest : List ℕ) (n : ℕ) → (byte_len w ≤ length bytes → fixed w (little_number (byte_len w) bytes) ≡ take (byte_len w) bytes) → fixed_at w bytes ≡ Ok (n, rest) → Begins (Exactly (fixed w n)) bytes rest
 begins_fixed w bytes rest n form e =

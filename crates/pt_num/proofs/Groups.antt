@@ -5,16 +5,17 @@ use Rattle.std.specs.Int.{w32, w64, is_in_range}
 use Rattle.std.proofs.Math.Nat.{div-lt_iff_lt-mul, pow-suc}
 use Rattle.std.proofs.lemmas.Bool.{lt-ltb, and_from, false≢true}
 use Rattle.std.proofs.lemmas.Bool.Decides.{nat_tests}
+use Rattle.pt_num.specs.declared.limits.TheConstants.{GROUP}
 use Rattle.pt_num.specs.Numbers.{are_groups, groups_value, last_byte, short_groups, short_var, IsShortVar}
 
 -- A value below 128 is one group.
-pub short_groups-last : (n value : ℕ) → 0 < n → value < 128 → short_groups n value ≡ value ∷ []
+pub short_groups-last : (n value : ℕ) → 0 < n → value < GROUP → short_groups n value ≡ value ∷ []
 unfolding short_groups
 short_groups-last zero value some few = absurd (omega arith)
 short_groups-last (suc n) value some few = grind (arith, nat_tests)
 
 -- Another one has its low seven bits first.
-pub short_groups-next : (n more value : ℕ) → n ≡ more + 1 → 128 ≤ value → short_groups n value ≡ (128 + value % 128) ∷ short_groups more (value / 128)
+pub short_groups-next : (n more value : ℕ) → n ≡ more + 1 → GROUP ≤ value → short_groups n value ≡ (GROUP + value % GROUP) ∷ short_groups more (value / GROUP)
 unfolding short_groups
 short_groups-next zero more value is many = absurd (omega arith)
 short_groups-next (suc n) more value is many =
@@ -22,15 +23,15 @@ short_groups-next (suc n) more value is many =
     rw same (grind (arith, nat_tests))
 
 -- A value is either below 128 or not.
-few_or_many : (value : ℕ) → (value < 128) ⊎ (128 ≤ value)
+few_or_many : (value : ℕ) → (value < GROUP) ⊎ (GROUP ≤ value)
 few_or_many value = grind arith
 
 -- What is left of a value fits one group less.
-less_fits : (n value : ℕ) → value < 128 ^ suc n → value / 128 < 128 ^ n
-less_fits n value fits = (div-lt_iff_lt-mul {k = 128} {x = value} {y = 128 ^ n} (lit< tt)).1 (rw pow-suc at fits)
+less_fits : (n value : ℕ) → value < GROUP ^ suc n → value / GROUP < GROUP ^ n
+less_fits n value fits = (div-lt_iff_lt-mul {k = GROUP} {x = value} {y = GROUP ^ n} (lit< tt)).1 (rw pow-suc at fits)
 
 -- A value that is more than one group fits no less than two.
-two_at_least : (n value : ℕ) → value < 128 ^ n → 128 ≤ value → 2 ≤ n
+two_at_least : (n value : ℕ) → value < GROUP ^ n → GROUP ≤ value → 2 ≤ n
 two_at_least zero value fits many = absurd (omega arith)
 two_at_least (suc zero) value fits many = absurd (omega arith)
 two_at_least (suc (suc n)) value fits many = omega arith
@@ -40,7 +41,7 @@ fewer : {n : ℕ} → 2 ≤ suc n → 0 < n
 fewer two = omega arith
 
 -- Any numbers of groups that the value fits give the same.
-pub same_groups : (n m value : ℕ) → 0 < n → 0 < m → value < 128 ^ n → value < 128 ^ m → short_groups n value ≡ short_groups m value
+pub same_groups : (n m value : ℕ) → 0 < n → 0 < m → value < GROUP ^ n → value < GROUP ^ m → short_groups n value ≡ short_groups m value
 same_groups zero m value some more fits fit = absurd (omega arith)
 same_groups (suc n) zero value some more fits fit = absurd (omega arith)
 same_groups (suc n) (suc m) value some more fits fit =
@@ -48,8 +49,8 @@ same_groups (suc n) (suc m) value some more fits fit =
       | inl few ↦ short_groups-last (suc n) value some few ∙ sym (short_groups-last (suc m) value more few)
       | inr many ↦
           short_groups-next (suc n) n value (omega arith) many
-          ∙ ap (λ (groups : List ℕ). (128 + value % 128) ∷ groups)
-          (same_groups n m (value / 128) (fewer (two_at_least (suc n) value fits many)) (fewer (two_at_least (suc m) value fit many)) (less_fits n value fits) (less_fits m value fit))
+          ∙ ap (λ (groups : List ℕ). (GROUP + value % GROUP) ∷ groups)
+          (same_groups n m (value / GROUP) (fewer (two_at_least (suc n) value fits many)) (fewer (two_at_least (suc m) value fit many)) (less_fits n value fits) (less_fits m value fit))
           ∙ sym (short_groups-next (suc m) m value (omega arith) many)
     ]
 
@@ -63,7 +64,7 @@ same_as_64 value fits = same_groups 10 5 value (omega arith) (omega arith) (omeg
 pub record Remains (bytes : List ℕ) (len capacity rest : ℕ) (all : List ℕ) (total : ℕ) : Type 0 where
   pub left : ℕ
   pub some : 0 < left
-  pub fits : rest < 128 ^ left
+  pub fits : rest < GROUP ^ left
   pub put : bytes ++ short_groups left rest ≡ all
   pub room : total ≤ capacity
   pub whole : len + length (short_groups left rest) ≡ total
@@ -77,16 +78,16 @@ groups_room bytes len capacity rest all total remains =
     ]
 
 -- The last group is put.
-pub groups_end : (bytes : List ℕ) (len capacity rest : ℕ) (all : List ℕ) (total : ℕ) → rest < 128 → Remains bytes len capacity rest all total → bytes ++ rest ∷ [] ≡ all
+pub groups_end : (bytes : List ℕ) (len capacity rest : ℕ) (all : List ℕ) (total : ℕ) → rest < GROUP → Remains bytes len capacity rest all total → bytes ++ rest ∷ [] ≡ all
 groups_end bytes len capacity rest all total few remains = rw (short_groups-last remains.left rest remains.some few) at remains.put
 
 -- With the last group all is put.
-pub groups_len : (bytes : List ℕ) (len capacity rest : ℕ) (all : List ℕ) (total : ℕ) → rest < 128 → Remains bytes len capacity rest all total → len + 1 ≡ total
+pub groups_len : (bytes : List ℕ) (len capacity rest : ℕ) (all : List ℕ) (total : ℕ) → rest < GROUP → Remains bytes len capacity rest all total → len + 1 ≡ total
 groups_len bytes len capacity rest all total few remains =
     omega (arith, remains.whole, ap length (short_groups-last remains.left rest remains.some few))
 
 -- A group is put that is not the last.
-pub groups_step : (bytes : List ℕ) (len capacity rest : ℕ) (all : List ℕ) (total : ℕ) → 128 ≤ rest → Remains bytes len capacity rest all total → Remains (bytes ++ (128 + rest % 128) ∷ []) (len + 1) capacity (rest / 128) all total
+pub groups_step : (bytes : List ℕ) (len capacity rest : ℕ) (all : List ℕ) (total : ℕ) → GROUP ≤ rest → Remains bytes len capacity rest all total → Remains (bytes ++ (GROUP + rest % GROUP) ∷ []) (len + 1) capacity (rest / GROUP) all total
 groups_step bytes len capacity rest all total many remains =
     let two = two_at_least remains.left rest remains.fits many in
     let next : remains.left ≡ (remains.left - 1) + 1 = omega arith in
@@ -97,7 +98,7 @@ groups_step bytes len capacity rest all total many remains =
       some = omega arith;
       fits = less_fits (remains.left - 1) rest (rw over at remains.fits);
       put =
-          append_assoc bytes ((128 + rest % 128) ∷ []) (short_groups (remains.left - 1) (rest / 128))
+          append_assoc bytes ((GROUP + rest % GROUP) ∷ []) (short_groups (remains.left - 1) (rest / GROUP))
           ∙ (rw groups at remains.put);
       room = remains.room;
       whole = omega (arith, remains.whole, ap length groups);
@@ -106,13 +107,13 @@ groups_step bytes len capacity rest all total many remains =
 -- ---- the short form
 
 -- Seven bits with the high bit set.
-in_high : (n : ℕ) → is_in_range 128 255 (128 + n % 128) ≡ true
+in_high : (n : ℕ) → is_in_range GROUP 255 (GROUP + n % GROUP) ≡ true
 in_high n = grind (arith, nat_tests)
 
 -- One more byte with its high bit set.
-are_groups-more : (b : ℕ) (bytes : List ℕ) → is_in_range 128 255 b ≡ true → are_groups bytes ≡ true → are_groups (b ∷ bytes) ≡ true
+are_groups-more : (b : ℕ) (bytes : List ℕ) → is_in_range GROUP 255 b ≡ true → are_groups bytes ≡ true → are_groups (b ∷ bytes) ≡ true
 are_groups-more b [] high h = absurd (false≢true h)
-are_groups-more b (c ∷ bytes) high h = and_from (is_in_range 128 255 b) (are_groups (c ∷ bytes)) high h
+are_groups-more b (c ∷ bytes) high h = and_from (is_in_range GROUP 255 b) (are_groups (c ∷ bytes)) high h
 
 -- Bytes after a first one end as they do.
 last_byte-more : (b : ℕ) (bytes : List ℕ) → 0 < last_byte bytes → 0 < last_byte (b ∷ bytes)
@@ -128,9 +129,9 @@ record IsShort (more n : ℕ) (bytes : List ℕ) : Type 0 where
   pub none : n ≡ 0 → bytes ≡ 0 ∷ []
 
 -- The last group.
-short-last : (more n : ℕ) → n < 128 → IsShort (suc more) n (n ∷ [])
+short-last : (more n : ℕ) → n < GROUP → IsShort (suc more) n (n ∷ [])
 short-last more n low = record {
-  groups = lt-ltb n 128 low;
+  groups = lt-ltb n GROUP low;
   few = omega arith;
   sum = omega arith;
   short = λ some. some;
@@ -138,27 +139,27 @@ short-last more n low = record {
 }
 
 -- A group before the others.
-short-more : (more n : ℕ) (bytes : List ℕ) → 128 ≤ n → IsShort more (n / 128) bytes → IsShort (suc more) n ((128 + n % 128) ∷ bytes)
+short-more : (more n : ℕ) (bytes : List ℕ) → GROUP ≤ n → IsShort more (n / GROUP) bytes → IsShort (suc more) n ((GROUP + n % GROUP) ∷ bytes)
 short-more more n bytes many h =
     record {
-      groups = are_groups-more (128 + n % 128) bytes (in_high n) h.groups;
+      groups = are_groups-more (GROUP + n % GROUP) bytes (in_high n) h.groups;
       few = omega (arith, h.few);
       sum = value (groups_value bytes) h.sum;
-      short = λ some. last_byte-more (128 + n % 128) bytes (h.short (omega arith));
+      short = λ some. last_byte-more (GROUP + n % GROUP) bytes (h.short (omega arith));
       none = λ none. absurd (omega arith);
     }
   where
-    value : (v : ℕ) → n / 128 ≡ v → n ≡ (128 + n % 128) % 128 + 128 * v
+    value : (v : ℕ) → n / GROUP ≡ v → n ≡ (GROUP + n % GROUP) % GROUP + GROUP * v
     value v e = omega arith
 
 -- The groups of a number that fits them, by its last group.
-short_is : (more n : ℕ) → 0 < more → n < 128 ^ more → IsShort more n (short_groups more n)
+short_is : (more n : ℕ) → 0 < more → n < GROUP ^ more → IsShort more n (short_groups more n)
 short_is zero n some h = absurd (omega arith)
 short_is (suc more) n some h =
     elim (few_or_many n) [
       | inl few ↦ subst (λ (bytes : List ℕ). IsShort (suc more) n bytes) (sym (short_groups-last (suc more) n some few)) (short-last more n few)
       | inr many ↦ subst (λ (bytes : List ℕ). IsShort (suc more) n bytes) (sym (short_groups-next (suc more) more n (omega arith) many))
-          (short-more more n (short_groups more (n / 128)) many (short_is more (n / 128) (fewer (two_at_least (suc more) n h many)) (less_fits more n h)))
+          (short-more more n (short_groups more (n / GROUP)) many (short_is more (n / GROUP) (fewer (two_at_least (suc more) n h many)) (less_fits more n h)))
     ]
 
 -- The single byte 0, or a last byte that is not 0.
@@ -191,5 +192,5 @@ short_len zero n = omega arith
 short_len (suc more) n =
     elim (few_or_many n) [
       | inl few ↦ omega (arith, ap length (short_groups-last (suc more) n (omega arith) few))
-      | inr many ↦ omega (arith, short_len more (n / 128), ap length (short_groups-next (suc more) more n (omega arith) many))
+      | inr many ↦ omega (arith, short_len more (n / GROUP), ap length (short_groups-next (suc more) more n (omega arith) many))
     ]

@@ -2,6 +2,7 @@ pub mod FixedForms
 pub mod Forms
 pub mod Fronts
 pub mod Groups
+pub mod Joined
 pub mod Kept
 pub mod Lengths
 pub mod Reading

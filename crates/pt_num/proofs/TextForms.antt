@@ -94,7 +94,7 @@ unit_first bytes count within =
     ∙ ap (λ (rest : List ℕ). get_or bytes (2 * count) 0 ∷ rest)
     (drop_more bytes (2 * count + 1) 0 (omega arith) ∙ ap (λ (n : ℕ). get_or bytes (2 * count + 1) 0 ∷ drop n bytes) same)
 
--- So many units are read, none of which is zero.
+-- This many units are read, none of which is zero.
 pub record Skims (bytes rest : List ℕ) (count : ℕ) : Type 0 where
   pub front : List ℕ
   pub whole : bytes ≡ front ++ rest
@@ -246,7 +246,7 @@ four_there bytes count counts =
       | inr enough ↦ enough
     ]
 
--- So many units are read, whatever follows.
+-- This many units are read, whatever follows.
 units_read : (count : ℕ) (front rest : List ℕ) → length front ≡ 2 * count → units_at count (front ++ rest) ≡ Ok (units_in front, rest)
 unfolding units_at
 units_read zero [] rest long = refl
@@ -257,7 +257,7 @@ units_read (suc count) (low ∷ high ∷ front) rest long =
     ap (λ (field : Field ℕ). field >>= λ unit. with_unit unit.0 (units_at count unit.1)) (unit_at low high (front ++ rest))
     ∙ ap (with_unit (low + 256 * high)) (units_read count front rest (omega (arith, long)))
 
--- Too few bytes for so many units.
+-- Too few bytes for this many units.
 units_short : (count : ℕ) (bytes : List ℕ) → length bytes < 2 * count → units_at count bytes ≡ Err Short
 unfolding units_at
 units_short zero bytes few = absurd (omega arith)

@@ -1,11 +1,14 @@
--- What stands at the front of some bytes: a value and the bytes after it, or why there is none (this project's profile says what is refused).
+-- What stands at the front of some bytes: a value and the bytes after it, or why there is none (this project's profile
+-- says what is refused).
 use Rattle.std.specs.Prelude.{ℕ, zero, suc, ◌+◌, ◌-◌, ◌*◌, ◌%◌, ◌^◌, List, [], ◌∷◌, length, take, drop, Result, Ok, Err, nat_lt, nat_le, ◌==◌, if◌then◌else◌}
 use Rattle.std.specs.Int.{Width, w16, w32, byte_len}
 use Rattle.byteorder.specs.Endian.{little_number}
+use Rattle.pt_num.specs.declared.limits.TheConstants.{GROUP}
 use Rattle.pt_num.specs.Steps.{◌>>=◌, check}
 use Rattle.pt_num.specs.Numbers.{bit_len, most_groups}
 
--- Why there is no value: the bytes end too early, the varuint that begins these bytes is too wide for its type, or the last unit of a counted text is not zero.
+-- Why there is no value: the bytes end too early, the varuint that begins these bytes is too wide for its type, or the
+-- last unit of a counted text is not zero.
 pub data Fault : Type 0 where
   Short : Fault
   TooWide : (from : List ℕ) → Fault
@@ -32,15 +35,16 @@ last_group w = 2 ^ (bit_len w - 7 * (most_groups w - 1)) - 1
 
 -- Seven bits, and above them what a field of more groups has.
 abbrev pub with_group : ℕ → Field ℕ → Field ℕ
-with_group b (Ok high) = Ok (b % 128 + 128 * high.0, high.1)
+with_group b (Ok high) = Ok (b % GROUP + GROUP * high.0, high.1)
 with_group b (Err fault) = Err fault
 
--- At most one group more than so many; in the last place at most this value. Otherwise the varuint from these bytes on is too wide.
+-- At most one group more than so many; in the last place at most this value. Otherwise the varuint from these bytes on
+-- is too wide.
 unfoldable pub groups_at : List ℕ → ℕ → ℕ → List ℕ → Field ℕ
 groups_at from more last [] = Err Short
 groups_at from zero last (b ∷ bytes) = if nat_le b last then Ok (b, bytes) else Err (TooWide from)
 groups_at from (suc more) last (b ∷ bytes) =
-    if nat_lt b 128 then Ok (b, bytes) else with_group b (groups_at from more last bytes)
+    if nat_lt b GROUP then Ok (b, bytes) else with_group b (groups_at from more last bytes)
 
 -- A varuint, in any form whose value fits.
 abbrev pub var_at : Width → List ℕ → Field ℕ

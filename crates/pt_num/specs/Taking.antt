@@ -4,6 +4,7 @@ use Rattle.std.specs.List.{list_all}
 use Rattle.std.specs.Int.{Width, w32, byte_len}
 use Rattle.byteorder.specs.Endian.{little_number}
 use Rattle.ep_defs.specs.Text.{units_in}
+use Rattle.pt_num.specs.declared.limits.TheConstants.{GROUP}
 use Rattle.pt_num.specs.declared.varuint.Taken.{Taken}
 use Rattle.pt_num.specs.declared.varuint.Taken.TheVariants as taken
 use Rattle.pt_num.specs.declared.text.TakenText.{TakenText}
@@ -32,7 +33,7 @@ IfValue taken.TooWide P = Unit {0}
 
 -- Each byte says that more follow.
 abbrev pub are_high : List ℕ → Type 0
-are_high bytes = IsTrue (list_all (λ b. nat_le 128 b) bytes)
+are_high bytes = IsTrue (list_all (λ b. nat_le GROUP b) bytes)
 
 -- Fewer bytes than a varuint can have, each of which says that more follow.
 abbrev pub IsCut : Width → List ℕ → Type 0

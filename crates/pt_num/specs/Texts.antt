@@ -8,7 +8,8 @@ use Rattle.pt_num.specs.Numbers.{fixed}
 abbrev pub units_bytes : List ℕ → List ℕ
 units_bytes units = flat_map (fixed w16) units
 
--- A text that a zero unit ends, as in metadata (the NetTrace format document of PerfView (version 4), metadata payloads).
+-- A text that a zero unit ends, as in metadata (the NetTrace format document of PerfView (version 4), metadata
+-- payloads).
 abbrev pub text_z : List ℕ → List ℕ
 text_z units = units_bytes units ++ fixed w16 0
 
@@ -16,7 +17,8 @@ text_z units = units_bytes units ++ fixed w16 0
 abbrev pub are_units : List ℕ → Bool
 are_units units = list_all (λ unit. is_in_range 1 65535 unit) units
 
--- The bytes are this text with its final zero unit (the NetTrace format document of PerfView (version 4), metadata payloads).
+-- The bytes are this text with its final zero unit (the NetTrace format document of PerfView (version 4), metadata
+-- payloads).
 pub record IsTextZ (units bytes : List ℕ) : Type 0 where
   pub spelled : bytes ≡ text_z units
   pub no_zero : IsTrue (are_units units)
@@ -25,11 +27,13 @@ pub record IsTextZ (units bytes : List ℕ) : Type 0 where
 abbrev pub are_wide : List ℕ → Bool
 are_wide units = list_all (λ unit. is_in_range 0 65535 unit) units
 
--- A text with its count, which counts the final zero unit (the DOTNET_IPC_V1 protocol document of dotnet/diagnostics, "string").
+-- A text with its count, which counts the final zero unit (the DOTNET_IPC_V1 protocol document of dotnet/diagnostics,
+-- "string").
 abbrev pub text_c : List ℕ → List ℕ
 text_c units = fixed w32 (length units + 1) ++ text_z units
 
--- The bytes are this counted text: the empty one has a second form, the count 0 alone (the DOTNET_IPC_V1 protocol document of dotnet/diagnostics, "string").
+-- The bytes are this counted text: the empty one has a second form, the count 0 alone (the DOTNET_IPC_V1 protocol
+-- document of dotnet/diagnostics, "string").
 abbrev pub IsTextC : List ℕ → List ℕ → Type 0
 IsTextC units bytes =
     ((bytes ≡ fixed w32 0) × (units ≡ []))

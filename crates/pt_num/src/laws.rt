@@ -10,13 +10,20 @@ ghost use Rattle.pt_num.specs.Fields.{fixed_at, text_c_at, text_z_at, var_at};
 
 /// A number or a text is read back from its bytes, whatever follows.
 pub fn what_is_put_is_taken()
-    ensures fixed16 { (n : ℕ) (rest : List ℕ) → n < 2 ^ 16 → fixed_at w16 (fixed w16 n ++ rest) ≡ Ok (n, rest) }
-    ensures fixed32 { (n : ℕ) (rest : List ℕ) → n < 2 ^ 32 → fixed_at w32 (fixed w32 n ++ rest) ≡ Ok (n, rest) }
-    ensures fixed64 { (n : ℕ) (rest : List ℕ) → n < 2 ^ 64 → fixed_at w64 (fixed w64 n ++ rest) ≡ Ok (n, rest) }
-    ensures var32 { (n : ℕ) (bytes rest : List ℕ) → IsVar w32 n bytes → var_at w32 (bytes ++ rest) ≡ Ok (n, rest) }
-    ensures var64 { (n : ℕ) (bytes rest : List ℕ) → IsVar w64 n bytes → var_at w64 (bytes ++ rest) ≡ Ok (n, rest) }
-    ensures text_z { (units bytes rest : List ℕ) → IsTextZ units bytes → text_z_at (bytes ++ rest) ≡ Ok (units, rest) }
-    ensures text_c { (units bytes rest : List ℕ) → IsTextC units bytes → text_c_at (bytes ++ rest) ≡ Ok (units, rest) }
+    ensures fixed16 { (n : ℕ) (rest : List ℕ) → n < 2 ^ 16
+        → fixed_at w16 (fixed w16 n ++ rest) ≡ Ok (n, rest) }
+    ensures fixed32 { (n : ℕ) (rest : List ℕ) → n < 2 ^ 32
+        → fixed_at w32 (fixed w32 n ++ rest) ≡ Ok (n, rest) }
+    ensures fixed64 { (n : ℕ) (rest : List ℕ) → n < 2 ^ 64
+        → fixed_at w64 (fixed w64 n ++ rest) ≡ Ok (n, rest) }
+    ensures var32 { (n : ℕ) (bytes rest : List ℕ) → IsVar w32 n bytes
+        → var_at w32 (bytes ++ rest) ≡ Ok (n, rest) }
+    ensures var64 { (n : ℕ) (bytes rest : List ℕ) → IsVar w64 n bytes
+        → var_at w64 (bytes ++ rest) ≡ Ok (n, rest) }
+    ensures text_z { (units bytes rest : List ℕ) → IsTextZ units bytes
+        → text_z_at (bytes ++ rest) ≡ Ok (units, rest) }
+    ensures text_c { (units bytes rest : List ℕ) → IsTextC units bytes
+        → text_c_at (bytes ++ rest) ≡ Ok (units, rest) }
 {}
 
 /// What is read begins with a form of its value.
@@ -45,9 +52,11 @@ pub fn no_form_begins_another()
         → fixed w32 n ++ more ≡ fixed w32 m ++ other → (n ≡ m) × (more ≡ other) }
     ensures fixed64 { (n m : ℕ) (more other : List ℕ) → n < 2 ^ 64 → m < 2 ^ 64
         → fixed w64 n ++ more ≡ fixed w64 m ++ other → (n ≡ m) × (more ≡ other) }
-    ensures var32 { (n m : ℕ) (xs ys more other : List ℕ) → IsVar w32 n xs → IsVar w32 m ys → xs ++ more ≡ ys ++ other
+    ensures var32 { (n m : ℕ) (xs ys more other : List ℕ) → IsVar w32 n xs → IsVar w32 m ys
+        → xs ++ more ≡ ys ++ other
         → (n ≡ m) × (xs ≡ ys) }
-    ensures var64 { (n m : ℕ) (xs ys more other : List ℕ) → IsVar w64 n xs → IsVar w64 m ys → xs ++ more ≡ ys ++ other
+    ensures var64 { (n m : ℕ) (xs ys more other : List ℕ) → IsVar w64 n xs → IsVar w64 m ys
+        → xs ++ more ≡ ys ++ other
         → (n ≡ m) × (xs ≡ ys) }
     ensures text_z { (units others xs ys more other : List ℕ) → IsTextZ units xs → IsTextZ others ys
         → xs ++ more ≡ ys ++ other → (units ≡ others) × (xs ≡ ys) }

@@ -1,9 +1,9 @@
 //! Numbers and texts as bytes, both ways: what a format writes, and what it reads.
 //!
 //! The modules: `fixed` has numbers of a fixed width, `varuint` numbers that take as many bytes as they need, `text`
-//! texts in UTF-16, `limits` their greatest sizes, and `laws` what holds of the definitions alone. It stands on ep_defs,
-//! for the units of a text, and on byteorder. What the bytes of a number or a text are stands in `specs/Numbers` and
-//! `specs/Texts`, and what stands at the front of some bytes in `specs/Fields`.
+//! texts in UTF-16, `limits` their greatest sizes, and `laws` what holds of the definitions alone. It stands on
+//! ep_defs, for the units of a text, and on byteorder. What the bytes of a number or a text are stands in
+//! `specs/Numbers` and `specs/Texts`, and what stands at the front of some bytes in `specs/Fields`.
 //!
 //! Its one contract: each `put_` call appends the one form that is written of its value, or nothing where memory is
 //! missing; each `take_` call answers what stands at the front of the bytes, and takes no memory.

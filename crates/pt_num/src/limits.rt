@@ -14,3 +14,6 @@ pub const VAR32_LAST: u8 = 15;
 
 /// The tenth byte of a varuint of 64 bits, which has the one bit that is left.
 pub const VAR64_LAST: u8 = 1;
+
+/// The values of a varuint's group, the seven low bits of a byte. A byte from here on says that another group follows.
+pub const GROUP: u8 = 128;

@@ -5,8 +5,9 @@ ghost use Rattle.pt_num.specs.declared.varuint.Taken.TheVariants.{Short, TooWide
 ghost use Rattle.pt_num.specs.Numbers.{short_var, IsVar, IsShortVar};
 ghost use Rattle.pt_num.specs.Fields.{var_at, groups_at};
 ghost use Rattle.pt_num.specs.Taking.{Takes, IfValue, IsCut, IsOver};
+ghost use Rattle.pt_num.specs.declared.limits.TheConstants.{GROUP};
 
-use crate::limits::{VAR32_BYTES, VAR32_LAST, VAR64_BYTES, VAR64_LAST};
+use crate::limits::{GROUP, VAR32_BYTES, VAR32_LAST, VAR64_BYTES, VAR64_LAST};
 use std::alloc::AllocError;
 
 /// What stands at the front of some bytes.
@@ -111,9 +112,9 @@ fn push_groups(out: &mut Vec<u8>, value: u64)
     ensures capacity { vec_capacity out.new ≡ vec_capacity out.old }
 {
     let mut rest = value;
-    while rest >= 128 {
-        out.push_reserved((128 + rest % 128) as u8);
-        rest /= 128;
+    while rest >= GROUP as u64 {
+        out.push_reserved((GROUP as u64 + rest % GROUP as u64) as u8);
+        rest /= GROUP as u64;
     }
     out.push_reserved(rest as u8);
 }
@@ -123,10 +124,10 @@ fn take_groups(bytes: &[u8], most: usize, last: u8) -> Taken<u64>
     requires some { 0 < most }
     requires few { most ≤ 10 }
     requires some_last { 0 < last }
-    requires low { last < 128 }
-    requires fits { (last + 1) * 128 ^ (most - 1) ≤ 2 ^ 64 }
+    requires low { last < GROUP }
+    requires fits { (last + 1) * GROUP ^ (most - 1) ≤ 2 ^ 64 }
     ensures read { Takes (groups_at bytes.now (most - 1) last bytes.now) bytes.now result }
-    ensures bound { IfValue result (λ value used. value < (last + 1) * 128 ^ (most - 1)) }
+    ensures bound { IfValue result (λ value used. value < (last + 1) * GROUP ^ (most - 1)) }
 {
     let mut value: u64 = 0;
     let mut scale: u64 = 1;
@@ -134,14 +135,14 @@ fn take_groups(bytes: &[u8], most: usize, last: u8) -> Taken<u64>
         if place + 1 == most && *byte > last {
             return Taken::TooWide;
         }
-        value += u64::from(*byte % 128) * scale;
-        if *byte < 128 {
+        value += u64::from(*byte % GROUP) * scale;
+        if *byte < GROUP {
             return Taken::Value {
                 value,
                 used: place + 1,
             };
         }
-        scale *= 128;
+        scale *= GROUP as u64;
     }
     Taken::Short
 }

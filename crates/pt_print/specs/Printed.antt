@@ -1,5 +1,5 @@
 -- A printed line: a word, then numbers, then texts, each behind a space, and a line feed (this project's profile).
-use Rattle.std.specs.Prelude.{ℕ, ◌+◌, ◌-◌, ◌/◌, ◌%◌, Bool, ◌&&◌, not, ◌==◌, nat_lt, if◌then◌else◌, List, [], ◌∷◌, ◌++◌, length, replicate, codes}
+use Rattle.std.specs.Prelude.{ℕ, ◌+◌, ◌-◌, ◌/◌, ◌%◌, ◌^◌, Bool, ◌&&◌, not, ◌==◌, nat_lt, if◌then◌else◌, List, [], ◌∷◌, ◌++◌, length, replicate, codes}
 use Rattle.std.specs.List.{flat_map}
 use Rattle.std.specs.Int.{is_in_range}
 use Rattle.std.specs.Fmt.{decimal}
@@ -14,6 +14,7 @@ abbrev pub shown_text : List ℕ → List ℕ
 shown_text [] = codes "-"
 shown_text (byte ∷ bytes) = byte ∷ bytes
 
+-- A space and a text, as it is shown.
 abbrev pub text_part : List ℕ → List ℕ
 text_part text = 32 ∷ shown_text text
 
@@ -29,12 +30,13 @@ is_shown unit = is_in_range 33 126 unit && not (unit == 92)
 unfoldable pub unit_text : ℕ → List ℕ
 unit_text unit =
     if is_shown unit then unit ∷ []
-    else codes "\\u" ++ hex_digit (unit / 4096) ∷ hex_digit (unit / 256 % 16) ∷ hex_digit (unit / 16 % 16) ∷ hex_digit (unit % 16) ∷ []
+    else codes "\\u" ++ hex_digit (unit / 16 ^ 3) ∷ hex_digit (unit / 16 ^ 2 % 16) ∷ hex_digit (unit / 16 % 16) ∷ hex_digit (unit % 16) ∷ []
 
 -- A text of UTF-16, the empty one as `-`.
 abbrev pub shown_units : List ℕ → List ℕ
 shown_units [] = codes "-"
 shown_units (unit ∷ units) = flat_map unit_text (unit ∷ units)
 
+-- A space and a text of UTF-16 units, as it is shown.
 abbrev pub units_part : List ℕ → List ℕ
 units_part units = 32 ∷ shown_units units

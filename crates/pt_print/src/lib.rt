@@ -6,7 +6,7 @@
 //! Its one contract: what each call appends is the part of a line that `specs/Printed` defines.
 #![tactic(auto)]
 
-ghost use Rattle.std.specs.Prelude.{◌≡◌, ◌<◌, ◌++◌, [], ◌∷◌, IsTrue, OnOk};
+ghost use Rattle.std.specs.Prelude.{◌≡◌, ◌<◌, ◌^◌, ◌++◌, [], ◌∷◌, IsTrue, OnOk};
 ghost use Rattle.pt_print.specs.Printed.{number_part, text_part, units_part, unit_text, hex_digit};
 ghost use Rattle.pt_print.specs.Printed as units;
 
@@ -44,8 +44,8 @@ pub fn put_text(out: &mut Vec<u8>, text: &[u8]) -> Result<(), AllocError>
     out.extend_from_slice(if text.is_empty() { b"-" } else { text })
 }
 
-/// Appends a text of UTF-16 behind a space, or `-` where it is empty. What is no visible ASCII character, and `\` too, is
-/// written as `\u` and four hexadecimal digits.
+/// Appends a text of UTF-16 behind a space, or `-` where it is empty. What is no visible ASCII character, and `\` too,
+/// is written as `\u` and four hexadecimal digits.
 pub fn put_units(out: &mut Vec<u8>, units: &[u16]) -> Result<(), AllocError>
     ensures { OnOk result (out.new.items ≡ out.old.items ++ units_part units.now) }
 {
@@ -69,17 +69,17 @@ fn put_unit(out: &mut Vec<u8>, unit: u16) -> Result<(), AllocError>
     out.extend_from_slice(&[
         b'\\',
         b'u',
-        digit_text(unit / 4096),
-        digit_text(unit / 256 % 16),
-        digit_text(unit / 16 % 16),
-        digit_text(unit % 16),
+        digit_text(unit / 0x1000),
+        digit_text(unit / 0x100 % 0x10),
+        digit_text(unit / 0x10 % 0x10),
+        digit_text(unit % 0x10),
     ])
 }
 
 // Whether a unit is a visible ASCII character other than `\`.
 fn is_shown(unit: u16) -> bool
     ensures value { result ≡ units.is_shown unit }
-    ensures small { IsTrue result → unit < 256 }
+    ensures small { IsTrue result → unit < 2 ^ 8 }
 {
     (33..=126).contains(&unit) && unit != u16::from(b'\\')
 }

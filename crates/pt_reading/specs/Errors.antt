@@ -29,6 +29,7 @@ check_name (check.UnknownStack id) = codes "UnknownStack " ++ decimal id
 check_name (check.MetadataTwice id) = codes "MetadataTwice " ++ decimal id
 check_name (check.StackTwice id) = codes "StackTwice " ++ decimal id
 
+-- The name of what is wrong, as an error line has it.
 abbrev pub flaw_name : Flaw → List ℕ
 flaw_name (flaw.Read kind) = read_name kind
 flaw_name (flaw.Check kind) = check_name kind

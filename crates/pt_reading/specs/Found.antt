@@ -40,5 +40,6 @@ abbrev pub IsFlaw : List ℕ → ℕ → Flaw → Type 0
 IsFlaw bytes at (flaw.Check kind) = IsMisplaced (items_of (verdict bytes)) at kind
 IsFlaw bytes at (flaw.Read kind) = AreOrdered (items_of (verdict bytes)) × (end_answer (length bytes) (verdict bytes) ≡ Err (Bad at kind))
 
+-- The bytes are refused at this offset for this reason.
 abbrev pub IsRefused : List ℕ → Refusal → Type 0
 IsRefused bytes refusal = IsFlaw bytes refusal.at refusal.flaw

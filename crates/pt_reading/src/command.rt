@@ -26,8 +26,8 @@ pub struct End {
     pub at: u64,
 }
 
-/// Reads a stream from `input` to its end, and writes the report of its items to `output`, or one error line, in one write.
-/// Nothing is written before the input was read.
+/// Reads a stream from `input` to its end, and writes the report of its items to `output`, or one error line, in one
+/// write. Nothing is written before the input was read.
 ///
 /// An item that can't stand where it does goes before bytes that are refused, and before an end that comes too early.
 pub fn report<I: Source, O: Sink>(alloc: Global, input: &mut I, output: &mut O) -> End
@@ -39,22 +39,28 @@ pub fn report<I: Source, O: Sink>(alloc: Global, input: &mut I, output: &mut O) 
         × IsError bytes result.at text × TookAll O.tells_taken O.taken output.old output.new text }
 
     // An input that tells its bytes is judged by them, unless something fails.
-    ensures whole { IsTrue (I.tells_given input.old) → IsWhole (I.left input.old) → result.status ≢ statuses.REFUSED }
-    ensures not_whole { IsTrue (I.tells_given input.old) → (IsWhole (I.left input.old) → ⊥) → result.status ≢ statuses.DONE }
+    ensures whole { IsTrue (I.tells_given input.old) → IsWhole (I.left input.old)
+        → result.status ≢ statuses.REFUSED }
+    ensures not_whole { IsTrue (I.tells_given input.old) → (IsWhole (I.left input.old) → ⊥)
+        → result.status ≢ statuses.DONE }
 
     // A fault comes only from the object that was handed in, in this call.
     ensures read_fault { result.status ≡ statuses.READ_FAULT
         → HasRisen (I.read_faults input.old) (I.read_faults input.new) × (output.new ≡ output.old) }
-    ensures all_read { result.status ≢ statuses.READ_FAULT → I.read_faults input.new ≡ I.read_faults input.old }
-    ensures write_fault { result.status ≡ statuses.WRITE_FAULT → HasRisen (O.write_faults output.old) (O.write_faults output.new) }
+    ensures all_read { result.status ≢ statuses.READ_FAULT
+        → I.read_faults input.new ≡ I.read_faults input.old }
+    ensures write_fault { result.status ≡ statuses.WRITE_FAULT
+        → HasRisen (O.write_faults output.old) (O.write_faults output.new) }
     ensures written_part { result.status ≡ statuses.WRITE_FAULT → (bytes : List ℕ) × (text : List ℕ)
         × ReadWhole I.tells_given I.given I.left I.may_give input.old input.new bytes × IsAnswer bytes text
         × (IsTrue (O.tells_taken output.old) → TookPartOf text (O.taken output.old) (O.taken output.new)) }
-    ensures all_written { result.status ≢ statuses.WRITE_FAULT → O.write_faults output.new ≡ O.write_faults output.old }
+    ensures all_written { result.status ≢ statuses.WRITE_FAULT
+        → O.write_faults output.new ≡ O.write_faults output.old }
 
     // Out of memory: nothing was written.
     ensures memory { result.status ≡ statuses.OUT_OF_MEMORY → output.new ≡ output.old }
-    ensures statuses { (result.status ≡ statuses.DONE) ⊎ (result.status ≡ statuses.REFUSED) ⊎ (result.status ≡ statuses.READ_FAULT)
+    ensures statuses { (result.status ≡ statuses.DONE) ⊎ (result.status ≡ statuses.REFUSED)
+        ⊎ (result.status ≡ statuses.READ_FAULT)
         ⊎ (result.status ≡ statuses.WRITE_FAULT) ⊎ (result.status ≡ statuses.OUT_OF_MEMORY) }
     ensures no_offset { result.status ≢ statuses.REFUSED → result.at ≡ 0 }
 {
@@ -76,10 +82,14 @@ fn end_of(status: u8) -> End
 fn say<O: Sink>(output: &mut O, text: &[u8], end: End) -> End
     requires { end.status ≢ statuses.WRITE_FAULT }
     ensures end { (result ≡ end) ⊎ (result ≡ ended statuses.WRITE_FAULT) }
-    ensures took { result.status ≢ statuses.WRITE_FAULT → TookAll O.tells_taken O.taken output.old output.new text.now }
-    ensures same { result.status ≢ statuses.WRITE_FAULT → O.write_faults output.new ≡ O.write_faults output.old }
-    ensures part { result.status ≡ statuses.WRITE_FAULT → IsTrue (O.tells_taken output.old) → TookPartOf text.now (O.taken output.old) (O.taken output.new) }
-    ensures fault { result.status ≡ statuses.WRITE_FAULT → HasRisen (O.write_faults output.old) (O.write_faults output.new) }
+    ensures took { result.status ≢ statuses.WRITE_FAULT
+        → TookAll O.tells_taken O.taken output.old output.new text.now }
+    ensures same { result.status ≢ statuses.WRITE_FAULT
+        → O.write_faults output.new ≡ O.write_faults output.old }
+    ensures part { result.status ≡ statuses.WRITE_FAULT → IsTrue (O.tells_taken output.old)
+        → TookPartOf text.now (O.taken output.old) (O.taken output.new) }
+    ensures fault { result.status ≡ statuses.WRITE_FAULT
+        → HasRisen (O.write_faults output.old) (O.write_faults output.new) }
 {
     match output.write(text) {
         Ok(()) => end,
@@ -89,16 +99,22 @@ fn say<O: Sink>(output: &mut O, text: &[u8], end: End) -> End
 
 // Writes what the bytes that were read come to.
 fn answer<O: Sink>(alloc: Global, reading: &Reading, output: &mut O) -> End
-    ensures done { (bytes : List ℕ) → HasRead bytes reading.now → result.status ≡ statuses.DONE → (text : List ℕ) × IsReported bytes text
+    ensures done { (bytes : List ℕ) → HasRead bytes reading.now → result.status ≡ statuses.DONE
+        → (text : List ℕ) × IsReported bytes text
         × TookAll O.tells_taken O.taken output.old output.new text }
-    ensures refused { (bytes : List ℕ) → HasRead bytes reading.now → result.status ≡ statuses.REFUSED → (text : List ℕ) × IsError bytes result.at text
+    ensures refused { (bytes : List ℕ) → HasRead bytes reading.now
+        → result.status ≡ statuses.REFUSED → (text : List ℕ) × IsError bytes result.at text
         × TookAll O.tells_taken O.taken output.old output.new text }
-    ensures part { (bytes : List ℕ) → HasRead bytes reading.now → result.status ≡ statuses.WRITE_FAULT → (text : List ℕ) × IsAnswer bytes text
+    ensures part { (bytes : List ℕ) → HasRead bytes reading.now
+        → result.status ≡ statuses.WRITE_FAULT → (text : List ℕ) × IsAnswer bytes text
         × (IsTrue (O.tells_taken output.old) → TookPartOf text (O.taken output.old) (O.taken output.new)) }
-    ensures write_fault { result.status ≡ statuses.WRITE_FAULT → HasRisen (O.write_faults output.old) (O.write_faults output.new) }
-    ensures all_written { result.status ≢ statuses.WRITE_FAULT → O.write_faults output.new ≡ O.write_faults output.old }
+    ensures write_fault { result.status ≡ statuses.WRITE_FAULT
+        → HasRisen (O.write_faults output.old) (O.write_faults output.new) }
+    ensures all_written { result.status ≢ statuses.WRITE_FAULT
+        → O.write_faults output.new ≡ O.write_faults output.old }
     ensures memory { result.status ≡ statuses.OUT_OF_MEMORY → output.new ≡ output.old }
-    ensures statuses { (result.status ≡ statuses.DONE) ⊎ (result.status ≡ statuses.REFUSED) ⊎ (result.status ≡ statuses.WRITE_FAULT)
+    ensures statuses { (result.status ≡ statuses.DONE) ⊎ (result.status ≡ statuses.REFUSED)
+        ⊎ (result.status ≡ statuses.WRITE_FAULT)
         ⊎ (result.status ≡ statuses.OUT_OF_MEMORY) }
     ensures no_offset { result.status ≢ statuses.REFUSED → result.at ≡ 0 }
 {
@@ -115,10 +131,13 @@ fn refuse<O: Sink>(alloc: Global, refusal: &Refusal, output: &mut O) -> End
         × TookAll O.tells_taken O.taken output.old output.new (refusal_error refusal.now) }
     ensures part { result.status ≡ statuses.WRITE_FAULT → IsTrue (O.tells_taken output.old)
         → TookPartOf (refusal_error refusal.now) (O.taken output.old) (O.taken output.new) }
-    ensures write_fault { result.status ≡ statuses.WRITE_FAULT → HasRisen (O.write_faults output.old) (O.write_faults output.new) }
-    ensures all_written { result.status ≢ statuses.WRITE_FAULT → O.write_faults output.new ≡ O.write_faults output.old }
+    ensures write_fault { result.status ≡ statuses.WRITE_FAULT
+        → HasRisen (O.write_faults output.old) (O.write_faults output.new) }
+    ensures all_written { result.status ≢ statuses.WRITE_FAULT
+        → O.write_faults output.new ≡ O.write_faults output.old }
     ensures memory { result.status ≡ statuses.OUT_OF_MEMORY → output.new ≡ output.old }
-    ensures statuses { (result.status ≡ statuses.REFUSED) ⊎ (result.status ≡ statuses.WRITE_FAULT) ⊎ (result.status ≡ statuses.OUT_OF_MEMORY) }
+    ensures statuses { (result.status ≡ statuses.REFUSED) ⊎ (result.status ≡ statuses.WRITE_FAULT)
+        ⊎ (result.status ≡ statuses.OUT_OF_MEMORY) }
     ensures no_offset { result.status ≢ statuses.REFUSED → result.at ≡ 0 }
 {
     let Ok(text) = refusal_text(alloc, refusal) else {
@@ -149,7 +168,8 @@ fn read_all<I: Source>(alloc: Global, input: &mut I) -> Result<Reading, ReadFaul
     ensures all { IfOk result (λ reading. (bytes : List ℕ) × HasRead bytes reading
         × ReadWhole I.tells_given I.given I.left I.may_give input.old input.new bytes) }
     ensures read { OnOk result (I.read_faults input.new ≡ I.read_faults input.old) }
-    ensures fault { result ≡ Err ReadFault.Failed → HasRisen (I.read_faults input.old) (I.read_faults input.new) }
+    ensures fault { result ≡ Err ReadFault.Failed
+        → HasRisen (I.read_faults input.old) (I.read_faults input.new) }
     ensures memory { result ≡ Err ReadFault.OutOfMemory → I.read_faults input.new ≡ I.read_faults input.old }
 {
     let mut reading = Reading::new(alloc);

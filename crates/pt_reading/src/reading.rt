@@ -52,10 +52,12 @@ impl Reading {
         }
     }
 
-    /// Reads the next piece of the stream. Where its bytes are refused, reading ends there, and what follows changes nothing.
+    /// Reads the next piece of the stream. Where its bytes are refused, reading ends there, and what follows changes
+    /// nothing.
     pub(crate) fn take(&mut self, piece: &[u8]) -> Result<(), AllocError>
         requires few { used self.old + length piece.now < 2 ^ 63 }
-        ensures read { (bytes : List ℕ) → HasRead bytes self.old → OnOk result (HasRead (bytes ++ piece.now) self.new) }
+        ensures read { (bytes : List ℕ) → HasRead bytes self.old
+            → OnOk result (HasRead (bytes ++ piece.now) self.new) }
         ensures counted { OnOk result (used self.new ≤ used self.old + length piece.now) }
     {
         feed(&mut self.reader, piece, &mut self.items)?;
@@ -66,7 +68,8 @@ impl Reading {
 
     /// What the bytes that were read come to, where they are all of the stream.
     pub(crate) fn outcome(&self) -> Result<Outcome, AllocError>
-        ensures { IfOk result (λ outcome. (bytes : List ℕ) → HasRead bytes self.now → IsOutcome bytes outcome) }
+        ensures { IfOk result (λ outcome. (bytes : List ℕ) → HasRead bytes self.now
+            → IsOutcome bytes outcome) }
     {
         if let Some(Misplaced { at, kind }) = self.misplaced {
             let flaw = Flaw::Check(kind);
@@ -86,7 +89,8 @@ impl Reading {
 // Feeds a reader, whether or not the bytes are refused.
 fn feed(reader: &mut TraceReader, piece: &[u8], items: &mut Vec<Item>) -> Result<(), AllocError>
     requires few { reading.used reader.old + length piece.now < 2 ^ 63 }
-    ensures read { (bytes : List ℕ) → reading.HasRead bytes reader.old → OnOk result (reading.HasRead (bytes ++ piece.now) reader.new) }
+    ensures read { (bytes : List ℕ) → reading.HasRead bytes reader.old
+        → OnOk result (reading.HasRead (bytes ++ piece.now) reader.new) }
     ensures items { (bytes : List ℕ) → reading.HasRead bytes reader.old
         → OnOk result (Gives (items_of (verdict bytes)) (items_of (verdict (bytes ++ piece.now))) items.old.items items.new.items) }
     ensures used { reading.used reader.new ≤ reading.used reader.old + length piece.now }
@@ -104,7 +108,8 @@ fn check_all(
     items: &[Item],
     misplaced: &mut Option<Misplaced>,
 ) -> Result<(), AllocError>
-    ensures { (before : List Item) → IsChecked before report.old misplaced.old → OnOk result (IsChecked (before ++ items.now) report.new misplaced.new) }
+    ensures { (before : List Item) → IsChecked before report.old misplaced.old
+        → OnOk result (IsChecked (before ++ items.now) report.new misplaced.new) }
 {
     for item in items {
         check(report, item, misplaced)?;
@@ -117,7 +122,8 @@ fn check(
     item: &Item,
     misplaced: &mut Option<Misplaced>,
 ) -> Result<(), AllocError>
-    ensures { (before : List Item) → IsChecked before report.old misplaced.old → OnOk result (IsChecked (before ++ item.now ∷ []) report.new misplaced.new) }
+    ensures { (before : List Item) → IsChecked before report.old misplaced.old
+        → OnOk result (IsChecked (before ++ item.now ∷ []) report.new misplaced.new) }
 {
     if misplaced.is_some() {
         return Ok(());

@@ -25,7 +25,7 @@ struct Run {
     written: Vec<u8>,
 }
 
-// Reports these bytes, of which a read gives at most so many. The read and the write with these numbers, from 1, fail, and
+// Reports these bytes, of which a read gives at most this many. The read and the write with these numbers, from 1, fail, and
 // the write takes four bytes.
 fn run_report(alloc: Global, bytes: &[u8], most: usize, read: u64, write: u64) -> Result<Run, Fail>
     requires { 0 < most }

@@ -10,6 +10,7 @@ use Rattle.ep_defs.specs.declared.item.ItemKind.{ItemKind}
 use Rattle.ep_defs.specs.declared.item.ItemKind.TheVariants as item
 use Rattle.ep_defs.specs.Entry.{EventEntry, Entry, Event, Point}
 use Rattle.pt_num.specs.Steps.{◌>>=◌, or_fault}
+use Rattle.pt_num.proofs.Joined.{flat_map-push}
 use Rattle.nt_blocks.specs.Ordered.{Disorder, UnknownMetadata, UnknownStack, MetadataTwice, StackTwice, Names, no_names, names_after, unless_there, stack_of, lookup, tell}
 use Rattle.nt_check.specs.Numbers.{held}
 use Rattle.nt_check.specs.state.Took.{names_at}
@@ -24,9 +25,6 @@ use Rattle.pt_report.specs.state.Stacks.{ShowsStacks, stack_among}
 use Rattle.pt_report.proofs.Tallies.{uses-more, held-more}
 
 -- ---- lists
-
-one-more : {X A : Type 0} (f : X → List A) (xs : List X) (x : X) → flat_map f (xs ++ x ∷ []) ≡ flat_map f xs ++ f x
-one-more {X} {A} f xs x = flat_map-append f xs (x ∷ []) ∙ ap (λ (back : List A). flat_map f xs ++ back) (append-nil (f x))
 
 used-definitions-more : (entries more : List Entry) → used_definitions (entries ++ more) ≡ used_definitions entries ++ used_definitions more
 used-definitions-more entries more =
@@ -109,10 +107,10 @@ shows-more kinds kind entries more old new defs uses threads stacks h trace tota
       trace_is = trace ∙ ap (λ (t : Option TraceInfo). trace_then t (trace_of (kind ∷ []))) h.trace_is ∙ sym (trace-more kinds kind);
       totals_are = totals-are ∙ ap (λ (t : Totals). with_total t kind) h.totals_are ∙ totals-more kinds kind;
       events_are =
-          subst (λ (d : List EventDef). ShowsEvents d (used_definitions (entries ++ more)) (names_at no_names (kinds ++ kind ∷ [])).definitions new.events) (sym (one-more definition_in kinds kind ∙ defs-are))
+          subst (λ (d : List EventDef). ShowsEvents d (used_definitions (entries ++ more)) (names_at no_names (kinds ++ kind ∷ [])).definitions new.events) (sym (flat_map-push definition_in kinds kind ∙ defs-are))
           (subst (λ (u : List EventDef). ShowsEvents defs u (names_at no_names (kinds ++ kind ∷ [])).definitions new.events) (sym (used-definitions-more entries more ∙ uses-are))
           (subst (λ (names : Names). ShowsEvents defs uses names.definitions new.events) (sym (names_at-more no_names kinds kind)) events-shown));
-      threads_are = subst (λ (t : List ℕ). Counts nat_cmp t [] new.threads) (sym (one-more threads_in kinds kind ∙ threads-are)) threads-shown;
+      threads_are = subst (λ (t : List ℕ). Counts nat_cmp t [] new.threads) (sym (flat_map-push threads_in kinds kind ∙ threads-are)) threads-shown;
       stacks_are =
           subst (λ (s : List (List ℕ)). ShowsStacks s (names_at no_names (kinds ++ kind ∷ [])).stacks new.stacks) (sym (used-stacks-more entries more ∙ stacks-are))
           (subst (λ (names : Names). ShowsStacks stacks names.stacks new.stacks) (sym (names_at-more no_names kinds kind)) stacks-shown);

@@ -2,15 +2,15 @@
 use Rattle.std.proofs.Common.{◌≡◌, ℕ, zero, suc, Bool, true, false, cond, eqb, List, [], ◌∷◌, ◌++◌, map, Option, Some, Result, Ok, Err, refl, sym, ap, ◌∙◌, subst, arith, append_assoc, length}
 use Rattle.std.proofs.lemmas.List.{map-append, append-nil}
 use Rattle.std.proofs.lemmas.Bool.Decides.{nat_tests}
-use Rattle.std.specs.Prelude.{IsOk, OnOk, is_err}
+use Rattle.std.specs.Prelude.{OnOk, is_err}
 use Rattle.std.specs.declared.cmp.Ordering.{Ordering}
 use Rattle.std.specs.Ordering.{nat_cmp, is_eq}
 use Rattle.ep_defs.specs.declared.item.ItemKind.{ItemKind}
 use Rattle.ep_defs.specs.Entry.{Entry}
-use Rattle.pt_num.specs.Steps.{◌>>=◌}
 use Rattle.nt_blocks.specs.Ordered.{Disorder, Names, lookup, tell, names_after, told_after}
 use Rattle.nt_check.specs.state.Took.{names_at}
 use Rattle.std.specs.Option.{option_map}
+use Rattle.pt_num.proofs.Steps.{bind_inv, ok-same}
 use Rattle.ep_defs.specs.declared.event.EventDef.{EventDef}
 use Rattle.pt_report.specs.declared.key.EventKey.{EventKey}
 use Rattle.pt_report.specs.Keys.{key_of}
@@ -38,13 +38,6 @@ pub stack-defined : (named : List (ℕ × List ℕ)) (id : ℕ) → eqb id 0 ≡
 stack-defined named zero e = absurd (cc)
 stack-defined named (suc id) e = refl
 
-bind-inv : {E A B : Type 0} (p : Result A E) (f : A → Result B E) (y : B) → (p >>= f) ≡ Ok y → (x : A) × (p ≡ Ok x) × (f x ≡ Ok y)
-bind-inv (Ok x) f y e = (x, refl, e)
-bind-inv (Err fault) f y e = absurd (cc)
-
-pub ok-same : {E A : Type 0} (x y : A) → ◌≡◌ {A = Result A E} (Ok x) (Ok y) → x ≡ y
-ok-same x y e = cc
-
 -- The entries of one item more.
 pub told-one-more : (names : Names) (kinds : List ItemKind) (kind : ItemKind) (entries all : List Entry) → told_after names kinds ≡ Ok entries → told_after names (kinds ++ kind ∷ []) ≡ Ok all → (more : List Entry) × (tell (names_at names kinds) kind ≡ Ok more) × (all ≡ entries ++ more)
 told-one-more names [] kind entries all old new = first (tell names kind) refl
@@ -60,10 +53,10 @@ told-one-more names [] kind entries all old new = first (tell names kind) refl
         no : ◌≡◌ {A = Result (List Entry) Disorder} (Err fault) (Ok all) → ⊥
         no wrong = cc
 told-one-more names (first ∷ kinds) kind entries all old new =
-    let a = bind-inv (tell names first) _ entries old in
-    let b = bind-inv (told_after (names_after names first) kinds) _ entries a.2 in
-    let a' = bind-inv (tell names first) _ all new in
-    let b' = bind-inv (told_after (names_after names first) (kinds ++ kind ∷ [])) _ all a'.2 in
+    let a = bind_inv (tell names first) _ entries old in
+    let b = bind_inv (told_after (names_after names first) kinds) _ entries a.2 in
+    let a' = bind_inv (tell names first) _ all new in
+    let b' = bind_inv (told_after (names_after names first) (kinds ++ kind ∷ [])) _ all a'.2 in
     let later = told-one-more (names_after names first) kinds kind b.0 b'.0 b.1 b'.1 in
     let same : a.0 ≡ a'.0 = ok-same a.0 a'.0 (sym a.1 ∙ a'.1) in (
       later.0,
@@ -99,10 +92,6 @@ there-more P id q key k before now is known new old = either (is_eq (nat_cmp id 
 pub some-stack : (bytes : List ℕ) → eqb (length bytes) 0 ≡ false → stack_in bytes ≡ bytes ∷ []
 some-stack [] e = absurd (cc)
 some-stack (byte ∷ bytes) e = refl
-
-pub is-ok : {E A : Type 0} (p : Result A E) → IsOk p → (x : A) × (p ≡ Ok x)
-is-ok (Ok x) ok = (x, refl)
-is-ok (Err fault) ok = absurd (cc)
 
 -- What follows of an answer follows where there is one.
 pub on-ok : {E A P Q : Type 0} (answer : Result A E) → (P → Q) → OnOk answer P → OnOk answer Q

@@ -5,6 +5,7 @@ use Rattle.std.specs.Cmp.Lexicographic.{slice_cmp}
 use Rattle.ep_defs.specs.declared.event.EventDef.{EventDef}
 use Rattle.pt_report.specs.declared.key.EventKey.{EventKey}
 
+-- By what an event is counted.
 abbrev pub key_of : EventDef → EventKey
 key_of def = record { provider = def.provider; id = def.id; version = def.version; name = def.name }
 

@@ -1,4 +1,5 @@
--- The report of a stream's items and of the entries that they tell: which lines it has, in which order, and what they count (this project's profile).
+-- The report of a stream's items and of the entries that they tell: which lines it has, in which order, and what they
+-- count (this project's profile).
 use Rattle.std.specs.Prelude.{ℕ, Bool, true, false, List, [], ◌∷◌, map, Option, Some, None, count_by, codes}
 use Rattle.std.specs.List.{concat, flat_map}
 use Rattle.std.specs.declared.cmp.Ordering.{Ordering}
@@ -45,15 +46,19 @@ abbrev pub stack_in : List ℕ → List (List ℕ)
 stack_in [] = []
 stack_in (byte ∷ bytes) = (byte ∷ bytes) ∷ []
 
+-- The definitions among the items.
 abbrev pub definitions : List ItemKind → List EventDef
 definitions kinds = flat_map definition_in kinds
 
+-- The definition of each event that is told.
 abbrev pub used_definitions : List Entry → List EventDef
 used_definitions entries = map (λ event. event.def) (flat_map event_in entries)
 
+-- The stack of each event that is told and has one.
 abbrev pub used_stacks : List Entry → List (List ℕ)
 used_stacks entries = flat_map (λ event. stack_in event.stack) (flat_map event_in entries)
 
+-- The item is an event.
 abbrev pub is_event : ItemKind → Bool
 is_event (item.Event metadata number capture processor thread stack stamp activity related payload) = true
 is_event (item.Trace info) = false
@@ -61,6 +66,7 @@ is_event (item.Meta id def) = false
 is_event (item.Stack id bytes) = false
 is_event (item.Point stamp threads) = false
 
+-- The item is a definition.
 abbrev pub is_metadata : ItemKind → Bool
 is_metadata (item.Meta id def) = true
 is_metadata (item.Trace info) = false
@@ -68,6 +74,7 @@ is_metadata (item.Stack id bytes) = false
 is_metadata (item.Event metadata number capture processor thread stack stamp activity related payload) = false
 is_metadata (item.Point stamp threads) = false
 
+-- The item is a stack.
 abbrev pub is_stack : ItemKind → Bool
 is_stack (item.Stack id bytes) = true
 is_stack (item.Trace info) = false
@@ -75,6 +82,7 @@ is_stack (item.Meta id def) = false
 is_stack (item.Event metadata number capture processor thread stack stamp activity related payload) = false
 is_stack (item.Point stamp threads) = false
 
+-- The item is a point.
 abbrev pub is_point : ItemKind → Bool
 is_point (item.Point stamp threads) = true
 is_point (item.Trace info) = false
@@ -88,6 +96,7 @@ is_point (item.Event metadata number capture processor thread stack stamp activi
 abbrev pub trace_line : TraceInfo → List ℕ
 trace_line info = concat (codes "trace" ∷ number_part info.pointer_size ∷ number_part info.process_id ∷ number_part info.processors ∷ (10 ∷ []) ∷ [])
 
+-- The first Trace item, if there is one.
 abbrev pub trace_of : List ItemKind → Option TraceInfo
 trace_of [] = None
 trace_of (item.Trace info ∷ kinds) = Some info
@@ -96,27 +105,34 @@ trace_of (item.Stack id bytes ∷ kinds) = trace_of kinds
 trace_of (item.Event metadata number capture processor thread stack stamp activity related payload ∷ kinds) = trace_of kinds
 trace_of (item.Point stamp threads ∷ kinds) = trace_of kinds
 
+-- The line of the Trace object, if there is one.
 abbrev pub trace_lines : Option TraceInfo → List ℕ
 trace_lines (Some info) = trace_line info
 trace_lines None = []
 
+-- The line of totals.
 abbrev pub items_line : ℕ → ℕ → ℕ → ℕ → List ℕ
 items_line events metadata stacks points =
     concat (codes "items" ∷ number_part events ∷ number_part metadata ∷ number_part stacks ∷ number_part points ∷ (10 ∷ []) ∷ [])
 
+-- The line of a provider.
 abbrev pub provider_line : List ℕ → ℕ → List ℕ
 provider_line name events = concat (codes "provider" ∷ number_part events ∷ units_part name ∷ (10 ∷ []) ∷ [])
 
+-- The first half of the line of an event.
 abbrev pub event_numbers : EventKey → ℕ → List ℕ
 event_numbers event events = concat (codes "event" ∷ number_part events ∷ number_part event.id ∷ number_part event.version ∷ [])
 
+-- The line of an event.
 abbrev pub event_line : EventKey → ℕ → List ℕ
 event_line event events = concat (event_numbers event events ∷ units_part event.provider ∷ units_part event.name ∷ (10 ∷ []) ∷ [])
 
+-- The line of a thread.
 abbrev pub thread_line : ℕ → Numbers → List ℕ
 thread_line thread numbers =
     concat (codes "thread" ∷ number_part thread ∷ number_part numbers.events ∷ number_part numbers.last ∷ number_part numbers.gaps ∷ (10 ∷ []) ∷ [])
 
+-- The line of a stack.
 abbrev pub stack_line : List ℕ → ℕ → List ℕ
 stack_line bytes events = concat (codes "stack" ∷ number_part events ∷ text_part (encode_lower bytes) ∷ (10 ∷ []) ∷ [])
 
@@ -129,6 +145,7 @@ abbrev pub numbers_line : ℕ → Option Numbers → List ℕ
 numbers_line thread (Some numbers) = thread_line thread numbers
 numbers_line thread None = []
 
+-- The lines of all threads, ascending.
 abbrev pub thread_lines : List ItemKind → List ℕ
 thread_lines kinds = flat_map (λ thread. numbers_line thread (numbers_of thread kinds)) (in_order nat_cmp (flat_map threads_in kinds))
 

@@ -70,7 +70,10 @@ impl Counters {
 
     /// One item more, which can stand where it does. Where it is out of memory, a part of the item may be counted.
     pub fn count(&mut self, alloc: Global, kind: &ItemKind) -> Result<(), AllocError>
-        ensures { OnOk result ((kinds : List ItemKind) → (entries : List Entry) → (more : List Entry) → Shows kinds entries self.old → tell (names_at no_names kinds) kind.now ≡ Ok more → Shows (kinds ++ kind.now ∷ []) (entries ++ more) self.new) }
+        ensures { OnOk result ((kinds : List ItemKind) → (entries : List Entry)
+            → (more : List Entry) → Shows kinds entries self.old
+            → tell (names_at no_names kinds) kind.now ≡ Ok more
+            → Shows (kinds ++ kind.now ∷ []) (entries ++ more) self.new) }
     {
         self.totals = self.totals.after(kind);
         match kind {
@@ -104,7 +107,8 @@ impl Counters {
 
 // Names the threads of a point.
 fn name_all(tally: &mut Tally<u64>, threads: &[(u64, u32)]) -> Result<(), AllocError>
-    ensures { OnOk result ((names : List ℕ) → Counts nat_cmp names [] tally.old → Counts nat_cmp (names ++ map (λ thread. thread.0) threads.now) [] tally.new) }
+    ensures { OnOk result ((names : List ℕ) → Counts nat_cmp names [] tally.old
+        → Counts nat_cmp (names ++ map (λ thread. thread.0) threads.now) [] tally.new) }
 {
     for (thread, _) in threads {
         tally.name(*thread)?;

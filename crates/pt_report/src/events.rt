@@ -32,7 +32,9 @@ impl Events {
 
     /// One definition more, under its metadata id.
     pub fn define(&mut self, alloc: Global, id: u32, def: &EventDef) -> Result<(), AllocError>
-        ensures { OnOk result ((defs : List EventDef) → (uses : List EventDef) → (named : List (ℕ × EventDef)) → ShowsEvents defs uses named self.old → ShowsEvents (defs ++ def.now ∷ []) uses ((id, def.now) ∷ named) self.new) }
+        ensures { OnOk result ((defs : List EventDef) → (uses : List EventDef)
+            → (named : List (ℕ × EventDef)) → ShowsEvents defs uses named self.old
+            → ShowsEvents (defs ++ def.now ∷ []) uses ((id, def.now) ∷ named) self.new) }
     {
         let key = EventKey::of(alloc, def)?;
         self.providers.name(key.provider.copy(alloc)?)?;
@@ -43,7 +45,9 @@ impl Events {
 
     /// One event more, of the definition under this metadata id.
     pub fn count(&mut self, id: u32)
-        ensures { (defs : List EventDef) → (uses : List EventDef) → (named : List (ℕ × EventDef)) → (def : EventDef) → ShowsEvents defs uses named self.old → lookup id named ≡ Some def → ShowsEvents defs (uses ++ def ∷ []) named self.new }
+        ensures { (defs : List EventDef) → (uses : List EventDef) → (named : List (ℕ × EventDef))
+            → (def : EventDef) → ShowsEvents defs uses named self.old → lookup id named ≡ Some def
+            → ShowsEvents defs (uses ++ def ∷ []) named self.new }
     {
         if let Some(key) = self.metadata.get(&id) {
             self.providers.count(&key.provider);

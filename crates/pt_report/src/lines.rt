@@ -29,7 +29,8 @@ pub fn put_trace(out: &mut Vec<u8>, trace: &Option<TraceInfo>) -> Result<(), All
 }
 
 pub fn put_items(out: &mut Vec<u8>, totals: &Totals) -> Result<(), AllocError>
-    ensures { OnOk result (out.new.items ≡ out.old.items ++ items_line totals.now.events totals.now.metadata totals.now.stacks totals.now.points) }
+    ensures { OnOk result (out.new.items
+        ≡ out.old.items ++ items_line totals.now.events totals.now.metadata totals.now.stacks totals.now.points) }
 {
     put_word(out, "items")?;
     put_number(out, totals.events)?;
@@ -40,7 +41,8 @@ pub fn put_items(out: &mut Vec<u8>, totals: &Totals) -> Result<(), AllocError>
 }
 
 pub fn put_providers(out: &mut Vec<u8>, providers: &Tally<Text<u16>>) -> Result<(), AllocError>
-    ensures { OnOk result (out.new.items ≡ out.old.items ++ flat_map (λ entry. provider_line entry.0 entry.1) providers.now.counts.entries) }
+    ensures { OnOk result (out.new.items
+        ≡ out.old.items ++ flat_map (λ entry. provider_line entry.0 entry.1) providers.now.counts.entries) }
 {
     for (name, events) in &providers.counts {
         put_provider(out, name.as_slice(), *events)?;
@@ -58,7 +60,8 @@ fn put_provider(out: &mut Vec<u8>, name: &[u16], events: u64) -> Result<(), Allo
 }
 
 pub fn put_events(out: &mut Vec<u8>, counts: &Tally<EventKey>) -> Result<(), AllocError>
-    ensures { OnOk result (out.new.items ≡ out.old.items ++ flat_map (λ entry. event_line entry.0 entry.1) counts.now.counts.entries) }
+    ensures { OnOk result (out.new.items
+        ≡ out.old.items ++ flat_map (λ entry. event_line entry.0 entry.1) counts.now.counts.entries) }
 {
     for (event, events) in &counts.counts {
         put_event(out, event, *events)?;
@@ -89,7 +92,8 @@ pub fn put_threads(
     threads: &Tally<u64>,
     checker: &Checker,
 ) -> Result<(), AllocError>
-    ensures { OnOk result ((kinds : List ItemKind) → Took kinds checker.now → out.new.items ≡ out.old.items ++ flat_map (λ thread. numbers_line thread (numbers_of thread kinds)) (keys threads.now.counts)) }
+    ensures { OnOk result ((kinds : List ItemKind) → Took kinds checker.now → out.new.items ≡ out.old.items
+        ++ flat_map (λ thread. numbers_line thread (numbers_of thread kinds)) (keys threads.now.counts)) }
 {
     for thread in threads.counts.keys() {
         if let Some(numbers) = checker.gaps(*thread) {
@@ -115,7 +119,8 @@ pub fn put_stacks(
     alloc: Global,
     stacks: &Tally<Text<u8>>,
 ) -> Result<(), AllocError>
-    ensures { OnOk result (out.new.items ≡ out.old.items ++ flat_map (λ entry. stack_line entry.0 entry.1) stacks.now.counts.entries) }
+    ensures { OnOk result (out.new.items
+        ≡ out.old.items ++ flat_map (λ entry. stack_line entry.0 entry.1) stacks.now.counts.entries) }
 {
     for (stack, events) in &stacks.counts {
         put_stack(out, alloc, stack.as_slice(), *events)?;

@@ -29,7 +29,9 @@ impl Stacks {
 
     /// One stack more, under its id.
     pub fn define(&mut self, alloc: Global, id: u32, bytes: &[u8]) -> Result<(), AllocError>
-        ensures { OnOk result ((uses : List (List ℕ)) → (named : List (ℕ × List ℕ)) → ShowsStacks uses named self.old → ShowsStacks uses ((id, bytes.now) ∷ named) self.new) }
+        ensures { OnOk result ((uses : List (List ℕ)) → (named : List (ℕ × List ℕ))
+            → ShowsStacks uses named self.old
+            → ShowsStacks uses ((id, bytes.now) ∷ named) self.new) }
     {
         let stack = Text::of(alloc, bytes)?;
         self.stacks.insert(id, stack)?;
@@ -38,14 +40,18 @@ impl Stacks {
 
     /// The ids stand for no stacks from here on.
     pub fn clear(&mut self)
-        ensures { (uses : List (List ℕ)) → (named : List (ℕ × List ℕ)) → ShowsStacks uses named self.old → ShowsStacks uses [] self.new }
+        ensures { (uses : List (List ℕ)) → (named : List (ℕ × List ℕ))
+            → ShowsStacks uses named self.old → ShowsStacks uses [] self.new }
     {
         self.stacks.clear();
     }
 
     /// One event more, with the stack of this id.
     pub fn count(&mut self, alloc: Global, id: u32) -> Result<(), AllocError>
-        ensures { OnOk result ((uses : List (List ℕ)) → (named : List (ℕ × List ℕ)) → (bytes : List ℕ) → ShowsStacks uses named self.old → stack_among named id ≡ Some bytes → ShowsStacks (uses ++ stack_in bytes) named self.new) }
+        ensures { OnOk result ((uses : List (List ℕ)) → (named : List (ℕ × List ℕ))
+            → (bytes : List ℕ) → ShowsStacks uses named self.old
+            → stack_among named id ≡ Some bytes
+            → ShowsStacks (uses ++ stack_in bytes) named self.new) }
     {
         if id == 0 {
             return Ok(());

@@ -24,9 +24,12 @@ impl<K: Ord + Drop> Tally<K> {
 
     /// Names a key, once or again.
     pub fn name(&mut self, key: K) -> Result<(), AllocError>
-        ensures ok { OnOk result ((names : List K) → (uses : List K) → Counts K.cmp names uses self.old → Counts K.cmp (names ++ key ∷ []) uses self.new) }
+        ensures ok { OnOk result ((names : List K) → (uses : List K)
+            → Counts K.cmp names uses self.old
+            → Counts K.cmp (names ++ key ∷ []) uses self.new) }
         ensures known { OnOk result (IsSome (get K.cmp self.new.counts key)) }
-        ensures kept { (other : K) → IsSome (get K.cmp self.old.counts other) → IsSome (get K.cmp self.new.counts other) }
+        ensures kept { (other : K) → IsSome (get K.cmp self.old.counts other)
+            → IsSome (get K.cmp self.new.counts other) }
     {
         if !self.counts.contains_key(&key) {
             self.counts.insert(key, 0)?;
@@ -36,8 +39,11 @@ impl<K: Ord + Drop> Tally<K> {
 
     /// Counts a key. One that was not named is not counted.
     pub fn count(&mut self, key: &K)
-        ensures counted { (names : List K) → (uses : List K) → Counts K.cmp names uses self.old → IsSome (get K.cmp self.old.counts key.now) → Counts K.cmp names (uses ++ key.now ∷ []) self.new }
-        ensures kept { (other : K) → IsSome (get K.cmp self.old.counts other) → IsSome (get K.cmp self.new.counts other) }
+        ensures counted { (names : List K) → (uses : List K) → Counts K.cmp names uses self.old
+            → IsSome (get K.cmp self.old.counts key.now)
+            → Counts K.cmp names (uses ++ key.now ∷ []) self.new }
+        ensures kept { (other : K) → IsSome (get K.cmp self.old.counts other)
+            → IsSome (get K.cmp self.new.counts other) }
     {
         if let Some(count) = self.counts.get_mut(key) {
             *count = count.saturating_add(1);

@@ -13,7 +13,9 @@ use Rattle.nt_check.specs.declared.threads.Numbers.{Numbers}
 use Rattle.nt_check.specs.Numbers.{told, numbers_of}
 use Rattle.pt_report.specs.Report.{threads_in, numbers_line, thread_line, thread_lines}
 use Rattle.pt_report.specs.Order.{in_order}
-use Rattle.pt_shares.proofs.Ascending.{has, Ascends, one_order, in_order-ascends, has-in_order}
+use Rattle.ep_model.proofs.Ascending.{IsAscending}
+use Rattle.ep_model.proofs.Lists.{has}
+use Rattle.pt_shares.proofs.Ascending.{one_order, in_order-ascends, has-in_order}
 
 -- ---- which threads have lines
 
@@ -57,7 +59,7 @@ each-has P (thread ∷ threads) all =
     (all thread (or_left (eqb thread thread) (has thread threads) (eq-eqb thread thread refl)), each-has P threads (λ t there. all t (or_right (eqb thread t) (has t threads) there)))
 
 -- Where these ascending threads have these numbers, and no other thread has some, these are the lines.
-pub lines-are : (kinds : List ItemKind) (threads : List ℕ) (numbers : ℕ → Numbers) → Ascends threads → ((thread : ℕ) → has thread threads ≡ true → numbers_of thread kinds ≡ Some (numbers thread)) → ((thread : ℕ) → has thread threads ≡ false → numbers_of thread kinds ≡ None) → thread_lines kinds ≡ flat_map (λ thread. thread_line thread (numbers thread)) threads
+pub lines-are : (kinds : List ItemKind) (threads : List ℕ) (numbers : ℕ → Numbers) → IsAscending threads → ((thread : ℕ) → has thread threads ≡ true → numbers_of thread kinds ≡ Some (numbers thread)) → ((thread : ℕ) → has thread threads ≡ false → numbers_of thread kinds ≡ None) → thread_lines kinds ≡ flat_map (λ thread. thread_line thread (numbers thread)) threads
 lines-are kinds threads numbers ascends these none =
     ap (flat_map (λ thread. numbers_line thread (numbers_of thread kinds))) order
     ∙ lines-same (λ thread. numbers_of thread kinds) numbers threads (each-has (λ thread. numbers_of thread kinds ≡ Some (numbers thread)) threads these)

@@ -9,8 +9,8 @@ use Rattle.ep_defs.specs.Gaps.{Sighting, Seen, Known, sightings, gaps, missing, 
 use Rattle.ep_model.specs.Faithful.{Share, kept, events_of, is_of, is_among, last_sighting}
 use Rattle.nt_blocks.specs.Ordered.{no_names, kinds_of, Tell}
 use Rattle.nt_blocks.proofs.Seeing.{told-seen}
-use Rattle.nt_check.specs.declared.threads.Numbers.{Numbers}
 use Rattle.nt_check.specs.Numbers.{held, is_event, tally, told, numbers_of}
+use Rattle.nt_check.proofs.Counted.{same_numbers}
 use Rattle.pt_shares.specs.Shares.{share_numbers}
 
 -- ---- events
@@ -56,13 +56,6 @@ is_told number [] e = absurd (cc)
 is_told number (sighting ∷ later) e = refl
 
 -- ---- shares
-
-abbrev make : ℕ → ℕ → ℕ → Numbers
-make events last gaps = record { events = events; last = last; gaps = gaps }
-
-pub same_numbers : (a b : Numbers) → a.events ≡ b.events → a.last ≡ b.last → a.gaps ≡ b.gaps → a ≡ b
-same_numbers a b events last gaps =
-    ap (λ n. make n a.last a.gaps) events ∙ ap (λ n. make b.events n a.gaps) last ∙ ap (λ n. make b.events b.last n) gaps
 
 share_told : (share : Share) (items : List Item) (entries : List Entry) → Tell items entries → events_of share.thread entries ≡ kept share → gaps share.thread entries ≡ length share.refused → last_sighting share.thread entries ≡ Some (Known (length share.admitted)) → numbers_of share.thread (kinds_of items) ≡ Some (share_numbers share)
 share_told share items entries tell complete missing last =

@@ -1,14 +1,10 @@
 -- The shares of a session, in numbers.
-use Rattle.std.proofs.Common.{◌≡◌, ℕ, ◌+◌, ◌≤◌, Bool, true, false, cond, eqb, inl, inr, List, [], ◌∷◌, length, map, filter, take, drop, Option, Some, None, refl, ap, ◌∙◌, subst, arith, length-append, length-drop, length-take}
+use Rattle.std.proofs.Common.{◌≡◌, ℕ, ◌+◌, ◌≤◌, Bool, true, eqb, inl, inr, List, [], ◌∷◌, length, map, take, drop, Option, Some, None, refl, ap, ◌∙◌, subst, arith, length-drop, length-take}
 use Rattle.std.specs.Prelude.{◌||◌}
 use Rattle.std.specs.Option.{option_map_or}
 use Rattle.std.specs.List.{AllByRecursion}
-use Rattle.std.proofs.lemmas.Bool.{cases_Bool, cases_eq, eq-eqb, ne_eqb}
-use Rattle.std.proofs.lemmas.List.{length_push}
-use Rattle.std.proofs.lemmas.List.Sums.{length-filter, count_by-le-length}
+use Rattle.std.proofs.lemmas.Bool.{cases_eq, ne_eqb}
 use Rattle.ep_defs.specs.declared.limits.TheConstants.{SCHEDULE_WRITES}
-use Rattle.ep_defs.specs.Definitions.{definition_at}
-use Rattle.ep_defs.specs.Admits.{session_admits}
 use Rattle.ep_defs.specs.declared.event.EventDef.{EventDef}
 use Rattle.ep_defs.specs.declared.session.Config.{Config}
 use Rattle.ep_defs.specs.declared.session.Write.{Write}
@@ -16,42 +12,22 @@ use Rattle.ep_defs.specs.declared.item.Item.{Item}
 use Rattle.ep_defs.specs.Entry.{Entry}
 use Rattle.ep_defs.specs.Gaps.{Known, sightings, gaps}
 use Rattle.ep_model.specs.declared.step.Step.TheVariants as step
-use Rattle.ep_model.specs.declared.step.Kind.{Kind}
 use Rattle.ep_model.specs.Chunks.{refused, written}
 use Rattle.ep_model.specs.Entries.{has_stacks}
-use Rattle.ep_model.specs.Faithful.{Share, AreFaithful, kept, events_of, last_sighting, is_kept, is_of, numbered, contents_if, share_of, shares_of}
+use Rattle.ep_model.specs.Faithful.{Share, AreFaithful, kept, events_of, last_sighting, is_kept, is_of, numbered, share_of, shares_of}
 use Rattle.ep_model.specs.History.{Past, config_of, opened, opened_at, to_of, writes_of, admits_write, admitted_from, admitted}
-use Rattle.ep_model.specs.Lawful.{Objection, first_kind, objections, IsLawful, begins, was_opened}
+use Rattle.ep_model.specs.Lawful.{begins, was_opened}
+use Rattle.ep_model.proofs.Admitted.{filter-shorter, numbered-long}
+use Rattle.ep_model.proofs.Lists.{has}
+use Rattle.ep_model.proofs.Sessions.{writes_begun}
 use Rattle.nt_blocks.specs.Ordered.{kinds_of}
 use Rattle.nt_check.specs.Numbers.{numbers_of}
+use Rattle.nt_check.proofs.Counted.{same_numbers}
 use Rattle.pt_shares.specs.Shares.{share_numbers, session_numbers}
-use Rattle.pt_shares.proofs.Ascending.{has, Ascends, ascends-inserted}
 use Rattle.pt_shares.proofs.Balance.{made_up}
-use Rattle.pt_shares.proofs.Numbers.{events_seen, last_is, same_numbers}
+use Rattle.pt_shares.proofs.Numbers.{events_seen, last_is}
 
 -- ---- admitted writes
-
-numbered-some : (definitions : List EventDef) (stacks : Bool) (config : Option Config) (number : ℕ) (write : Write) → admits_write definitions config write ≡ true → length (contents_if stacks number write (definition_at definitions write.event)) ≡ 1
-numbered-some definitions stacks None number write admits = absurd (cc)
-numbered-some definitions stacks (Some config) number write admits = defined (definition_at definitions write.event) admits
-  where
-    defined : (def : Option EventDef) → option_map_or (λ d. session_admits config d) def false ≡ true → length (contents_if stacks number write def) ≡ 1
-    defined None e = absurd (cc)
-    defined (Some def) e = refl
-
--- Each admitted write has an event that is defined.
-numbered-long : (definitions : List EventDef) (stacks : Bool) (config : Option Config) (number : ℕ) (writes : List Write) → length (numbered definitions stacks number (filter (λ write. admits_write definitions config write) writes)) ≡ length (filter (λ write. admits_write definitions config write) writes)
-numbered-long definitions stacks config number [] = refl
-numbered-long definitions stacks config number (write ∷ writes) =
-    elim (cases_Bool (admits_write definitions config write)) [
-      | inl admits ↦
-          let one = numbered-some definitions stacks config number write admits in
-          let others = filter (λ w. admits_write definitions config w) writes in
-          let rest = numbered-long definitions stacks config (number + 1) writes in
-          let both = length-append (contents_if stacks number write (definition_at definitions write.event)) (numbered definitions stacks (number + 1) others) in
-          rw admits (omega (arith, one, rest, both))
-      | inr not_admitted ↦ rw not_admitted (numbered-long definitions stacks config number writes)
-    ]
 
 chosen-long : (definitions : List EventDef) (stacks : Bool) (config : Option Config) (writes : List Write) (at : Option ℕ) → length (numbered definitions stacks 1 (option_map_or (λ from. admitted_from definitions config from writes) at [])) ≡ length (option_map_or (λ from. admitted_from definitions config from writes) at [])
 chosen-long definitions stacks config writes None = refl
@@ -61,21 +37,10 @@ admitted-long : (definitions : List EventDef) (session thread : ℕ) (past : Pas
 admitted-long definitions session thread past =
     chosen-long definitions (has_stacks session past) (config_of session past) (take (to_of session thread past) (writes_of thread past)) (opened_at session thread past)
 
-writes-begun : (thread : ℕ) (past : Past) → length (writes_of thread past) ≤ begins past
-writes-begun thread [] = omega arith
-writes-begun thread (step.Begin t stamp write ∷ past) =
-    let before = writes-begun thread past in
-    let one = length_push (writes_of thread past) write in
-    elim (cases_Bool (eqb t thread)) [ inl same ↦ rw same (omega arith) | inr other ↦ rw other (omega arith) ]
-writes-begun thread (_ ∷ past) = writes-begun thread past
-
-filter-few : {X : Type 0} (p : X → Bool) (xs : List X) → length (filter p xs) ≤ length xs
-filter-few p xs = let all = length-filter p xs in let few = count_by-le-length p xs in omega arith
-
 chosen-few : (definitions : List EventDef) (config : Option Config) (to : ℕ) (writes : List Write) (at : Option ℕ) → length (option_map_or (λ from. admitted_from definitions config from (take to writes)) at []) ≤ length writes
 chosen-few definitions config to writes None = omega arith
 chosen-few definitions config to writes (Some from) =
-    let wanted = filter-few (λ write. admits_write definitions config write) (drop from (take to writes)) in
+    let wanted = filter-shorter (λ write. admits_write definitions config write) (drop from (take to writes)) in
     let dropped = length-drop from (take to writes) in
     let taken = length-take to writes in
     omega (arith, wanted, dropped, taken)
@@ -92,8 +57,8 @@ share_is definitions session thread past entries few counted complete missing la
     let share = share_of definitions session past thread in
     let long = admitted-long definitions session thread past in
     let wanted = admitted-few definitions session thread past in
-    let begun = writes-begun thread past in
-    let some = filter-few (is_kept share.refused) share.admitted in
+    let begun = writes_begun thread past in
+    let some = filter-shorter (is_kept share.refused) share.admitted in
     let all : length share.refused + length (kept share) ≡ length share.admitted =
     made_up (sightings thread entries) (length (kept share)) (length share.refused) (length share.admitted)
     (events_seen thread entries ∙ ap length complete) missing (last_is (length share.admitted) (sightings thread entries) last)
@@ -125,27 +90,3 @@ session_told definitions session thread past items entries faithful few counted 
     (at_opened (λ share. last_sighting share.thread entries ≡ Some (Known (length share.admitted))) f thread (opened session past) faithful.told opens))
 
 -- ---- the threads on which a session is opened
-
-passes_first : (there : Bool) (kind : Kind) (others : Option Kind) → cond there (Some kind) others ≡ None → (there ≡ false) × (others ≡ None)
-passes_first true kind others none = absurd (cc)
-passes_first false kind others none = (refl, none)
-
--- No objection is there against a step that can be made.
-none_there : (all : List Objection) → first_kind all ≡ None → AllByRecursion (λ objection. objection.there ≡ false) all
-none_there [] none = tt
-none_there (objection ∷ others) none =
-    let parts = passes_first objection.there objection.kind (first_kind others) none in
-    (parts.0, none_there others parts.1)
-
-pub opened-ascends : (definitions : List EventDef) (session : ℕ) (past : Past) → IsLawful definitions past → Ascends (opened session past)
-opened-ascends definitions session [] lawful = tt
-opened-ascends definitions session (step.Open s t ∷ past) lawful =
-    let before = opened-ascends definitions session past lawful.0 in
-    elim (cases_eq s session) [
-      | inl same ↦
-          let fresh : was_opened s t past ≡ false = (none_there (objections definitions past (step.Open s t)) lawful.1).1.1.0 in
-          let unopened : has t (opened session past) ≡ false = rw same at fresh in
-          rw (eq-eqb s session same) (ascends-inserted t (opened session past) unopened before)
-      | inr other ↦ rw (ne_eqb s session other) before
-    ]
-opened-ascends definitions session (_ ∷ past) lawful = opened-ascends definitions session past lawful.0

@@ -15,7 +15,8 @@ use Rattle.pt_reading.specs.Found.{IsReported}
 abbrev pub share_numbers : Share → Numbers
 share_numbers share = record { events = held (length (kept share)); last = length share.admitted; gaps = held (length share.refused) }
 
--- Of a thread on which the session was opened: the writes that were written, the last number, which is that of the last admitted write, and the writes that were refused.
+-- Of a thread on which the session was opened: the writes that were written, the last number, which is that of the last
+-- admitted write, and the writes that were refused.
 abbrev pub session_numbers : List EventDef → ℕ → Past → ℕ → Numbers
 session_numbers definitions session past thread =
     record {

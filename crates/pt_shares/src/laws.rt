@@ -18,19 +18,25 @@ use ep_model::laws::{finished_sessions_are_faithful, lawful_lists_are_limited};
 
 /// Items that tell the shares of some threads faithfully have the numbers of each share, and of no other thread.
 pub fn items_have_the_numbers_of_their_shares()
-    ensures numbers { (shares : List Share) (items : List Item) (entries : List Entry) → Tell items entries → AreFaithful shares entries
+    ensures numbers { (shares : List Share) (items : List Item) (entries : List Entry)
+        → Tell items entries → AreFaithful shares entries
         → AllByRecursion (λ share. numbers_of share.thread (kinds_of items) ≡ Some (share_numbers share)) shares }
-    ensures none { (shares : List Share) (items : List Item) (entries : List Entry) (thread : ℕ) → Tell items entries → AreFaithful shares entries
+    ensures none { (shares : List Share) (items : List Item) (entries : List Entry) (thread : ℕ)
+        → Tell items entries → AreFaithful shares entries
         → is_of shares thread ≡ false → numbers_of thread (kinds_of items) ≡ None }
 {}
 
-/// Items that tell a finished session faithfully have of each thread on which it was opened how many events were written,
-/// the last number, and how many were refused; and of no other thread anything.
+/// Items that tell a finished session faithfully have of each thread on which it was opened how many events were
+/// written, the last number, and how many were refused; and of no other thread anything.
 pub fn items_have_the_numbers_of_the_session()
-    ensures numbers { (definitions : List EventDef) (session thread : ℕ) (past : Past) (items : List Item) (entries : List Entry)
-        → IsLawful definitions past → is_finished session past ≡ true → Tell items entries → AreFaithful (shares_of definitions session past) entries
-        → was_opened session thread past ≡ true → numbers_of thread (kinds_of items) ≡ Some (session_numbers definitions session past thread) }
-    ensures none { (definitions : List EventDef) (session thread : ℕ) (past : Past) (items : List Item) (entries : List Entry)
+    ensures numbers { (definitions : List EventDef) (session thread : ℕ) (past : Past)
+        (items : List Item) (entries : List Entry)
+        → IsLawful definitions past → is_finished session past ≡ true → Tell items entries
+        → AreFaithful (shares_of definitions session past) entries
+        → was_opened session thread past ≡ true
+        → numbers_of thread (kinds_of items) ≡ Some (session_numbers definitions session past thread) }
+    ensures none { (definitions : List EventDef) (session thread : ℕ) (past : Past)
+        (items : List Item) (entries : List Entry)
         → Tell items entries → AreFaithful (shares_of definitions session past) entries
         → was_opened session thread past ≡ false → numbers_of thread (kinds_of items) ≡ None }
 {
@@ -42,8 +48,10 @@ pub fn items_have_the_numbers_of_the_session()
 /// The report of such items has a line with these numbers for each of those threads, ascending, and no other line of a
 /// thread.
 pub fn a_report_has_a_line_for_each_thread()
-    ensures { (definitions : List EventDef) (session : ℕ) (past : Past) (items : List Item) (entries : List Entry)
-        → IsLawful definitions past → is_finished session past ≡ true → Tell items entries → AreFaithful (shares_of definitions session past) entries
+    ensures { (definitions : List EventDef) (session : ℕ) (past : Past) (items : List Item)
+        (entries : List Entry)
+        → IsLawful definitions past → is_finished session past ≡ true → Tell items entries
+        → AreFaithful (shares_of definitions session past) entries
         → thread_lines (kinds_of items) ≡ session_lines definitions session past }
 {
     items_have_the_numbers_of_the_session();
@@ -52,10 +60,14 @@ pub fn a_report_has_a_line_for_each_thread()
 /// The stream of a finished session, in which such items are found, has a report (`whole`), and each of its reports has
 /// these lines of threads.
 pub fn a_stream_of_a_session_is_reported()
-    ensures whole { (items : List Item) (entries : List Entry) (bytes : List ℕ) → verdict bytes ≡ Good items → Tell items entries → IsWhole bytes }
-    ensures threads { (definitions : List EventDef) (session : ℕ) (past : Past) (items : List Item) (entries : List Entry) (bytes text : List ℕ)
-        → IsLawful definitions past → is_finished session past ≡ true → Tell items entries → AreFaithful (shares_of definitions session past) entries
-        → verdict bytes ≡ Good items → IsReported bytes text → ReportsThreads bytes (session_lines definitions session past) text }
+    ensures whole { (items : List Item) (entries : List Entry) (bytes : List ℕ)
+        → verdict bytes ≡ Good items → Tell items entries → IsWhole bytes }
+    ensures threads { (definitions : List EventDef) (session : ℕ) (past : Past) (items : List Item)
+        (entries : List Entry) (bytes text : List ℕ)
+        → IsLawful definitions past → is_finished session past ≡ true → Tell items entries
+        → AreFaithful (shares_of definitions session past) entries
+        → verdict bytes ≡ Good items → IsReported bytes text
+        → ReportsThreads bytes (session_lines definitions session past) text }
 {
     a_report_has_a_line_for_each_thread();
 }

@@ -47,9 +47,6 @@ several_shape = shape_with several_rules
 
 -- ---- one word
 
-one-faults : (words : List Text) → fault_of one_app words ≡ faults (built one_app) (walk_fault (shape_with (one_rule ∷ [])) [] start words) (walk (one_rule ∷ []) [] nothing_held words)
-one-faults words = refl
-
 one-taken : (one : Text) → has_option (one ∷ []) ≡ false → fault_of one_app (one ∷ []) ≡ []
 unfolding clap_on_literals
 one-taken one other =
@@ -112,9 +109,6 @@ one-option (one ∷ []) other = go (is_option one) other
 one-option (one ∷ two ∷ more) other = refl
 
 -- ---- two words
-
-two-faults : (words : List Text) → fault_of two_app words ≡ faults (built two_app) (walk_fault two_shape [] start words) (walk two_rules [] nothing_held words)
-two-faults words = refl
 
 two-first : (one : Text) (more : List Text) → is_option one ≡ false → walk_fault two_shape [] start (one ∷ more) ≡ walk_fault two_shape [] (after_one one) more
 two-first one more plain = faults-on two_shape start (after_one one) one more (taken-one (two_rule ∷ []) one plain) (walked-one (two_rule ∷ []) one plain)
@@ -210,9 +204,6 @@ two-option (one ∷ two ∷ []) other = rw other refl
 two-option (one ∷ two ∷ three ∷ more) other = refl
 
 -- ---- three words or more
-
-several-faults : (words : List Text) → fault_of several_app words ≡ faults (built several_app) (walk_fault several_shape [] start words) (walk several_rules [] nothing_held words)
-several-faults words = refl
 
 several-first : (one : Text) (more : List Text) → is_option one ≡ false → walk_fault several_shape [] start (one ∷ more) ≡ walk_fault several_shape [] (after_one one) more
 several-first one more plain = faults-on several_shape start (after_one one) one more (taken-one (two_rule ∷ rest_rule ∷ []) one plain) (walked-one (two_rule ∷ rest_rule ∷ []) one plain)

@@ -1,4 +1,5 @@
--- How the walk goes over words of the option `--session`: what each kind of word makes of each place where it can stand.
+-- How the walk goes over words of the option `--session`: what each kind of word makes of each place where it can
+-- stand.
 use Rattle.std.proofs.Common.{◌≡◌, false, List, [], ◌∷◌, ◌++◌, Some, None, refl, codes}
 use Rattle.clap.specs.Walk.{Text, Rule, Row, Walk, idle, option, walked, used}
 use Rattle.clap.specs.Simple.{Shape, filled, with_index}
@@ -24,7 +25,7 @@ shape = shape_with rules
 abbrev pub used_with : Text → List Row
 used_with text = used rule (text ∷ []) []
 
--- Behind `--session`, with these rows.
+-- After `--session`, with these rows.
 abbrev pub waiting_on : List Row → Walk
 waiting_on rows = record {
   held = record { rows = rows; pending = Some (codes "session", []); skip = 0 };
@@ -34,7 +35,7 @@ waiting_on rows = record {
   stopped = None;
 }
 
--- Behind its text.
+-- After its text.
 abbrev pub told_on : List Row → Text → Walk
 told_on rows text = record {
   held = record { rows = rows; pending = Some (codes "session", text ∷ []); skip = 0 };
@@ -44,7 +45,7 @@ told_on rows text = record {
   stopped = None;
 }
 
--- Behind `--session=` with its text.
+-- After `--session=` with its text.
 abbrev pub attached_on : Text → Walk
 attached_on text = record {
   held = record { rows = used_with text; pending = None; skip = 0 };

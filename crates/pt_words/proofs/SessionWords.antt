@@ -1,8 +1,8 @@
 -- What the command of the option `--session` makes of words.
-use Rattle.std.proofs.Common.{◌≡◌, ◌∙◌, ◌⊎◌, inl, inr, ◌&&◌, ◌||◌, cond, Bool, true, false, not, List, [], ◌∷◌, ◌++◌, map, drop, Option, Some, None, refl, sym, subst, ap, ap₂, codes}
+use Rattle.std.proofs.Common.{◌≡◌, ◌∙◌, ◌⊎◌, inl, inr, ◌&&◌, ◌||◌, cond, Bool, true, false, not, List, [], ◌∷◌, ◌++◌, drop, Option, Some, None, refl, sym, subst, ap, ap₂, codes}
 use Rattle.std.proofs.lemmas.Bool.Decides.{Decides-eqb}
 use Rattle.std.proofs.lemmas.Slice.Eq.{bytes_eq-Decides, starts_is}
-use Rattle.std.specs.List.{list_any, fold}
+use Rattle.std.specs.List.{fold}
 use Rattle.clap.specs.Walk.{Text, Walk, walked, finished, first_of}
 use Rattle.clap.specs.Simple.{App, built}
 use Rattle.clap.specs.Faults.{walk_fault, turn_fault, is_simple_and_free}
@@ -320,8 +320,3 @@ session-foreign (option ∷ text ∷ []) foreign = go (is_foreign option) (is_fo
         text-none-any false begins = refl
     go false false is other either = cc
 session-foreign (option ∷ text ∷ third ∷ more) foreign = refl
-
--- The test over words is that over their texts.
-pub has-foreign_map : {X : Type 0} (text : X → Text) (words : List X) → list_any (λ word. is_foreign (text word)) words ≡ has_foreign (map text words)
-has-foreign_map text [] = refl
-has-foreign_map text (word ∷ more) = ap (λ b. is_foreign (text word) || b) (has-foreign_map text more)

@@ -1,10 +1,11 @@
 -- What a walk has found of each argument, whatever the order in which they were used.
-use Rattle.std.proofs.Common.{◌≡◌, ◌∙◌, ◌||◌, ◌&&◌, cond, Bool, true, false, not, List, [], ◌∷◌, ◌++◌, Option, Some, None, is_some, option_map, find, refl, sym, ap, ap₂, codes}
-use Rattle.std.specs.List.{list_any, fold, slice_get}
+use Rattle.std.proofs.Common.{◌≡◌, ◌∙◌, ◌||◌, cond, Bool, true, false, List, [], ◌∷◌, ◌++◌, Option, Some, None, is_some, option_map, find, refl, ap, ap₂}
+use Rattle.std.specs.List.{fold, slice_get}
 use Rattle.std.specs.Option.{option_or, option_map_or, option_and_then}
 use Rattle.std.specs.Str.{bytes_eq}
 use Rattle.std.proofs.lemmas.List.{append-nil}
 use Rattle.std.proofs.lemmas.List.Folds.{find-append}
+use Rattle.std.proofs.Math.Bool.{or-true}
 use Rattle.clap.specs.Walk.{Text, Rule, Row, reading_by, at_row, more_values, with_values, without, has_row, with_default, default_rows, is_empty}
 use Rattle.clap.specs.Faults.{default_fault, defaults_fault, given_default_fault}
 use Rattle.clap.specs.Kinds.{or_else}
@@ -84,10 +85,6 @@ HaveNoDefaults (rule ∷ rules) = (rule.defaults ≡ []) × HaveNoDefaults rules
 either-way : (b : Bool) (rows : List Row) → cond b rows rows ≡ rows
 either-way true rows = refl
 either-way false rows = refl
-
-or-true : (b : Bool) → (b || true) ≡ true
-or-true true = refl
-or-true false = refl
 
 no-default : (rule : Rule) (rows : List Row) → rule.defaults ≡ [] → with_default rows rule ≡ rows
 no-default rule rows none =

@@ -1,5 +1,6 @@
 -- How the walk goes over words of three positions and two options: what each kind of word makes of each place where it can stand.
-use Rattle.std.proofs.Common.{◌≡◌, ◌∙◌, ◌&&◌, cond, Bool, true, false, ℕ, List, [], ◌∷◌, ◌++◌, Some, None, refl, ap, codes}
+use Rattle.std.proofs.Common.{◌≡◌, ◌∙◌, ◌&&◌, cond, Bool, false, ℕ, List, [], ◌∷◌, ◌++◌, Some, None, refl, ap, codes}
+use Rattle.std.proofs.Math.Bool.{and-false}
 use Rattle.clap.specs.Walk.{Text, Rule, Row, Held, Walk, idle, option, walked, used, settled, is_pending, pushed}
 use Rattle.clap.specs.Simple.{Shape, filled, with_index}
 use Rattle.clap.specs.Faults.{turn_fault, settle_fault, use_fault, positional_fault}
@@ -126,10 +127,6 @@ attached-waiting mb seed text h position = refl
 attached-waiting mb mb text h position = refl
 
 -- ---- a position
-
-and-false : (b : Bool) → (b && false) ≡ false
-and-false true = refl
-and-false false = refl
 
 one-turn-by : (h : Held) (word : Text) → is_option word ≡ false → turn_fault shape [] (at h 1) word ≡ positional_fault rules false one_rule h
 unfolding clap_on_literals

@@ -1,10 +1,10 @@
 -- What the command of three positions and two options makes of words.
-use Rattle.std.proofs.Common.{◌≡◌, ◌∙◌, ◌⊎◌, inl, inr, ◌&&◌, ◌||◌, cond, Bool, true, false, not, ℕ, List, [], ◌∷◌, ◌++◌, map, drop, Option, Some, None, is_some, option_map, refl, sym, subst, ap, ap₂, codes}
+use Rattle.std.proofs.Common.{◌≡◌, ◌∙◌, ◌⊎◌, inl, inr, ◌&&◌, ◌||◌, cond, Bool, true, false, not, ℕ, List, [], ◌∷◌, ◌++◌, drop, Option, Some, None, is_some, option_map, refl, sym, subst, ap, ap₂, codes}
 use Rattle.std.proofs.lemmas.Bool.Decides.{Decides-eqb}
 use Rattle.std.proofs.lemmas.Slice.Eq.{bytes_eq-Decides, starts_is}
-use Rattle.std.specs.List.{list_any, fold}
+use Rattle.std.specs.List.{fold}
 use Rattle.std.specs.Option.{option_and_then}
-use Rattle.clap.specs.Walk.{Text, Row, Held, Walk, walked, walk_from, nothing_held, finished, first_of, has_row, used}
+use Rattle.clap.specs.Walk.{Text, Row, Held, Walk, walked, nothing_held, finished, first_of, has_row, used}
 use Rattle.clap.specs.Simple.{App, built}
 use Rattle.clap.specs.Faults.{walk_fault, turn_fault, settle_fault, use_fault, defaults_fault, is_simple_and_free}
 use Rattle.clap.specs.Takes.{is_given}
@@ -684,8 +684,3 @@ foreign-told (word ∷ text ∷ words) is = foreign-more word text words (foreig
 
 pub trace-foreign : (words : List Text) → has_foreign words ≡ true → None ≡ trace_in words
 trace-foreign words foreign = sym (ap (answer none None None) (foreign-told words foreign))
-
--- The test over words is that over their texts.
-pub has-foreign_map : {X : Type 0} (text : X → Text) (words : List X) → list_any (λ word. is_foreign (text word)) words ≡ has_foreign (map text words)
-has-foreign_map text [] = refl
-has-foreign_map text (word ∷ more) = ap (λ b. is_foreign (text word) || b) (has-foreign_map text more)

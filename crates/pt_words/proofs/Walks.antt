@@ -142,7 +142,7 @@ no-later false b other = other
 no-later true false other = refl
 no-later true true other = other
 
--- All words behind the second are texts of the third position.
+-- All words after the second are texts of the third position.
 pub walked-all : (one two : Text) (rest more : List Text) → has_option more ≡ false
     → fold (walked (one_rule ∷ two_rule ∷ rest_rule ∷ []) []) (after_rest one two rest) more ≡ after_rest one two (rest ++ more)
 walked-all one two rest [] other = ap (after_rest one two) (sym (append-nil rest))

@@ -24,8 +24,8 @@ is_foreign word = is_option word && (not (is_alone word) && not (is_attached wor
 abbrev pub has_foreign : List (List ℕ) → Bool
 has_foreign words = list_any is_foreign words
 
--- No words have no text of the option. One word has it behind `=`, two have it as the second, which begins with no `-`. All
--- others are refused.
+-- No words have no text of the option. One word has it after `=`, two have it as the second, which begins with no `-`.
+-- All others are refused.
 abbrev pub session_in : List (List ℕ) → Option (Option (List ℕ))
 session_in [] = Some None
 session_in (word ∷ []) = if is_attached word then Some (Some (attached_text word)) else None

@@ -4,9 +4,11 @@ use Rattle.std.specs.List.{list_any, starts_with}
 use Rattle.std.specs.Str.{bytes_eq}
 use Rattle.pt_words.specs.Words.{is_option}
 
+-- The option of a seed.
 abbrev pub seed_option : List ℕ
 seed_option = codes "--seed"
 
+-- The option of a budget.
 abbrev pub megabytes_option : List ℕ
 megabytes_option = codes "--mb"
 
@@ -14,7 +16,7 @@ megabytes_option = codes "--mb"
 abbrev pub is_alone : List ℕ → List ℕ → Bool
 is_alone option word = bytes_eq word option
 
--- The word is this option with its text, behind `=`, which is 61.
+-- The word is this option with its text, after `=`, which is 61.
 abbrev pub is_attached : List ℕ → List ℕ → Bool
 is_attached option word = starts_with nat_eq word (option ++ 61 ∷ [])
 
@@ -42,15 +44,19 @@ pub record Told : Type 0 where
   pub seeds : List (List ℕ)
   pub megabytes : List (List ℕ)
 
+-- No word was read.
 abbrev pub nothing : Told
 nothing = record { positions = []; seeds = []; megabytes = [] }
 
+-- One more position, in front of the others.
 abbrev pub with_position : List ℕ → Told → Told
 with_position text told = record told { positions = text ∷ told.positions }
 
+-- One more text of `--seed`.
 abbrev pub with_seed : List ℕ → Told → Told
 with_seed text told = record told { seeds = text ∷ told.seeds }
 
+-- One more text of `--mb`.
 abbrev pub with_megabytes : List ℕ → Told → Told
 with_megabytes text told = record told { megabytes = text ∷ told.megabytes }
 
@@ -87,14 +93,16 @@ at_most_one [] = Some None
 at_most_one (text ∷ []) = Some (Some text)
 at_most_one texts = None
 
+-- The texts, where there are three positions and neither option stands twice.
 abbrev pub trace_of : Option (Option (List ℕ)) → Option (Option (List ℕ)) → List (List ℕ) → Option TraceTexts
 trace_of (Some seed) (Some megabytes) (threads ∷ writes ∷ text ∷ []) =
     Some (record { threads = threads; writes = writes; text = text; seed = seed; megabytes = megabytes })
 trace_of seed megabytes positions = None
 
+-- The same of all words that were read.
 abbrev pub said : Told → Option TraceTexts
 said told = trace_of (at_most_one told.seeds) (at_most_one told.megabytes) told.positions
 
--- Three positions, with each option before, between or behind them, or not at all.
+-- Three positions, with each option before, between or after them, or not at all.
 abbrev pub trace_in : List (List ℕ) → Option TraceTexts
 trace_in words = option_and_then said (told_in words)

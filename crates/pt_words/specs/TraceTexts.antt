@@ -3,6 +3,7 @@ use Rattle.std.specs.Prelude.{ℕ, List, Option, Some, None, option_map}
 use Rattle.pt_words.specs.Trace.{TraceTexts}
 use Rattle.pt_words.specs.declared.trace.Trace.{Trace}
 
+-- The texts of a parsed line.
 abbrev pub texts_of : Trace → TraceTexts
 texts_of trace =
     record {

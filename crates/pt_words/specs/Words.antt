@@ -1,4 +1,4 @@
--- The words behind a command's name, as texts.
+-- The words after a command's name, as texts.
 use Rattle.std.specs.Prelude.{ℕ, Bool, false, ◌==◌, if◌then◌else◌, List, [], ◌∷◌, map, Option, Some, None}
 use Rattle.std.specs.List.{list_any}
 use Rattle.std.specs.Borrow.{Bor}
@@ -13,7 +13,7 @@ is_option (byte ∷ word) = byte == 45
 abbrev pub has_option : List (List ℕ) → Bool
 has_option words = list_any is_option words
 
--- Two texts, and one or more behind them.
+-- Two texts, and one or more after them.
 pub record SeveralTexts : Type 0 where
   pub one : List ℕ
   pub two : List ℕ
@@ -38,9 +38,11 @@ several_in words = None
 
 -- ---- what is answered, as texts
 
+-- The texts of a pair.
 abbrev pub pair_of : Bor (List ℕ) × Bor (List ℕ) → List ℕ × List ℕ
 pair_of pair = (pair.0.now, pair.1.now)
 
+-- The texts of three words or more.
 abbrev pub texts_of : Several → SeveralTexts
 texts_of several =
     record { one = several.one.now; two = several.two.now; rest = map (λ text. text.now) several.rest.items }

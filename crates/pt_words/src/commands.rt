@@ -20,7 +20,7 @@ pub(crate) fn two_positions<'a>(alloc: Global) -> Result<Command<'a>, AllocError
     one_position(alloc)?.arg(position(alloc, "two"))
 }
 
-/// Two positions, and behind them one or more.
+/// Two positions, and after them one or more.
 pub(crate) fn several_positions<'a>(alloc: Global) -> Result<Command<'a>, AllocError>
     ensures { IfOk result (λ command. app_of command ≡ several_app) }
 {

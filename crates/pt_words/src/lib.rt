@@ -1,8 +1,10 @@
-//! The words behind a command's name, as texts: `clap` reads them, by one simple command for each shape of a command line.
+//! The words after a command's name, as texts: `clap` reads them, by one simple command for each shape of a command
+//! line.
 //!
 //! It stands on clap alone. What a text means, a number or a rule, is for those above to say.
 //!
-//! Its one contract: which words have which texts is a function of the words (`specs/Words`, `specs/Session`, `specs/Trace`), whatever the words are.
+//! Its one contract: which words have which texts is a function of the words (`specs/Words`, `specs/Session`,
+//! `specs/Trace`), whatever the words are.
 #![tactic(auto)]
 
 mod commands;

@@ -10,7 +10,7 @@ use crate::matches::matches_of;
 use clap::ArgMatches;
 use std::alloc::{AllocError, Global};
 
-/// Two texts, and one or more behind them.
+/// Two texts, and one or more after them.
 #[derive(Debug, Drop)]
 pub struct Several<'a> {
     pub one: &'a str,

@@ -9,15 +9,16 @@ use crate::matches::matches_of;
 use crate::positions::is_option;
 use std::alloc::{AllocError, Global};
 
-/// The text of the option `--session`, which is the word behind it, or stands behind `=` in its own word.
+/// The text of the option `--session`, which is the word after it, or stands after `=` in its own word.
 ///
-/// `Some(None)` where there are no words, and None where they are others: with a word over, with the option twice or without
-/// a text, or where a word begins with `-` and is not the option.
+/// `Some(None)` where there are no words, and None where they are others: with a word over, with the option twice or
+/// without a text, or where a word begins with `-` and is not the option.
 pub fn session_text<'a>(
     alloc: Global,
     words: &'a [String],
 ) -> Result<Option<Option<&'a str>>, AllocError>
-    ensures { IfOk result (λ text. option_map (option_map (λ t. t.now)) text ≡ session_in (map string_bytes words.now)) }
+    ensures { IfOk result (λ text. option_map (option_map (λ t. t.now)) text
+        ≡ session_in (map string_bytes words.now)) }
 {
     if has_foreign(words) {
         return Ok(None);

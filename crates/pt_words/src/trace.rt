@@ -23,7 +23,7 @@ pub struct Trace<'a> {
 }
 
 /// The texts of three positions, and of the options `--seed` and `--mb`, each of which may stand before, between or
-/// behind them, as two words or as one with `=`.
+/// after them, as two words or as one with `=`.
 ///
 /// None where there are more positions or fewer, where an option stands twice or has no text, or where a word begins
 /// with `-` and is not one of them.

@@ -63,6 +63,7 @@ left_to_walk take tell (Some w) = walked take tell w
 abbrev pub IsThread : ℕ → Type 0
 IsThread thread = (1 ≤ thread) × (thread ≤ THREADS)
 
+-- The thread of a place in a sweep is one of the schedule.
 abbrev pub IsWalk : Walk → Type 0
 IsWalk (walk.Take session thread) = IsThread thread
 IsWalk (walk.Give session thread) = IsThread thread
@@ -83,6 +84,7 @@ abbrev pub shows_from : ℕ → ℕ → List ℕ → List Step
 shows_from seed round sessions =
     map (λ s. step.Show (thread_at seed round) s) (filter (gets (write_at seed round)) sessions)
 
+-- The steps that are still to come from a place in the schedule on.
 abbrev pub to_come : ℕ → ℕ → Stage → List Step
 to_come seed rounds (stage.Accept session) =
     map (λ s. step.Accept s (config_of s)) (number_of session ∷ after_session session)

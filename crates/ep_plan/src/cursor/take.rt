@@ -4,7 +4,7 @@ ghost use Rattle.std.specs.Bool.{OnTrue, OnFalse};
 ghost use Rattle.ep_defs.specs.declared.limits.TheConstants.{EVENTS};
 ghost use Rattle.ep_plan.specs.declared.limits.TheConstants.{LINE_BYTES};
 ghost use Rattle.ep_plan.specs.declared.line.LineKind.TheVariants.{Word};
-ghost use Rattle.ep_plan.specs.declared.line.LineFault.TheVariants.{Bad as Refused};
+ghost use Rattle.ep_plan.specs.declared.line.LineFault.TheVariants.{Bad as BadLine};
 ghost use Rattle.ep_plan.specs.Lines.{Part, Index, Number, Flag, Stamp, Provider, Name, Keywords, Fields as FieldsPart, Rule as RulePart, Id, Frames as FramesPart, Payload, number_of, flag_of, stamp_of};
 ghost use Rattle.ep_plan.specs.Words.{words_of, hex_in, id_in, frames_in, payload_in, provider_in, event_name_in, rule_in, fields_in};
 ghost use Rattle.ep_plan.specs.Cursor.{left, column_of, bad_left, has_word, TookWord, Took, TakesPart, IsBad, IsBadAt, IfBad, Reads};
@@ -47,7 +47,7 @@ impl<'a> Cursor<'a> {
 
     /// The fault of a word that begins at a column.
     pub(crate) fn bad(&self, column: u64, kind: LineKind) -> LineFault
-        ensures { result ≡ Refused self.now.line column kind }
+        ensures { result ≡ BadLine self.now.line column kind }
     {
         LineFault::Bad {
             line: self.line,
@@ -59,8 +59,10 @@ impl<'a> Cursor<'a> {
     /// The next word, which may not be empty.
     pub(crate) fn word(&mut self) -> Result<&'a [u8], LineFault>
         ensures took { IfOk result (λ word. TookWord self.old self.new word.now) }
-        ensures bad { IfBad result (λ line column kind. (part : Part) → IsBad part self.old line column kind) }
-        ensures no_word { IfBad result (λ line column kind. (column ≡ column_of self.old) × (kind ≡ Word) × (has_word (left self.old) ≡ false)) }
+        ensures bad { IfBad result (λ line column kind. (part : Part)
+            → IsBad part self.old line column kind) }
+        ensures no_word { IfBad result (λ line column kind. (column ≡ column_of self.old)
+            × (kind ≡ Word) × (has_word (left self.old) ≡ false)) }
     {
         let column = self.column();
         let Some(text) = self.rest else {
@@ -103,8 +105,11 @@ impl<'a> Cursor<'a> {
     where
         T: Drop,
         requires { F.IsAlwaysCallable read }
-        ensures took { (part : Part) (spell : List ℕ → Option T) → Reads part spell kind (F.post read) → IfOk result (TakesPart part spell self.old self.new) }
-        ensures bad { (part : Part) (spell : List ℕ → Option T) → Reads part spell kind (F.post read) → IfBad result (IsBad part self.old) }
+        ensures took { (part : Part) (spell : List ℕ → Option T)
+            → Reads part spell kind (F.post read)
+            → IfOk result (TakesPart part spell self.old self.new) }
+        ensures bad { (part : Part) (spell : List ℕ → Option T)
+            → Reads part spell kind (F.post read) → IfBad result (IsBad part self.old) }
     {
         let column = self.column();
         let word = self.word()?;

@@ -10,7 +10,7 @@ use Rattle.nt_blocks.specs.declared.limits.TheConstants.{LAST_COUNT}
 use Rattle.nt_blocks.specs.declared.take.Blob.{Blob}
 use Rattle.nt_blocks.specs.Refusals.{Refusal, StackPlace, blob_at, may_head, point_body_at, stack_at, stack_body_at, stacks_at, thread_at, threads_at}
 
--- A header that a blob of this kind of block may have, of so many bytes, before a payload that is there.
+-- A header that a blob of this kind of block may have, of this many bytes, before a payload that is there.
 pub record ReadsHead (kind : BlockKind) (before : HeadState) (bytes : List ℕ) (head : HeadState) (used : ℕ) : Type 0 where
   pub some : 0 < used
   pub within : used + head.size ≤ length bytes
@@ -28,14 +28,14 @@ pub record ReadsBlob (kind : BlockKind) (at here : ℕ) (before : HeadState) (by
         rest = drop blob.used bytes;
       })
 
--- The first id and the number of stacks, which begin behind 8 bytes.
+-- The first id and the number of stacks, which begin after 8 bytes.
 pub record CountsStacks (body : List ℕ) (first count : ℕ) : Type 0 where
   pub first_fits : first ≤ LAST_COUNT
   pub count_fits : count ≤ LAST_COUNT
   pub within : 8 ≤ length body
   pub read : (at : ℕ) → stack_body_at at body ≡ stacks_at at (at + 8) first count (drop 8 body)
 
--- A stack behind its size, of 4 bytes.
+-- A stack after its size, of 4 bytes.
 pub record ReadsStack (bytes stack : List ℕ) : Type 0 where
   pub within : 4 + length stack ≤ length bytes
   pub read : (start : ℕ) (place : StackPlace) → stack_at start place bytes
@@ -49,7 +49,7 @@ pub record ReadsStack (bytes stack : List ℕ) : Type 0 where
 abbrev pub point_of : ℕ → ℕ → Result (List (ℕ × ℕ)) Refusal → Result (List Item) Refusal
 point_of at stamp threads = threads >>= λ numbers. Ok (record { at = at; kind = item.Point stamp numbers } ∷ [])
 
--- The stamp of a point and the number of its threads, which begin behind 12 bytes.
+-- The stamp of a point and the number of its threads, which begin after 12 bytes.
 pub record CountsThreads (body : List ℕ) (stamp count : ℕ) : Type 0 where
   pub within : 12 ≤ length body
   pub read : (at : ℕ) → point_body_at at body ≡ point_of at stamp (threads_at at count (drop 12 body))

@@ -27,9 +27,11 @@ abbrev pub step : Numbers → Sighting → Numbers
 step numbers (Seen number) = record { events = held (numbers.events + 1); last = number; gaps = held (numbers.gaps + distance (numbers.last + 1) number) }
 step numbers (Known number) = record { events = numbers.events; last = number; gaps = held (numbers.gaps + distance numbers.last number) }
 
+-- The numbers of a thread after one more sighting.
 abbrev pub after : Option Numbers → Sighting → Option Numbers
 after numbers sighting = Some (step (unwrap_or numbers nothing) sighting)
 
+-- The numbers of a thread after these sightings.
 abbrev pub after_all : Option Numbers → List Sighting → Option Numbers
 after_all numbers [] = numbers
 after_all numbers (sighting ∷ sightings) = after_all (after numbers sighting) sightings

@@ -19,7 +19,8 @@ abbrev pub names_at : Names → List ItemKind → Names
 names_at names [] = names
 names_at names (kind ∷ kinds) = names_at (names_after names kind) kinds
 
--- The checker took these items, in this order: they are ordered, and it knows their names and the numbers of their threads.
+-- The checker took these items, in this order: they are ordered, and it knows their names and the numbers of their
+-- threads.
 pub record Took (kinds : List ItemKind) (checker : Checker) : Type 0 where
   pub ordered : IsOk (told_after no_names kinds)
   pub names : Knows (names_at no_names kinds) checker.ids

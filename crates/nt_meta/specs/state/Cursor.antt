@@ -18,7 +18,7 @@ pub record AddsField (depth : ℕ) (bytes : List ℕ) (before : List FieldDef) (
   pub shorter : length rest < length bytes
   pub read : (more : ℕ) → length bytes ≤ suc more → field_at (fields_at more) depth bytes ≡ Ok (fields, rest)
 
--- So many fields are added.
+-- This many fields are added.
 pub record AddsFields (depth count : ℕ) (bytes : List ℕ) (before : List FieldDef) (rest : List ℕ) (after : List FieldDef) : Type 0 where
   pub fields : List FieldDef
   pub added : after ≡ before ++ fields
@@ -32,7 +32,7 @@ AnswersField depth bytes before (Err BadMeta) rest after =
     (more : ℕ) → length bytes ≤ suc more → IsErr (field_at (fields_at more) depth bytes)
 AnswersField depth bytes before (Err OutOfMemory) rest after = Unit {0}
 
--- What reading so many fields answers.
+-- What reading this many fields answers.
 abbrev pub AnswersFields : ℕ → ℕ → List ℕ → List FieldDef → Result (Unit {0}) Stop → List ℕ → List FieldDef → Type 0
 AnswersFields depth count bytes before (Ok x) rest after = AddsFields depth count bytes before rest after
 AnswersFields depth count bytes before (Err BadMeta) rest after =

@@ -15,7 +15,7 @@ use Rattle.nt_read.specs.declared.stage.Stage.TheVariants as stage
 use Rattle.nt_read.specs.Answers.{fault_of}
 use Rattle.nt_read.specs.Stages.{goes_on}
 
--- A unit of this stage may have no bytes, and so many others may follow at once.
+-- A unit of this stage may have no bytes, and this many others may follow at once.
 abbrev pub turns_left : Stage → ℕ
 turns_left stage.Head = 0
 turns_left (stage.Tag has_trace) = 0
@@ -59,7 +59,8 @@ abbrev pub payload_stage : ObjectKind → Stage
 payload_stage object.Trace = stage.Trace
 payload_stage (object.Block block) = stage.Size block
 
--- The unit is whole: the verdict from it on is that from the next stage on. The open object's items are `before` before it and `after` behind it.
+-- The unit is whole: the verdict from it on is that from the next stage on. The open object's items are `before` before
+-- it and `after` behind it.
 pub record Turns (stage : Stage) (at : ℕ) (before : List Item) (unit : List ℕ) (next : Stage) (after : List Item) : Type 0 where
   pub falls : turns_left next < 3 * length unit + turns_left stage
   pub goes : (told : List Item) (more : List ℕ) → goes_on stage at before told (unit ++ more) ≡ goes_on next (at + length unit) (left stage after) (told ++ given stage after) more
@@ -75,6 +76,7 @@ abbrev pub Faults : Stage → ℕ → List Item → List ℕ → ReadFault → T
 Faults stage at before unit (fault.Bad place kind) = Refuses stage at before unit (fault.Bad place kind)
 Faults stage at before unit fault.OutOfMemory = Unit {0}
 
+-- A whole unit is taken and the reader comes to the next stage, or it is refused.
 abbrev pub Judges : Stage → ℕ → List Item → List ℕ → Result Stage ReadFault → List Item → Type 0
 Judges stage at before unit (Ok next) after = Turns stage at before unit next after
 Judges stage at before unit (Err refused) after = Faults stage at before unit refused

@@ -45,7 +45,7 @@ fn definition(alloc: Global) -> Result<EventDef, AllocError>
     })
 }
 
-// A call at a stamp: an event of thread 1 with its number, so many bytes of payload, and so many frames of this byte;
+// A call at a stamp: an event of thread 1 with its number, this many bytes of payload, and this many frames of this byte;
 // or a point that names the last number.
 #[derive(Clone, Copy, Debug)]
 enum Call {

@@ -11,6 +11,7 @@ use Rattle.pt_report.specs.declared.events.Events.{Events}
 use Rattle.pt_report.specs.Keys.{key_of, key_order}
 use Rattle.pt_report.specs.state.Counts.{Counts}
 
+-- The provider of a definition.
 abbrev pub provider_of : EventDef → List ℕ
 provider_of def = def.provider
 

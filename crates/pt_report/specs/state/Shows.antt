@@ -15,6 +15,7 @@ use Rattle.pt_report.specs.state.Counts.{Counts}
 use Rattle.pt_report.specs.state.Events.{ShowsEvents}
 use Rattle.pt_report.specs.state.Stacks.{ShowsStacks}
 
+-- The totals with one more item.
 abbrev pub with_total : Totals → ItemKind → Totals
 with_total totals (item.Trace info) = totals
 with_total totals (item.Meta id def) = record totals { metadata = held (totals.metadata + 1) }
@@ -22,6 +23,7 @@ with_total totals (item.Stack id bytes) = record totals { stacks = held (totals.
 with_total totals (item.Event metadata number capture processor thread stack stamp activity related payload) = record totals { events = held (totals.events + 1) }
 with_total totals (item.Point stamp threads) = record totals { points = held (totals.points + 1) }
 
+-- The totals of these items.
 abbrev pub totals_of : List ItemKind → Totals
 totals_of kinds =
     record {

@@ -4,10 +4,11 @@ use Rattle.std.proofs.lemmas.List.{length_push}
 use Rattle.std.proofs.lemmas.Iterator.Splits.{YieldsList-from_slice_split}
 use Rattle.std.proofs.lemmas.Iterator.Consumers.{YieldsList-at}
 use Rattle.ep_plan.specs.Words.{comma, parts_at, all_in}
+use Rattle.ep_plan.proofs.RuleWords.{behind-none}
 use Rattle.ep_auto.specs.Fields.{rule_in, first_wrong}
 use Rattle.ep_auto.specs.StartUp.{has_too_many, fields_from}
 use Rattle.ep_auto.proofs.Parts.{span, span-split, span-more}
-use Rattle.ep_auto.proofs.Rules.{read_and_rest, read-first, read-more, is-config, fault-in-part, fault-kept, read-end, valid-config}
+use Rattle.ep_auto.proofs.Rules.{read_and_rest, read-more, is-config, fault-in-part, fault-kept, read-end, valid-config}
 use Rattle.ep_auto.proofs.Turns.{turn, over}
 use Rattle.ep_auto.proofs.Wrong.{wrong-behind}
 use Rattle.ep_auto.proofs.read.read_auto.Goals as goal
@@ -16,7 +17,7 @@ pub loop-part-init : goal.loop-part-init
 loop-part-init c =
     let all = span-split (λ byte. byte == comma) c.args.text.now in
     record {
-      rules = read-first (all_in rule_in (parts_at comma c.args.text.now)) ∙ ap (λ rules. read_and_rest rules (parts_at comma c.args.text.now)) (sym c.new-rules.ensures.items);
+      rules = behind-none (all_in rule_in (parts_at comma c.args.text.now)) ∙ ap (λ rules. read_and_rest rules (parts_at comma c.args.text.now)) (sym c.new-rules.ensures.items);
       faults = refl;
       places = omega (arith, all);
     }

@@ -1,6 +1,7 @@
 use Rattle.std.proofs.Common.{ℕ, Bool, Option, Some, None, ap, sym, ◌∙◌, if◌then◌else◌}
 use Rattle.std.specs.Prelude.{not, is_none, nat_le}
 use Rattle.std.proofs.lemmas.Bool.{not-false}
+use Rattle.ep_defs.specs.declared.limits.TheConstants.{SCHEDULE_WRITES}
 use Rattle.ep_defs.specs.Definitions.{definition_at}
 use Rattle.ep_defs.specs.Session.{fits}
 use Rattle.ep_model.specs.declared.step.Kind.{Kind}
@@ -13,7 +14,7 @@ use Rattle.ep_judge.proofs.objections.to_begin.Goals as goal
 pub returns : goal.returns
 returns c events past stamp h =
     let write = c.args.write.now in
-    let many : ℕ → Option Kind = λ n. if nat_le 2147483646 n then Some TooMany else None in
+    let many : ℕ → Option Kind = λ n. if nat_le SCHEDULE_WRITES n then Some TooMany else None in
     let later : Bool → Bool → ℕ → Option Kind = λ lacks large n. if lacks then Some NoEvent else (if large then Some TooLarge else many n) in
     c.first.ensures
     ∙ alike_two (not c.is_there.result) c.in_write.result (not (is_there c.args.thread past)) (in_write c.args.thread past) NoThread InWrite

@@ -1,10 +1,10 @@
 use Rattle.std.proofs.Common.{true, false, None, Some, sym, ◌∙◌}
 use Rattle.std.proofs.lemmas.Result.{err_from_is_err_and}
-use Rattle.ep_plan.specs.declared.line.LineKind.TheVariants as kind
 use Rattle.ep_plan.specs.Lines.{definition_parts, bad_at}
 use Rattle.ep_plan.specs.Cursor.{left}
-use Rattle.ep_plan.proofs.Reading.{through}
+use Rattle.ep_plan.proofs.CursorWords.{through}
 use Rattle.ep_plan.proofs.EventWords.{late, word-bad, def-judged, not-valid, judged, whole-line}
+use Rattle.ep_plan.specs.declared.line.LineKind.TheVariants as kind
 use Rattle.ep_plan.proofs.event.read_event.Goals as goal
 
 pub returns-then-stepped-clause-bad : goal.returns-then-stepped-clause-bad

@@ -1,12 +1,12 @@
 use Rattle.std.proofs.Common.{◌≡◌, ◌+◌, ℕ, List, ◌∷◌, length, codes, Some, sym, ap, ◌∙◌, subst}
 use Rattle.std.proofs.lemmas.Result.{err_from_is_err_and}
-use Rattle.ep_plan.specs.declared.line.LineKind.TheVariants as kind
 use Rattle.ep_plan.specs.Lines.{Number, bad_at, Means, event_bad, step_bad, Spells}
 use Rattle.ep_plan.specs.Words.{words_of}
 use Rattle.ep_plan.specs.Cursor.{left, has_word}
-use Rattle.ep_plan.proofs.Reading.{through}
+use Rattle.ep_plan.proofs.CursorWords.{through}
 use Rattle.ep_plan.proofs.Forms.{named, unnamed}
 use Rattle.ep_plan.proofs.WholeLines.{long, blank-line, worded, event-first, step-first, empty-first}
+use Rattle.ep_plan.specs.declared.line.LineKind.TheVariants as kind
 use Rattle.ep_plan.proofs.line.read_line.Goals as goal
 
 pub returns-then-is_blank-clause-read : goal.returns-then-is_blank-clause-read

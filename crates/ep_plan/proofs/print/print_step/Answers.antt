@@ -2,7 +2,7 @@ use Rattle.std.proofs.Common.{◌++◌, ℕ, List, sym, ◌∙◌, ap, subst}
 use Rattle.ep_plan.specs.declared.line.Line.TheVariants.{Step as StepLine}
 use Rattle.ep_plan.specs.Lines.{IsLine}
 use Rattle.ep_plan.specs.Printing.{step_text}
-use Rattle.ep_plan.proofs.ReadAgain.{read-again, can-parts}
+use Rattle.ep_plan.proofs.PrintThenReadStep.{read-again, can-parts}
 use Rattle.ep_plan.proofs.print.print_step.Goals as goal
 
 pub put_step-requires : goal.put_step-requires

@@ -1,13 +1,6 @@
-use Rattle.std.proofs.Common.{◌++◌, ap, ◌∙◌}
 use Rattle.ep_plan.specs.Lines.{form_of}
-use Rattle.ep_plan.proofs.Printed.{number-more, number-all}
+use Rattle.ep_plan.proofs.Printed.{number-more}
 use Rattle.ep_plan.proofs.print.put_numbers.Goals as goal
-
-pub loop-number-init : goal.loop-number-init
-loop-number-init c = c.in_ok-extend_from_slice.ensures.items ∙ ap (λ name. c.args.line.now.items ++ name) c.name.ensures
 
 pub loop-number-preserved : goal.loop-number-preserved
 loop-number-preserved c = number-more c.args.line.now.items c.loop-number.line.items c.extend_from_slice-in-loop-number.new.self.items c.put_number.new.out.items (form_of c.args.verb).name c.args.numbers.now c.loop-number.number-index c.loop-number-test.true c.loop-number.invariant c.in_ok-extend_from_slice-2.ensures.items c.in_ok-put_number.ensures
-
-pub returns : goal.returns
-returns c = number-all c.args.line.now.items c.loop-number.line.items (form_of c.args.verb).name c.args.numbers.now c.loop-number.number-index c.loop-number-test.false c.loop-number.invariant

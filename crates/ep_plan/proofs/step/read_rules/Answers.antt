@@ -1,34 +1,18 @@
-use Rattle.std.proofs.Common.{◌≡◌, ◌⊎◌, inl, inr, suc, ◌-◌, ◌≤◌, ◌<◌, [], ◌∷◌, ◌++◌, length, ap, ◌∙◌, arith, length-append}
+use Rattle.std.proofs.Common.{◌≡◌, ◌⊎◌, inl, inr, suc, ◌-◌, ◌≤◌, ◌<◌, [], ◌∷◌, length, ap, ◌∙◌, arith, length-append}
 use Rattle.std.proofs.lemmas.Result.{err_from_is_err_and}
 use Rattle.ep_defs.specs.declared.limits.TheConstants.{RULES}
 use Rattle.ep_plan.specs.Lines.{more_than_one, bad_at}
 use Rattle.ep_plan.specs.Cursor.{left, bad_left}
-use Rattle.ep_plan.proofs.Reading.{through}
-use Rattle.ep_plan.proofs.RuleWords.{behind-start, behind-next, behind-end, room-first, room-next, room-none, further-rule}
-use Rattle.ep_plan.proofs.step.read_rules.Goals as goal
+use Rattle.ep_plan.proofs.CursorWords.{through}
+use Rattle.ep_plan.proofs.RuleWords.{behind-next, room-next, room-none, further-rule}
 use Rattle.ep_plan.proofs.step.read_rules.Goals.{then-loop-rules-test+else-len-lt-RULES, else-loop-rules-test}
-
-pub loop-rules-init : goal.loop-rules-init
-loop-rules-init c =
-    let took = c.in_ok-rule.ensures.took in
-    let items : c.add.new.rules.items ≡ [] ++ c.in_ok-rule.field-0 ∷ [] = c.in_ok-add.ensures ∙ ap (λ xs. xs ++ c.in_ok-rule.field-0 ∷ []) c.new-rules.ensures.items in
-    record {
-      line = took.1.line;
-      bad = room-first _ c.rule.new.self c.add.new.rules.items c.in_ok-rule.field-0 items (took.1.bad [] more_than_one);
-      read = behind-start _ _ _ took.0 c.in_ok-rule.field-0 took.1.words took.2 items;
-      few = let one = ap length items in omega arith;
-    }
+use Rattle.ep_plan.proofs.step.read_rules.Goals as goal
 
 pub returns-in_err-rule-2-clause-bad : goal.returns-in_err-rule-2-clause-bad
 returns-in_err-rule-2-clause-bad c = λ at column why e.
     let bad = c.in_err-rule-2.ensures.bad at column why (through c.from_residual-in_err-rule-2.result c.in_err-rule-2.field-0.0 (err_from_is_err_and c.from_residual-in_err-rule-2.result c.from_residual-in_err-rule-2.ensures.1) at column why e) in
     let room : RULES - length c.loop-rules.rules.items ≡ suc (more_than_one - length c.loop-rules.rules.items) = omega arith in
     (bad.line_is ∙ c.loop-rules.invariant.line, c.loop-rules.invariant.bad ∙ ap (bad_left c.loop-rules.words []) room ∙ further-rule c.loop-rules.words (more_than_one - length c.loop-rules.rules.items) c.loop-rules-test.ensures.more ∙ bad.bad [] (more_than_one - length c.loop-rules.rules.items))
-
-pub loop-rules-smaller : goal.loop-rules-smaller
-loop-rules-smaller c =
-    let longer = ap length c.in_ok-add-2.ensures ∙ length-append c.loop-rules.rules.items (c.in_ok-rule-2.field-0 ∷ []) in
-    omega arith
 
 pub loop-rules-preserved : goal.loop-rules-preserved
 loop-rules-preserved c =
@@ -50,9 +34,3 @@ returns-in_err-end-clause-bad c = λ at column why e.
     let bad = c.in_err-end.ensures.bad at column why (through c.from_residual-in_err-end.result c.in_err-end.field-0.0 (err_from_is_err_and c.from_residual-in_err-end.result c.from_residual-in_err-end.ensures.1) at column why e) in
     let done : (RULES ≤ length c.loop-rules.rules.items) ⊎ (left c.loop-rules.words ≡ []) = elim c.loop-rules-test.branch [ then-loop-rules-test+else-len-lt-RULES w ↦ inl (omega arith) | else-loop-rules-test w ↦ inr w.loop-rules-test.ensures.over ] in
     (bad.0 ∙ c.loop-rules.invariant.line, room-none _ c.loop-rules.words c.loop-rules.rules.items (bad_at column why) done c.loop-rules.invariant.bad bad.1)
-
-pub returns-clause-read : goal.returns-clause-read
-returns-clause-read c = behind-end _ (left c.loop-rules.words) c.loop-rules.rules.items c.new.result c.in_ok-end.ensures.end c.new.ensures c.loop-rules.invariant.read
-
-pub returns-clause-good : goal.returns-clause-good
-returns-clause-good c = c.loop-rules.invariant.bad ∙ c.in_ok-end.ensures.good (RULES - length c.loop-rules.rules.items)

@@ -1,14 +1,7 @@
-use Rattle.std.proofs.Common.{ℕ, List, ◌∷◌, sym, ◌∙◌, subst}
-use Rattle.std.proofs.lemmas.Result.{IfOk-weaker}
-use Rattle.ep_plan.specs.Lines.{Spells}
+use Rattle.std.proofs.Common.{sym, ◌∙◌}
 use Rattle.ep_plan.specs.Cursor.{left}
-use Rattle.ep_plan.proofs.Forms.{verb-name, verb-form, no-verb, good-through, no-word}
+use Rattle.ep_plan.proofs.Forms.{verb-form, no-verb, good-through, no-word}
 use Rattle.ep_plan.proofs.step.read_step.Goals as goal
-
-pub returns-in-Some-clause-read : goal.returns-in-Some-clause-read
-returns-in-Some-clause-read c =
-    let name = verb-name c.args.first.now c.in-Some.verb (sym c.named.ensures ∙ c.in-Some.is) in
-    IfOk-weaker c.read_words.result _ _ (λ step spells. subst (λ (word : List ℕ). Spells (word ∷ left c.args.words.now) step) (sym name) spells) c.read_words.ensures.read
 
 pub returns-in-Some-clause-good : goal.returns-in-Some-clause-good
 returns-in-Some-clause-good c =

@@ -1,6 +1,7 @@
 use Rattle.std.proofs.Common.{◌+◌, length, arith, length-drop, ap}
 use Rattle.pt_num.specs.Fields.{Short, NoZero}
-use Rattle.ipc_body.proofs.Provided.{provider-is, provider-lacks, rest-of}
+use Rattle.pt_num.proofs.Joined.{rest_is}
+use Rattle.ipc_body.proofs.Provided.{provider-is, provider-lacks}
 use Rattle.ipc_body.proofs.providers.read_provider.Goals as goal
 
 pub returns-in-Units-clause-exact : goal.returns-in-Units-clause-exact
@@ -8,12 +9,12 @@ returns-in-Units-clause-exact c =
     let text = c.in-Units.ensures.read in
     let name = c.in_ok-name.ensures.exact in (
       omega
-          (arith, text.0, name.0, length-drop 12 c.args.bytes.now, length-drop (12 + c.in_ok-name.used) c.args.bytes.now, ap length (rest-of 12 c.args.bytes.now), ap length (rest-of (12 + c.in_ok-name.used) c.args.bytes.now)),
+          (arith, text.0, name.0, length-drop 12 c.args.bytes.now, length-drop (12 + c.in_ok-name.used) c.args.bytes.now, ap length (rest_is 12 c.args.bytes.now), ap length (rest_is (12 + c.in_ok-name.used) c.args.bytes.now)),
       provider-is c.args.bytes.now _ _ _ c.in_ok-name.name _ c.in-Some.keywords c.in-Some-take_u32.level c.in_ok-name.used c.in-Units.filter
           (record {
-            level_there = rest-of 8 c.args.bytes.now;
-            name_there = rest-of 12 c.args.bytes.now;
-            filter_there = rest-of (12 + c.in_ok-name.used) c.args.bytes.now;
+            level_there = rest_is 8 c.args.bytes.now;
+            name_there = rest_is 12 c.args.bytes.now;
+            filter_there = rest_is (12 + c.in_ok-name.used) c.args.bytes.now;
             keywords_read = c.in-Some.ensures.read;
             level_read = c.in-Some-take_u32.ensures.read;
             name_read = name.1;
@@ -25,9 +26,9 @@ pub returns-in-Short-clause-exact : goal.returns-in-Short-clause-exact
 returns-in-Short-clause-exact c = λ _.
     provider-lacks c.args.bytes.now _ _ _ c.in_ok-name.name c.in-Some.keywords c.in-Some-take_u32.level c.in_ok-name.used Short
     (record {
-      level_there = rest-of 8 c.args.bytes.now;
-      name_there = rest-of 12 c.args.bytes.now;
-      filter_there = rest-of (12 + c.in_ok-name.used) c.args.bytes.now;
+      level_there = rest_is 8 c.args.bytes.now;
+      name_there = rest_is 12 c.args.bytes.now;
+      filter_there = rest_is (12 + c.in_ok-name.used) c.args.bytes.now;
       keywords_read = c.in-Some.ensures.read;
       level_read = c.in-Some-take_u32.ensures.read;
       name_read = c.in_ok-name.ensures.exact.1;
@@ -38,9 +39,9 @@ pub returns-in-NoZero-clause-exact : goal.returns-in-NoZero-clause-exact
 returns-in-NoZero-clause-exact c = λ _.
     provider-lacks c.args.bytes.now _ _ _ c.in_ok-name.name c.in-Some.keywords c.in-Some-take_u32.level c.in_ok-name.used NoZero
     (record {
-      level_there = rest-of 8 c.args.bytes.now;
-      name_there = rest-of 12 c.args.bytes.now;
-      filter_there = rest-of (12 + c.in_ok-name.used) c.args.bytes.now;
+      level_there = rest_is 8 c.args.bytes.now;
+      name_there = rest_is 12 c.args.bytes.now;
+      filter_there = rest_is (12 + c.in_ok-name.used) c.args.bytes.now;
       keywords_read = c.in-Some.ensures.read;
       level_read = c.in-Some-take_u32.ensures.read;
       name_read = c.in_ok-name.ensures.exact.1;

@@ -1,8 +1,9 @@
 use Rattle.std.proofs.Common.{◌≡◌, ◌%◌, length, drop, ◌∙◌, eq-eqb, arith}
 use Rattle.std.proofs.lemmas.Bool.{lt-leb, and_left, and_right, ne_eqb}
+use Rattle.pt_num.proofs.Joined.{rest_is}
 use Rattle.byteorder.specs.Endian.{little_number}
 use Rattle.nt_blocks.specs.declared.limits.TheConstants.{HEADER_BYTES}
-use Rattle.nt_blocks.proofs.TakeParts.{rest_is, header_short, header_unfit, header_plain, header_found}
+use Rattle.nt_blocks.proofs.TakeParts.{header_short, header_unfit, header_plain, header_found}
 use Rattle.nt_blocks.proofs.take.header_size.Goals as goal
 use Rattle.nt_blocks.proofs.take.header_size.Goals.{then-size-lt-HEADER_BYTES-via-then-size-lt-HEADER_BYTES, then-size-lt-HEADER_BYTES-via-else-size-lt-HEADER_BYTES+then-size-body}
 

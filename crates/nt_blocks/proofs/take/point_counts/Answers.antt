@@ -1,6 +1,8 @@
 use Rattle.std.proofs.Common.{arith, length-drop}
 use Rattle.std.specs.Int.{w32, w64}
-use Rattle.nt_blocks.proofs.TakeParts.{number_within, rest_is, point_unstamped, point_uncounted, point_unfit, point_counted}
+use Rattle.pt_num.proofs.Joined.{rest_is}
+use Rattle.pt_num.proofs.Fronts.{number_within}
+use Rattle.nt_blocks.proofs.TakeParts.{point_unstamped, point_uncounted, point_unfit, point_counted}
 use Rattle.nt_blocks.proofs.take.point_counts.Goals as goal
 
 pub returns-in_err-stamp-clause-none : goal.returns-in_err-stamp-clause-none

@@ -1,8 +1,10 @@
 use Rattle.std.proofs.Common.{arith, length-drop}
 use Rattle.std.specs.Int.{w32}
 use Rattle.std.proofs.lemmas.Bool.{lt-leb, and_left, and_right}
+use Rattle.pt_num.proofs.Joined.{rest_is}
+use Rattle.pt_num.proofs.Fronts.{number_within}
 use Rattle.nt_blocks.specs.declared.limits.TheConstants.{LAST_COUNT}
-use Rattle.nt_blocks.proofs.TakeParts.{number_within, rest_is, stacks_unnumbered, stacks_uncounted, stacks_unfit, stacks_counted}
+use Rattle.nt_blocks.proofs.TakeParts.{stacks_unnumbered, stacks_uncounted, stacks_unfit, stacks_counted}
 use Rattle.nt_blocks.proofs.take.stack_counts.Goals as goal
 use Rattle.nt_blocks.proofs.take.stack_counts.Goals.{then-first-gt-LAST_COUNT-via-then-first-gt-LAST_COUNT, then-first-gt-LAST_COUNT-via-else-first-gt-LAST_COUNT+then-count-gt-LAST_COUNT}
 

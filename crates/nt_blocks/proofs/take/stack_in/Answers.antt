@@ -1,6 +1,8 @@
 use Rattle.std.proofs.Common.{length, ap, arith, length-drop}
 use Rattle.std.specs.Int.{w32}
-use Rattle.nt_blocks.proofs.TakeParts.{number_within, rest_is, stack_unsized, stack_cut, stack_found}
+use Rattle.pt_num.proofs.Joined.{rest_is}
+use Rattle.pt_num.proofs.Fronts.{number_within}
+use Rattle.nt_blocks.proofs.TakeParts.{stack_unsized, stack_cut, stack_found}
 use Rattle.nt_blocks.proofs.take.stack_in.Goals as goal
 
 pub returns-in_err-size-clause-none : goal.returns-in_err-size-clause-none

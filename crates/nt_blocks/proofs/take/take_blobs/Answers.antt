@@ -1,8 +1,8 @@
 use Rattle.std.proofs.Common.{◌+◌, length, drop, arith, length-drop}
 use Rattle.std.proofs.lemmas.List.{drop-drop}
 use Rattle.std.proofs.lemmas.Result.{err_from_is_err_and}
+use Rattle.pt_num.proofs.Joined.{rest_is}
 use Rattle.nt_blocks.specs.Refusals.{header_at}
-use Rattle.nt_blocks.proofs.TakeParts.{rest_is}
 use Rattle.nt_blocks.proofs.TakeBlobs.{fault_first, stands_more, going_start, going_step, going_end, going_stop}
 use Rattle.nt_blocks.proofs.take.take_blobs.Goals as goal
 

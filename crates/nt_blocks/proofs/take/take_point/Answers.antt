@@ -1,6 +1,6 @@
 use Rattle.std.proofs.Common.{length, arith}
 use Rattle.std.proofs.lemmas.Result.{err_from_is_err_and}
-use Rattle.nt_blocks.proofs.TakeParts.{rest_is}
+use Rattle.pt_num.proofs.Joined.{rest_is}
 use Rattle.nt_blocks.proofs.TakeBlobs.{fault_first, fault_same, stands_more}
 use Rattle.nt_blocks.proofs.take.take_point.Goals as goal
 

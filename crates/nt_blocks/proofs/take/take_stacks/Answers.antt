@@ -1,6 +1,7 @@
 use Rattle.std.proofs.Common.{◌≡◌, ℕ, ◌+◌, ◌-◌, length, drop, refl, subst, ◌∙◌, arith, length-drop}
 use Rattle.std.proofs.lemmas.List.{drop-drop}
-use Rattle.nt_blocks.proofs.TakeParts.{at_first, rest_is}
+use Rattle.pt_num.proofs.Joined.{rest_is}
+use Rattle.nt_blocks.proofs.TakeParts.{at_first}
 use Rattle.nt_blocks.proofs.TakeLists.{GoingStacks, stacks_start, stacks_step, stacks_stop, stacks_end, stacks_over}
 use Rattle.nt_blocks.proofs.take.take_stacks.Goals as goal
 

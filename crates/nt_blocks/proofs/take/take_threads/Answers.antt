@@ -1,6 +1,7 @@
 use Rattle.std.proofs.Common.{◌+◌, ◌-◌, drop, refl, arith, length-drop}
 use Rattle.std.proofs.lemmas.List.{drop-drop}
-use Rattle.nt_blocks.proofs.TakeParts.{at_first, rest_is}
+use Rattle.pt_num.proofs.Joined.{rest_is}
+use Rattle.nt_blocks.proofs.TakeParts.{at_first}
 use Rattle.nt_blocks.proofs.TakeLists.{threads_step, threads_stop, threads_end, threads_over}
 use Rattle.nt_blocks.proofs.take.take_threads.Goals as goal
 

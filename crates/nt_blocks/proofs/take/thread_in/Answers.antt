@@ -1,6 +1,8 @@
 use Rattle.std.proofs.Common.{arith, length-drop}
 use Rattle.std.specs.Int.{w32, w64}
-use Rattle.nt_blocks.proofs.TakeParts.{number_within, rest_is, thread_unnamed, thread_unnumbered, thread_found}
+use Rattle.pt_num.proofs.Joined.{rest_is}
+use Rattle.pt_num.proofs.Fronts.{number_within}
+use Rattle.nt_blocks.proofs.TakeParts.{thread_unnamed, thread_unnumbered, thread_found}
 use Rattle.nt_blocks.proofs.take.thread_in.Goals as goal
 
 pub returns-in_err-thread-clause-none : goal.returns-in_err-thread-clause-none

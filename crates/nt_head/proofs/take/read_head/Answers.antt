@@ -1,5 +1,6 @@
 use Rattle.std.proofs.Common.{◌<◌, get_or, length, sym, refl, arith}
 use Rattle.std.proofs.lemmas.Bool.{eqb-true, eqb-false}
+use Rattle.nt_head.specs.declared.flags.TheConstants.{SORTED}
 use Rattle.nt_head.specs.Reading.{has_flag}
 use Rattle.nt_head.proofs.Steps.{head_stops, stops_answer, stop_flags, flags_read, carry_metadata, carry_numbers, carry_thread, carry_stack, carry_increment, carry_activity, carry_related, carry_size, fields_made, state_read, head_read}
 use Rattle.nt_head.proofs.take.read_head.Goals as goal
@@ -110,6 +111,6 @@ returns-clause-ok c =
       within = c.in_ok-size.ensures.ok.within;
       read =
           head_read c.args.previous.now _ _ c.args.bytes.now _ fields
-          (state_read c.args.previous.now _ (record { metadata = c.in_ok-metadata.ensures.ok.said; sequence = c.in_ok-numbers.ensures.ok.said; thread = c.in_ok-thread.ensures.ok.said; stack = c.in_ok-stack.ensures.ok.said; stamp_increment = c.in_ok-increment.increment; activity = c.in_ok-activity.ensures.ok.said; related = c.in_ok-related.ensures.ok.said; sorted = has_flag 64 (get_or c.args.bytes.now 0 0); size = c.in_ok-size.ensures.ok.said }) c.in_ok-metadata.ensures.ok.value c.in_ok-numbers.ensures.ok.number c.in_ok-numbers.ensures.ok.capture c.in_ok-numbers.ensures.ok.processor
+          (state_read c.args.previous.now _ (record { metadata = c.in_ok-metadata.ensures.ok.said; sequence = c.in_ok-numbers.ensures.ok.said; thread = c.in_ok-thread.ensures.ok.said; stack = c.in_ok-stack.ensures.ok.said; stamp_increment = c.in_ok-increment.increment; activity = c.in_ok-activity.ensures.ok.said; related = c.in_ok-related.ensures.ok.said; sorted = has_flag SORTED (get_or c.args.bytes.now 0 0); size = c.in_ok-size.ensures.ok.said }) c.in_ok-metadata.ensures.ok.value c.in_ok-numbers.ensures.ok.number c.in_ok-numbers.ensures.ok.capture c.in_ok-numbers.ensures.ok.processor
           c.in_ok-thread.ensures.ok.value c.in_ok-stack.ensures.ok.value refl c.in_ok-activity.ensures.ok.value c.in_ok-related.ensures.ok.value c.has_flag-8.ensures c.in_ok-size.ensures.ok.value);
     }

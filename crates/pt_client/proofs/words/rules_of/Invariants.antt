@@ -1,6 +1,6 @@
 use Rattle.std.proofs.Common.{◌≡◌, map, drop}
 use Rattle.pt_client.specs.Words.{rules_in}
-use Rattle.pt_client.proofs.RuleWords.{behind}
+use Rattle.ep_plan.proofs.RuleWords.{behind}
 use Rattle.pt_client.proofs.words.rules_of.Given as goal
 
 abbrev pub invariant-loop-word : goal.invariant-loop-word

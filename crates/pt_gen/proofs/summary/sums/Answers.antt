@@ -3,7 +3,7 @@ use Rattle.std.proofs.lemmas.List.Sums.{sum_by_more}
 use Rattle.ep_defs.specs.declared.session.Marks.{Marks}
 use Rattle.pt_gen.proofs.summary.sums.Goals as goal
 
--- What stands behind the end of a list.
+-- What stands after the end of a list.
 no_marks : Marks
 no_marks = record { thread = 0; from = 0; to = 0; taken = 0; refused = 0 }
 

@@ -1,6 +1,7 @@
 use Rattle.std.proofs.Common.{◌++◌, List, ℕ, length, arith, ap, sym, ◌∙◌}
 use Rattle.std.specs.Int.{w32, to_le_bytes}
-use Rattle.pt_load.proofs.Writes.{renumbered, payload_indexed, payload_none, no_length}
+use Rattle.std.proofs.lemmas.List.{nil_from_length}
+use Rattle.pt_load.proofs.Writes.{renumbered, payload_indexed, payload_none}
 use Rattle.pt_load.proofs.draft.renumber.Goals as goal
 
 pub set_index-requires : goal.set_index-requires
@@ -19,4 +20,4 @@ returns-else-write-ne-STORE_OPENED c =
     let none = payload_none c.args.write.now.event c.args.thread in
     let is = c.if-write-ne-STORE_OPENED.false in
     renumbered c.args.thread c.args.index c.args.write.now _ _ _ c.requires.shape c.activity_of-write.ensures c.set_frames.ensures
-    (no_length c.args.write.now.payload (c.requires.shape.payload ∙ ap length (none 0 is)) ∙ sym (none c.args.index is))
+    (nil_from_length c.args.write.now.payload (c.requires.shape.payload ∙ ap length (none 0 is)) ∙ sym (none c.args.index is))

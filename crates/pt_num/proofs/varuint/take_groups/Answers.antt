@@ -9,24 +9,24 @@ returns-then-byte-last-clause-read c =
     let front = drop_more c.args.bytes.now c.loop-place.place 0 (omega arith) in
     reads_over _ _ _ _ _ _ _ front c.if-place-most.true c.if-byte-last.true c.loop-place.invariant
 
-pub returns-then-byte-lt128-clause-read : goal.returns-then-byte-lt128-clause-read
-returns-then-byte-lt128-clause-read c =
+pub returns-then-byte-lt-GROUP-clause-read : goal.returns-then-byte-lt-GROUP-clause-read
+returns-then-byte-lt-GROUP-clause-read c =
     let front = drop_more c.args.bytes.now c.loop-place.place 0 (omega arith) in
     let fits : c.loop-place.place + 1 ≡ c.args.most → get_or c.args.bytes.now c.loop-place.place 0 ≤ c.args.last =
     elim c.else-place-most.branch [
       | else-place-most-via-then-place-most+else-byte-last w ↦ λ at. omega arith
       | else-place-most-via-else-place-most w ↦ λ at. absurd (omega arith)
     ] in
-    (omega arith, rw c.from.ensures (reads_last _ _ _ _ _ _ _ front fits c.if-byte-lt128.true c.loop-place.invariant))
+    (omega arith, rw c.from.ensures (reads_last _ _ _ _ _ _ _ front fits c.if-byte-lt-GROUP.true c.loop-place.invariant))
 
-pub returns-then-byte-lt128-clause-bound : goal.returns-then-byte-lt128-clause-bound
-returns-then-byte-lt128-clause-bound c =
+pub returns-then-byte-lt-GROUP-clause-bound : goal.returns-then-byte-lt-GROUP-clause-bound
+returns-then-byte-lt-GROUP-clause-bound c =
     let fits : c.loop-place.place + 1 ≡ c.args.most → get_or c.args.bytes.now c.loop-place.place 0 ≤ c.args.last =
     elim c.else-place-most.branch [
       | else-place-most-via-then-place-most+else-byte-last w ↦ λ at. omega arith
       | else-place-most-via-else-place-most w ↦ λ at. absurd (omega arith)
     ] in
-    rw c.from.ensures (last_bound _ _ _ _ _ _ c.loop-place.invariant.scaled c.loop-place.invariant.low c.loop-place.invariant.before c.requires.some_last fits c.if-byte-lt128.true)
+    rw c.from.ensures (last_bound _ _ _ _ _ _ c.loop-place.invariant.scaled c.loop-place.invariant.low c.loop-place.invariant.before c.requires.some_last fits c.if-byte-lt-GROUP.true)
 
 pub loop-place-preserved : goal.loop-place-preserved
 loop-place-preserved c =
@@ -36,7 +36,7 @@ loop-place-preserved c =
       | else-place-most-via-then-place-most+else-byte-last w ↦ λ same. omega arith
       | else-place-most-via-else-place-most w ↦ λ same. omega arith
     ] in
-    rw c.from.ensures (reads_more _ _ _ _ _ _ _ front (omega arith) c.if-byte-lt128.false c.loop-place.invariant)
+    rw c.from.ensures (reads_more _ _ _ _ _ _ _ front (omega arith) c.if-byte-lt-GROUP.false c.loop-place.invariant)
 
 pub returns-clause-read : goal.returns-clause-read
 returns-clause-read c =

@@ -1,21 +1,22 @@
 -- By what the walk over the words finds.
 use Rattle.std.proofs.Common.{◌≡◌, List, ℕ, Some, None, map, sym, ap, ◌∙◌, subst, true, false}
 use Rattle.std.specs.String.{string_bytes}
+use Rattle.clap.proofs.WalkLemmas.{list_any-map}
 use Rattle.clap.specs.Simple.{app_of}
 use Rattle.clap.specs.Faults.{is_simple_and_free}
-use Rattle.pt_words.specs.Session.{has_foreign}
+use Rattle.pt_words.specs.Session.{has_foreign, is_foreign}
 use Rattle.pt_words.specs.Matches.{IsRead}
-use Rattle.pt_words.proofs.SessionWords.{session-some, session-no, session-foreign, has-foreign_map}
+use Rattle.pt_words.proofs.SessionWords.{session-some, session-no, session-foreign}
 use Rattle.pt_words.proofs.session.session_text.Goals as goal
 
 pub returns-then-has_foreign : goal.returns-then-has_foreign
-returns-then-has_foreign c = session-foreign (map string_bytes c.args.words.now) (sym (has-foreign_map string_bytes c.args.words.now) ∙ sym c.has_foreign.ensures ∙ c.if-has_foreign.true)
+returns-then-has_foreign c = session-foreign (map string_bytes c.args.words.now) (sym (list_any-map is_foreign string_bytes c.args.words.now) ∙ sym c.has_foreign.ensures ∙ c.if-has_foreign.true)
 
 pub returns-in-Some : goal.returns-in-Some
 returns-in-Some c =
     let command = c.in_ok-session_option.field-0 in
     let words : List (List ℕ) = map string_bytes c.args.words.now in
-    let known : has_foreign words ≡ false = sym (has-foreign_map string_bytes c.args.words.now) ∙ sym c.has_foreign.ensures ∙ c.if-has_foreign.false in
+    let known : has_foreign words ≡ false = sym (list_any-map is_foreign string_bytes c.args.words.now) ∙ sym c.has_foreign.ensures ∙ c.if-has_foreign.false in
     let read : is_simple_and_free (app_of command) ≡ true → IsRead (app_of command) words (Some c.in-Some.matches) =
     λ simple. subst (IsRead (app_of command) words) c.in-Some.is (c.in_ok-matches.ensures simple) in
     ap Some c.get_str.ensures ∙ session-some (app_of command) words c.in-Some.matches c.in_ok-session_option.ensures known read
@@ -24,7 +25,7 @@ pub returns-in-None : goal.returns-in-None
 returns-in-None c =
     let command = c.in_ok-session_option.field-0 in
     let words : List (List ℕ) = map string_bytes c.args.words.now in
-    let known : has_foreign words ≡ false = sym (has-foreign_map string_bytes c.args.words.now) ∙ sym c.has_foreign.ensures ∙ c.if-has_foreign.false in
+    let known : has_foreign words ≡ false = sym (list_any-map is_foreign string_bytes c.args.words.now) ∙ sym c.has_foreign.ensures ∙ c.if-has_foreign.false in
     let read : is_simple_and_free (app_of command) ≡ true → IsRead (app_of command) words None =
     λ simple. subst (IsRead (app_of command) words) c.in-None.is (c.in_ok-matches.ensures simple) in
     session-no (app_of command) words c.in_ok-session_option.ensures known read

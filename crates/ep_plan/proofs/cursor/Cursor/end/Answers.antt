@@ -1,4 +1,4 @@
-use Rattle.ep_plan.proofs.Reading.{is-left_over, is-end}
+use Rattle.ep_plan.proofs.CursorWords.{is-left_over, is-end}
 use Rattle.ep_plan.proofs.cursor.Cursor.end.Goals as goal
 
 pub returns-clause-bad : goal.returns-clause-bad

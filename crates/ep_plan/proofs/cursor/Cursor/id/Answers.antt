@@ -3,8 +3,5 @@ use Rattle.ep_plan.specs.Lines.{Id}
 use Rattle.ep_plan.specs.Words.{id_in}
 use Rattle.ep_plan.proofs.cursor.Cursor.id.Goals as goal
 
-pub returns-clause-took : goal.returns-clause-took
-returns-clause-took c = c.part.ensures.took Id id_in (record { fault = λ word. refl; value = λ word result gives. search rules })
-
 pub returns-clause-bad : goal.returns-clause-bad
 returns-clause-bad c = c.part.ensures.bad Id id_in (record { fault = λ word. refl; value = λ word result gives. search rules })

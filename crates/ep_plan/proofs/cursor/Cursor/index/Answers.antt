@@ -1,11 +1,11 @@
 use Rattle.std.proofs.Common.{◌⊎◌, ◌+◌, ◌<◌, ◌≢◌, inl, inr, sym, ap, ◌∙◌, arith}
 use Rattle.std.proofs.lemmas.Result.{err_from_is_err_and}
 use Rattle.ep_defs.specs.declared.limits.TheConstants.{EVENTS}
-use Rattle.ep_plan.specs.declared.line.LineKind.TheVariants as kind
 use Rattle.ep_plan.specs.Lines.{Index, order_fault}
-use Rattle.ep_plan.proofs.Reading.{took-part, is-bad, through, order-good, order-bad}
-use Rattle.ep_plan.proofs.cursor.Cursor.index.Goals as goal
+use Rattle.ep_plan.proofs.CursorWords.{took-part, is-bad, through, order-good, order-bad}
 use Rattle.ep_plan.proofs.cursor.Cursor.index.Goals.{then-index-defined-via-then-index-defined, then-index-defined-via-else-index-defined+then-index}
+use Rattle.ep_plan.specs.declared.line.LineKind.TheVariants as kind
+use Rattle.ep_plan.proofs.cursor.Cursor.index.Goals as goal
 
 pub returns-in_err-word-clause-bad : goal.returns-in_err-word-clause-bad
 returns-in_err-word-clause-bad c = λ at column why e.

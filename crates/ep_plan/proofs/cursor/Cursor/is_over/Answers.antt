@@ -1,4 +1,4 @@
-use Rattle.ep_plan.proofs.Reading.{is-over, is-not-over}
+use Rattle.ep_plan.proofs.CursorWords.{is-over, is-not-over}
 use Rattle.ep_plan.proofs.cursor.Cursor.is_over.Goals as goal
 
 pub returns-clause-over : goal.returns-clause-over

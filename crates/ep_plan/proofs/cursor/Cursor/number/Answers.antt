@@ -2,7 +2,7 @@ use Rattle.std.proofs.Common.{◌-◌, ◌^◌, rules, refl, arith}
 use Rattle.std.proofs.lemmas.Result.{err_from_is_err_and}
 use Rattle.ep_plan.specs.Lines.{Number, number_of}
 use Rattle.ep_plan.proofs.Numerals.{number_in-le}
-use Rattle.ep_plan.proofs.Reading.{through}
+use Rattle.ep_plan.proofs.CursorWords.{through}
 use Rattle.ep_plan.proofs.cursor.Cursor.number.Goals as goal
 
 pub returns-in_err-number-clause-bad : goal.returns-in_err-number-clause-bad
@@ -15,6 +15,3 @@ overflow_cast-result c =
     let took = c.in_ok-number.ensures.took Number number_of (record { fault = λ word. refl; value = λ word result gives. search rules }) in
     let most = number_in-le (2 ^ 32 - 1) took.0 c.in_ok-number.number took.2 in
     omega arith
-
-pub returns-clause-took : goal.returns-clause-took
-returns-clause-took c = c.in_ok-number.ensures.took Number number_of (record { fault = λ word. refl; value = λ word result gives. search rules })

@@ -1,7 +1,7 @@
 use Rattle.std.proofs.Common.{◌≡◌, Some, None, sym, ap, ◌∙◌}
 use Rattle.std.proofs.lemmas.Result.{err_from_is_err_and, IfOk-at_ok}
 use Rattle.ep_plan.specs.Lines.{unless}
-use Rattle.ep_plan.proofs.Reading.{took-part, is-bad, through}
+use Rattle.ep_plan.proofs.CursorWords.{took-part, is-bad, through}
 use Rattle.ep_plan.proofs.cursor.Cursor.part.Goals as goal
 
 pub returns-in_err-word-clause-bad : goal.returns-in_err-word-clause-bad

@@ -3,8 +3,5 @@ use Rattle.ep_plan.specs.Lines.{Payload}
 use Rattle.ep_plan.specs.Words.{payload_in}
 use Rattle.ep_plan.proofs.cursor.Cursor.payload.Goals as goal
 
-pub returns-clause-took : goal.returns-clause-took
-returns-clause-took c = c.part.ensures.took Payload payload_in (record { fault = λ word. refl; value = λ word result gives. search rules })
-
 pub returns-clause-bad : goal.returns-clause-bad
 returns-clause-bad c = c.part.ensures.bad Payload payload_in (record { fault = λ word. refl; value = λ word result gives. search rules })

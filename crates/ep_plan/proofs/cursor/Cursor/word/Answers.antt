@@ -1,4 +1,4 @@
-use Rattle.ep_plan.proofs.Reading.{is-missing, is-empty, took-word, tells-word, no-word_over, no-word_empty}
+use Rattle.ep_plan.proofs.CursorWords.{is-missing, is-empty, took-word, tells-word, no-word_over, no-word_empty}
 use Rattle.std.proofs.Common.{refl, sym, ◌∙◌}
 use Rattle.ep_plan.proofs.cursor.Cursor.word.Goals as goal
 

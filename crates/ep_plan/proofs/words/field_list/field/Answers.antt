@@ -1,6 +1,6 @@
 use Rattle.std.proofs.Common.{refl, sym, ◌∙◌}
 use Rattle.ep_plan.specs.Words.{colon, parts_at, field_in}
-use Rattle.ep_plan.proofs.Several.{field-is, field_of-code, field_of-other}
+use Rattle.ep_plan.proofs.Separated.{field-is, field_of-code, field_of-other}
 use Rattle.ep_plan.proofs.words.field_list.field.Goals as goal
 
 pub returns-in_default : goal.returns-in_default

@@ -1,8 +1,6 @@
-use Rattle.std.proofs.Common.{◌≡◌, ℕ, List, [], Some, None, refl, ap, sym, ◌∙◌}
-use Rattle.ep_defs.specs.declared.event.FieldDef.{FieldDef}
+use Rattle.std.proofs.Common.{◌≡◌, ℕ, List, [], Some, None, ap, sym, ◌∙◌}
 use Rattle.ep_plan.specs.Words.{comma, field_in, fields_in, all_in, parts_at}
-use Rattle.ep_plan.proofs.Dashes.{dash_or-dash, dash_or-other}
-use Rattle.ep_plan.proofs.Joined.{read_and_rest, read_and_rest-none, read_and_rest-all, read_and_rest-more, read_and_rest-bad}
+use Rattle.ep_plan.proofs.Separated.{dash_or-dash, dash_or-other, read_and_rest-all, read_and_rest-bad}
 use Rattle.ep_plan.proofs.words.field_list.fields.Goals as goal
 
 pub returns-then-eq : goal.returns-then-eq
@@ -11,11 +9,6 @@ returns-then-eq c =
     ap Some (c.new.ensures ∙ c.new-fields.ensures.items)
     ∙ dash_or-dash [] (λ (text : List ℕ). all_in field_in (parts_at comma text)) c.args.word.now c.as_slice.result.now c.as_slice.ensures c.if-eq.ensures
 
-pub loop-rest-init : goal.loop-rest-init
-loop-rest-init c =
-    read_and_rest-none field_in (Some c.args.word) c.args.word refl
-    ∙ ap (λ (items : List FieldDef). read_and_rest field_in items (Some c.args.word)) (sym c.new-fields.ensures.items)
-
 pub returns-in_default-2 : goal.returns-in_default-2
 unfolding fields_in
 returns-in_default-2 c =
@@ -23,12 +16,6 @@ returns-in_default-2 c =
     let ends = read_and_rest-bad field_in c.loop-rest.fields.items c.loop-rest.rest c.first_part.result.1 c.in-Some.text c.first_part.result.0.now c.in-Some.is c.first_part.ensures.parts bad in
     sym (c.loop-rest.invariant ∙ ends)
     ∙ dash_or-other [] (λ (text : List ℕ). all_in field_in (parts_at comma text)) c.args.word.now c.as_slice.result.now c.as_slice.ensures c.if-eq.ensures
-
-pub loop-rest-preserved : goal.loop-rest-preserved
-loop-rest-preserved c =
-    let good : field_in c.first_part.result.0.now ≡ Some c.in-Some-2.field = sym c.in_ok-field.ensures ∙ c.in-Some-2.is in
-    let more = read_and_rest-more field_in c.loop-rest.fields.items c.loop-rest.rest c.first_part.result.1 c.in-Some.text c.first_part.result.0.now c.in-Some-2.field c.in-Some.is c.first_part.ensures.parts good in
-    c.loop-rest.invariant ∙ more ∙ ap (λ (items : List FieldDef). read_and_rest field_in items c.first_part.result.1) (sym c.in_ok-push.ensures.items)
 
 pub returns : goal.returns
 unfolding fields_in

@@ -1,6 +1,6 @@
 use Rattle.std.proofs.Common.{◌≡◌}
 use Rattle.ep_plan.specs.Words.{comma, all_in, hex_in, parts_at}
-use Rattle.ep_plan.proofs.Joined.{read_and_rest, size_of}
+use Rattle.ep_plan.proofs.Separated.{read_and_rest, size_of}
 use Rattle.ep_plan.proofs.words.frame_list.frames.Given as goal
 
 abbrev pub invariant-loop-rest : goal.invariant-loop-rest

@@ -1,18 +1,13 @@
 use Rattle.std.proofs.Common.{◌++◌, ℕ, List, [], ◌∷◌, ap, sym, ◌∙◌, rules, get_or}
 use Rattle.std.proofs.lemmas.List.{append_assoc}
 use Rattle.ep_plan.specs.Words.{comma, hex_text}
-use Rattle.ep_plan.proofs.Texts.{frames_so_far, frames_so_far-none, frames_so_far-more, frames_so_far-all, frames_text-none}
+use Rattle.ep_plan.proofs.Separated.{frames_so_far, frames_so_far-more, frames_so_far-all, frames_text-none}
 use Rattle.ep_plan.proofs.words.frame_list.put_frames.Goals as goal
 
 pub returns-in_default : goal.returns-in_default
 returns-in_default c =
     let text = frames_text-none c.args.frames.now c.in_default.ensures.cases in
     rw text (search rules)
-
-pub loop-frame-init : goal.loop-frame-init
-loop-frame-init c =
-    c.in_ok-put_hexadecimal.ensures
-    ∙ ap (λ (text : List ℕ). c.args.out.now.items ++ text) (sym (frames_so_far-none c.args.frames.now c.in-Some.others.now c.in-Some.first.now c.in-Some.ensures.cases.0))
 
 pub loop-frame-preserved : goal.loop-frame-preserved
 loop-frame-preserved c =

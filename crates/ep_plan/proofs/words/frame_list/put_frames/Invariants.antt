@@ -1,5 +1,5 @@
 use Rattle.std.proofs.Common.{◌≡◌, ◌++◌}
-use Rattle.ep_plan.proofs.Texts.{frames_so_far}
+use Rattle.ep_plan.proofs.Separated.{frames_so_far}
 use Rattle.ep_plan.proofs.words.frame_list.put_frames.Given as goal
 
 abbrev pub invariant-loop-frame : goal.invariant-loop-frame

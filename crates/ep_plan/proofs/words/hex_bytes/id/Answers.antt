@@ -2,7 +2,7 @@ use Rattle.std.proofs.Common.{replicate, ap, ◌∙◌}
 use Rattle.std.specs.Result.{result_ok}
 use Rattle.hex.specs.Hex.{decode_sized}
 use Rattle.ep_plan.specs.Words.{id_in}
-use Rattle.ep_plan.proofs.Dashes.{dash_or-dash, dash_or-other}
+use Rattle.ep_plan.proofs.Separated.{dash_or-dash, dash_or-other}
 use Rattle.ep_plan.proofs.words.hex_bytes.id.Goals as goal
 
 pub returns-then-eq : goal.returns-then-eq

@@ -3,7 +3,7 @@ use Rattle.std.specs.Result.{result_ok}
 use Rattle.std.proofs.lemmas.Bool.{cond-true, cond-false, eqb-true, eqb-false, lt-ltb, le-ltb}
 use Rattle.hex.specs.Hex.{decode_of}
 use Rattle.ep_plan.specs.Words.{payload_in}
-use Rattle.ep_plan.proofs.Dashes.{dash_or-dash, dash_or-other}
+use Rattle.ep_plan.proofs.Separated.{dash_or-dash, dash_or-other}
 use Rattle.ep_plan.proofs.words.hex_bytes.payload.Goals as goal
 
 -- What digits spell as a payload.

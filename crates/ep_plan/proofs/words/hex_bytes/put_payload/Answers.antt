@@ -1,6 +1,6 @@
 use Rattle.std.proofs.Common.{rules, sym, length}
 use Rattle.std.proofs.lemmas.Bool.{eqb-true, eqb-false}
-use Rattle.ep_plan.proofs.Texts.{payload_text-none, payload_text-some}
+use Rattle.ep_plan.proofs.Separated.{payload_text-none, payload_text-some}
 use Rattle.ep_plan.proofs.words.hex_bytes.put_payload.Goals as goal
 
 pub returns-then-is_empty : goal.returns-then-is_empty

@@ -1,7 +1,7 @@
 use Rattle.std.proofs.Common.{◌≡◌, [], Some, ap, ◌∙◌}
 use Rattle.std.proofs.lemmas.Result.{IfOk-weaker}
 use Rattle.ep_plan.specs.Words.{event_name_in, provider_in}
-use Rattle.ep_plan.proofs.Dashes.{dash_or-dash, dash_or-other}
+use Rattle.ep_plan.proofs.Separated.{dash_or-dash, dash_or-other}
 use Rattle.ep_plan.proofs.words.names.event_name.Goals as goal
 
 pub returns-then-eq : goal.returns-then-eq

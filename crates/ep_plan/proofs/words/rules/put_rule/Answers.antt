@@ -4,7 +4,7 @@ use Rattle.std.proofs.lemmas.Result.{IfOk-weaker}
 use Rattle.ep_plan.specs.Words.{colon, rule_text, hex_text, number_text}
 use Rattle.ep_plan.proofs.words.rules.put_rule.Goals as goal
 
--- The five pieces of a rule, one behind another.
+-- The five pieces of a rule, one after another.
 pieces : (out name keywords level : List ℕ) → ((((out ++ name) ++ colon ∷ []) ++ keywords) ++ colon ∷ []) ++ level ≡ out ++ (name ++ colon ∷ (keywords ++ colon ∷ level))
 pieces out name keywords level = simp append_assoc
 

@@ -1,7 +1,7 @@
 use Rattle.std.proofs.Common.{◌-◌, ◌^◌, refl, sym, ◌∙◌, arith}
 use Rattle.ep_plan.specs.Words.{colon, parts_at, rule_in}
 use Rattle.ep_plan.proofs.Numerals.{number_in-le}
-use Rattle.ep_plan.proofs.Several.{rule-is, rule_of-keywords, rule_of-level, rule_of-other}
+use Rattle.ep_plan.proofs.Separated.{rule-is, rule_of-keywords, rule_of-level, rule_of-other}
 use Rattle.ep_plan.proofs.words.rules.rule.Goals as goal
 
 pub returns-in_default : goal.returns-in_default

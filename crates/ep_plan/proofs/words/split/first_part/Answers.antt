@@ -1,7 +1,7 @@
 use Rattle.std.proofs.Common.{◌==◌, sym, ◌∙◌, rules, tests}
 use Rattle.std.proofs.lemmas.Iterator.{YieldsList-from_slice}
 use Rattle.std.proofs.lemmas.Iterator.Search.{position_from_yields_List}
-use Rattle.ep_plan.proofs.Parts.{parts-some, parts-none}
+use Rattle.ep_plan.proofs.Separated.{parts-some, parts-none}
 use Rattle.ep_plan.proofs.words.split.first_part.Goals as goal
 
 pub returns-in-Some-clause-parts : goal.returns-in-Some-clause-parts

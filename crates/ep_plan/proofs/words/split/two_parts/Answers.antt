@@ -1,6 +1,6 @@
 use Rattle.std.proofs.Common.{◌≡◌, ◌∷◌, length, ap, arith}
 use Rattle.ep_plan.specs.Words.{parts_at}
-use Rattle.ep_plan.proofs.Parts.{parts-further, parts-cons}
+use Rattle.ep_plan.proofs.Separated.{parts-further, parts-cons}
 use Rattle.ep_plan.proofs.words.split.two_parts.Goals as goal
 
 pub returns-in-Some-clause-none : goal.returns-in-Some-clause-none

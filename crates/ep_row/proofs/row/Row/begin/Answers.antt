@@ -1,4 +1,5 @@
 use Rattle.std.proofs.Common.{◌∙◌, ◌≤◌, ◌<◌, ◌++◌, [], ◌∷◌, ℕ, length, ap, sym, subst, arith}
+use Rattle.ep_defs.specs.declared.limits.TheConstants.{WRITES}
 use Rattle.ep_row.specs.contracts.row.Row.{the_view}
 use Rattle.ep_row.specs.Row.{RowState, with_begin}
 use Rattle.ep_row.specs.AtRest.{RowAtRest}
@@ -11,7 +12,7 @@ returns-clause-rest c events configs writes count rest =
     let view = c.self.view_is in
     let write = c.args.write.now in
     let within : write.event ≤ length row.masks = omega (arith, c.requires.events, ap (λ (r : RowState). length r.masks) view) in
-    let few : row.index < 4000000000 = omega (arith, c.requires.few, ap (λ (r : RowState). r.index) view) in
+    let few : row.index < WRITES = omega (arith, c.requires.few, ap (λ (r : RowState). r.index) view) in
     let due = mask-is row write.event c.index.result.now c.requires.event within c.index.ensures in
     subst
     (λ (n : ℕ). RowAtRest events configs (writes ++ write ∷ []) (record (with_begin row c.args.stamp write) { due = n }))

@@ -1,5 +1,6 @@
-use Rattle.std.proofs.Common.{refl, ap, ◌∙◌, ℕ, List}
+use Rattle.std.proofs.Common.{refl, ap, ◌∙◌, ℕ, ◌+◌, List}
 use Rattle.std.specs.Prelude.{slice_index}
+use Rattle.nt_write.specs.declared.limits.TheConstants.{LAST_EVENT}
 use Rattle.nt_write.proofs.IdTables.{slice_index-zeros}
 use Rattle.nt_write.proofs.ids.IdTable.new.Goals as goal
 
@@ -10,5 +11,5 @@ returns c defs =
       id_is =
           λ number def at.
           ap (λ (xs : List ℕ). slice_index xs number) (c.in_ok-table.ensures.items_if_clones_equal (λ y e. e))
-          ∙ slice_index-zeros 1002 number;
+          ∙ slice_index-zeros (LAST_EVENT + 1) number;
     }

@@ -3,7 +3,8 @@ use Rattle.std.proofs.Common.{◌≡◌, ◌∙◌, sym, length, arith}
 use Rattle.std.specs.Prelude.{vec_len}
 use Rattle.std.proofs.lemmas.Bool.{eqb-true}
 use Rattle.std.proofs.lemmas.List.{nil_from_length}
-use Rattle.pt_cli.proofs.ReadSoFar.{is_some-false, so_far-good, good-judged, refused-judged, last-none}
+use Rattle.ep_model.proofs.Lists.{none_is}
+use Rattle.pt_cli.proofs.ReadSoFar.{so_far-good, good-judged, refused-judged, last-none}
 use Rattle.pt_cli.proofs.text.Reader.finish.Goals as goal
 use Rattle.pt_cli.proofs.text.Reader.finish.Goals.{then-is_some-via-then-is_some, then-is_some-via-else-is_some+then-is_empty}
 
@@ -13,7 +14,7 @@ returns-then-is_some c = λ bytes read.
     elim c.then-is_some.branch [
       | then-is_some-via-then-is_some w ↦ refused-judged bytes reader.schedule reader.part.items reader.refusal (sym c.is_some.ensures ∙ w.if-is_some.true) read
       | then-is_some-via-else-is_some+then-is_empty w ↦
-          let none = is_some-false reader.refusal (sym c.is_some.ensures ∙ w.if-is_some.false) in
+          let none = none_is reader.refusal (sym c.is_some.ensures ∙ w.if-is_some.false) in
           let good = so_far-good bytes reader.schedule reader.part.items reader.refusal none read in
           let empty : vec_len reader.part ≡ 0 = eqb-true (vec_len reader.part) 0 (sym w.is_empty.ensures ∙ w.if-is_empty.true) in
           let none_left : length reader.part.items ≡ 0 = omega (arith, empty) in

@@ -1,18 +1,19 @@
 -- A byte of a line is one more of its part, or is too many.
 use Rattle.std.proofs.Common.{◌≡◌, ℕ, ◌+◌, ◌≤◌, ◌<◌, length, List, [], ◌∷◌, ◌++◌, ◌∙◌, sym, subst, arith}
+use Rattle.ep_model.proofs.Lists.{none_is}
 use Rattle.ep_plan.specs.declared.line.LineKind.TheVariants.{Long}
 use Rattle.pt_cli.specs.declared.errors.Reason.TheVariants.{Line}
 use Rattle.pt_cli.specs.Schedule.{IsRefused}
 use Rattle.pt_cli.specs.Reading.{AreGoodSoFar}
 use Rattle.ep_plan.specs.declared.limits.TheConstants.{LINE_BYTES}
-use Rattle.pt_cli.proofs.ReadSoFar.{is_some-false, so_far-good, good-so_far, read-byte, read-long}
+use Rattle.pt_cli.proofs.ReadSoFar.{so_far-good, good-so_far, read-byte, read-long}
 use Rattle.pt_cli.proofs.text.Reader.take_byte.Goals as goal
 
 pub returns-then-len-ge-LINE_BYTES-clause-read :
     goal.returns-then-len-ge-LINE_BYTES-clause-read
 returns-then-len-ge-LINE_BYTES-clause-read c = λ bytes read.
     let reader = c.args.self.now in
-    let good = so_far-good bytes reader.schedule reader.part.items reader.refusal (is_some-false reader.refusal (sym c.is_some.ensures ∙ c.if-is_some.false)) read in
+    let good = so_far-good bytes reader.schedule reader.part.items reader.refusal (none_is reader.refusal (sym c.is_some.ensures ∙ c.if-is_some.false)) read in
     let long : LINE_BYTES ≤ length reader.part.items = omega (arith, c.len.ensures, c.if-len-ge-LINE_BYTES.true) in
     let IsLong : ℕ → Type 0 = λ n.
     (rest : List ℕ) → IsRefused (bytes ++ c.args.byte ∷ [] ++ rest) (record { line = n + 1; column = 1; reason = Line Long }) in
@@ -21,7 +22,7 @@ returns-then-len-ge-LINE_BYTES-clause-read c = λ bytes read.
 pub returns-clause-read : goal.returns-clause-read
 returns-clause-read c = λ bytes read.
     let reader = c.args.self.now in
-    let none = is_some-false reader.refusal (sym c.is_some.ensures ∙ c.if-is_some.false) in
+    let none = none_is reader.refusal (sym c.is_some.ensures ∙ c.if-is_some.false) in
     let good = so_far-good bytes reader.schedule reader.part.items reader.refusal none read in
     let short : length reader.part.items < LINE_BYTES = omega (arith, c.len.ensures, c.if-len-ge-LINE_BYTES.false) in
     let next = read-byte bytes reader.schedule reader.part.items good c.args.byte c.if-byte-eq10.false short in

@@ -3,7 +3,7 @@ use Rattle.std.proofs.Math.Seq.{take-add}
 use Rattle.std.proofs.lemmas.List.{take_all, drop-drop, length-drop, take-append-drop}
 use Rattle.pt_io.proofs.mem_source.MemSourceSource.read.Goals as goal
 
--- What is copied from the slice behind a place is what is copied from the bytes that are left there.
+-- What is copied from the slice after a place is what is copied from the bytes that are left there.
 front_is : (bytes seen buf : List ℕ) (i n : ℕ) → seen ≡ bytes → take n buf ≡ take n (take (length seen - i) (drop i seen)) → take n buf ≡ take n (drop i bytes)
 front_is bytes seen buf i n is front =
     front ∙ ap (λ (l : List ℕ). take n l) (take_all _ _ (omega (arith, length-drop i seen))) ∙ ap (λ (l : List ℕ). take n (drop i l)) is

@@ -2,6 +2,7 @@ use Rattle.std.proofs.Common.{List, [], ◌∷◌, map, sym, ap, ◌∙◌, subs
 use Rattle.std.specs.List.{flat_map}
 use Rattle.std.specs.Ordering.{nat_cmp}
 use Rattle.std.specs.Cmp.Lexicographic.{slice_cmp, nat_list_cmp_total}
+use Rattle.pt_num.proofs.Steps.{ok-same}
 use Rattle.ep_defs.specs.Entry.{Entry}
 use Rattle.nt_check.specs.Numbers.{numbers_of}
 use Rattle.pt_report.specs.Keys.{key_of, key_order}
@@ -9,7 +10,6 @@ use Rattle.pt_report.specs.Report.{trace_lines, trace_of, items_line, provider_l
 use Rattle.pt_report.specs.state.Events.{provider_of}
 use Rattle.pt_report.specs.state.Shows.{Shows, totals_of}
 use Rattle.pt_report.proofs.Printed.{key_total, tally-lines, put-more}
-use Rattle.pt_report.proofs.Steps.{ok-same}
 use Rattle.pt_report.proofs.report.Report.print.Goals as goal
 
 pub returns : goal.returns

@@ -6,11 +6,12 @@ use Rattle.std.specs.Char.{digit_value}
 use Rattle.std.specs.Result.{result_ok}
 use Rattle.std.proofs.lemmas.Bool.{cases_Bool, and_parts, and_from, and_right, cond-true, cond-false, eqb-true, ne_eqb, lt-ltb, not_from_false}
 use Rattle.std.proofs.lemmas.List.Sums.{list_all-from_AllPass}
+use Rattle.ep_model.proofs.Lists.{all_more}
 use Rattle.hex.specs.Hex.{IsBytes, decode_of, decode_sized, encode_lower, encode_with, is_hex_digit}
 use Rattle.hex.proofs.HexLemmas.{decode_of-encode_lower, decode_of-ok, decode_sized-encode_lower}
 use Rattle.ep_defs.specs.declared.session.Rule.{Rule}
 use Rattle.ep_plan.specs.Words.{colon, comma, dash_or, is_name, is_name_byte, all_in, with_first, provider_in, hex_in, number_in, id_in, payload_in, frames_in, rule_in, rule_of, rule_of_parts, id_text, payload_text, frames_text, rule_text, hex_text, number_text, parts_at}
-use Rattle.ep_plan.proofs.Lacks.{lacks, all_lack, list_all-weaker, lacks-join, parts_at-join, not-dash}
+use Rattle.ep_plan.proofs.Separated.{lacks, all_lack, lacks-join, parts_at-join, not-dash}
 use Rattle.ep_plan.proofs.NumberTexts.{number_in-number_text, hex_in-hex_text, hex_text-lacks, number_text-lacks}
 
 -- ---- names
@@ -26,7 +27,7 @@ name_byte-other separator byte other good =
 -- A name has no blank and no colon.
 pub name-lacks : (separator : ℕ) (name : List ℕ) → is_name_byte separator ≡ false → is_name name ≡ true → lacks separator name ≡ true
 name-lacks separator name other good =
-    list_all-weaker is_name_byte (λ byte. not (byte == separator)) (λ byte h. name_byte-other separator byte other h) name
+    all_more is_name_byte (λ byte. not (byte == separator)) (λ byte h. name_byte-other separator byte other h) name
     (and_parts (nat_lt 0 (length name)) (list_all is_name_byte name) good).1
 
 -- ---- bytes
@@ -48,7 +49,7 @@ hex_digit-other separator byte other good =
 pub encoded-lacks : (separator : ℕ) (bytes : List ℕ) → is_hex_digit separator ≡ false → IsBytes bytes → lacks separator (encode_lower bytes) ≡ true
 encoded-lacks separator bytes other small =
     let digits = (decode_of-ok (encode_lower bytes) bytes (decode_of-encode_lower bytes small)).1 in
-    list_all-weaker is_hex_digit (λ byte. not (byte == separator)) (λ byte h. hex_digit-other separator byte other h) (encode_lower bytes)
+    all_more is_hex_digit (λ byte. not (byte == separator)) (λ byte h. hex_digit-other separator byte other h) (encode_lower bytes)
     (list_all-from_AllPass is_hex_digit (encode_lower bytes) digits)
 
 pub payload_in-payload_text : (payload : List ℕ) → IsBytes payload → payload_in (payload_text payload) ≡ Some payload

@@ -15,23 +15,23 @@ use Rattle.ep_defs.specs.Event.{is_same_text}
 use Rattle.ep_defs.specs.Ranges.{RuleFits, WriteFits, AreBytes}
 use Rattle.ep_model.specs.Ranges.{StepFits}
 use Rattle.ep_model.specs.declared.step.Step.{Step}
-use Rattle.ep_model.specs.declared.step.Step.TheVariants as step
 use Rattle.ep_defs.specs.declared.limits.TheConstants.{RULES}
 use Rattle.hex.specs.Hex.{IsBytes}
 use Rattle.ep_plan.specs.declared.limits.TheConstants.{LINE_BYTES}
-use Rattle.ep_plan.specs.declared.line.Line.TheVariants as line
 use Rattle.ep_plan.specs.declared.verb.Verb.{Verb}
-use Rattle.ep_plan.specs.declared.verb.Verb.TheVariants as verb
-use Rattle.ep_plan.specs.declared.line.LineKind.TheVariants as kind
 use Rattle.ep_plan.specs.Words.{space, words_of, is_name, rule_in, all_in, with_first, number_text, id_text, frames_text, payload_text, rule_text}
 use Rattle.ep_plan.specs.Lines.{more_than_one, Part, Number, Flag, Stamp, Id, Frames, Payload, Rule, form_of, verb_in, unless, number_of, flag_of, stamp_of, write_of, first_bad, fault_of, spelling_fault, form_bad, step_bad, is_blank, Spells, Means, IsLine}
 use Rattle.ep_plan.specs.Printing.{step_words, step_text, can_print, has_rules, has_parts}
-use Rattle.ep_plan.proofs.Lacks.{lacks, all_lack}
+use Rattle.ep_plan.proofs.Separated.{lacks, all_lack}
 use Rattle.ep_plan.proofs.NumberTexts.{number_in-number_text}
-use Rattle.ep_plan.proofs.ReadBack.{id_in-id_text, payload_in-payload_text, frames_in-frames_text, rule_in-rule_text}
+use Rattle.ep_plan.proofs.PrintThenReadWord.{id_in-id_text, payload_in-payload_text, frames_in-frames_text, rule_in-rule_text}
 use Rattle.ep_plan.proofs.WordTexts.{IsWord, IsWord-number_text, IsWord-id_text, IsWord-payload_text, IsWord-frames_text, IsWord-rule_text, words_of-join}
 use Rattle.ep_plan.proofs.Forms.{write-is}
 use Rattle.ep_plan.proofs.WholeLines.{worded, step-first}
+use Rattle.ep_model.specs.declared.step.Step.TheVariants as step
+use Rattle.ep_plan.specs.declared.line.Line.TheVariants as line
+use Rattle.ep_plan.specs.declared.verb.Verb.TheVariants as verb
+use Rattle.ep_plan.specs.declared.line.LineKind.TheVariants as kind
 
 -- ---- words that are good
 
@@ -188,7 +188,7 @@ write-read write fits =
 
 -- ---- steps
 
--- The words of an Accept without stacks, behind the first.
+-- The words of an Accept without stacks, after the first.
 abbrev words_of_three : ℕ → Config → List (List ℕ)
 words_of_three session config = number_text session ∷ number_text config.chunks ∷ number_text 0 ∷ map rule_text config.rules
 

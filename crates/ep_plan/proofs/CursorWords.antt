@@ -1,12 +1,12 @@
 -- Words that were taken from a line, and what they say of its first bad word.
-use Rattle.std.proofs.Common.{◌≡◌, ◌≢◌, ◌==◌, ℕ, ◌+◌, ◌-◌, ◌<◌, ◌≤◌, ◌⊎◌, inl, inr, Bool, true, false, not, ◌&&◌, is_some, if◌then◌else◌, nat_le, List, [], ◌∷◌, length, Option, Some, None, Result, Err, IfSome, option_copied, unwrap_or, Bor, refl, sym, ap, ◌∙◌, arith}
+use Rattle.std.proofs.Common.{◌≡◌, ◌≢◌, ◌==◌, ℕ, ◌+◌, ◌-◌, ◌<◌, ◌≤◌, ◌⊎◌, inl, inr, Bool, true, false, not, ◌&&◌, is_some, nat_le, List, [], ◌∷◌, length, Option, Some, None, Result, Err, IfSome, option_copied, unwrap_or, Bor, refl, sym, ap, ◌∙◌, arith}
 use Rattle.std.proofs.lemmas.Bool.{eqb-true}
 use Rattle.std.proofs.lemmas.Bool.Decides.{nat_tests}
 use Rattle.std.proofs.lemmas.List.Splits.{length-slice_split}
 use Rattle.ep_defs.specs.declared.limits.TheConstants.{EVENTS}
 use Rattle.ep_plan.specs.Words.{space, parts_at, parts_behind}
 use Rattle.ep_plan.specs.declared.line.LineFault.{LineFault}
-use Rattle.ep_plan.specs.declared.line.LineFault.TheVariants.{Bad as Refused, OutOfMemory}
+use Rattle.ep_plan.specs.declared.line.LineFault.TheVariants.{Bad as BadLine}
 use Rattle.std.specs.Bool.{OnTrue, OnFalse}
 use Rattle.ep_plan.specs.declared.cursor.Cursor.{Cursor}
 use Rattle.ep_plan.specs.declared.line.LineKind.{LineKind}
@@ -48,9 +48,9 @@ bad-part part old new word kind took h parts more =
     ap (first_bad old.past (column_of old) (part ∷ parts) more) took.words ∙ bad-word old.past (column_of old) part parts more word (left new) kind (spelled part word (Some kind) took.some h)
 
 -- A fault that tells what is wrong with a word.
-pub is-bad : {T : Type 0} (part : Part) (old new : Cursor) (word : List ℕ) (fault : LineFault) (first : ℕ) (found : LineKind) → TookWord old new word → spelling_fault part word ≡ Some found → fault ≡ Refused new.line first found → first ≡ column_of old → (at column : ℕ) (why : LineKind) → ◌≡◌ {A = Result T LineFault} (Err fault) (Err (Refused at column why)) → IsBad part old at column why
+pub is-bad : {T : Type 0} (part : Part) (old new : Cursor) (word : List ℕ) (fault : LineFault) (first : ℕ) (found : LineKind) → TookWord old new word → spelling_fault part word ≡ Some found → fault ≡ BadLine new.line first found → first ≡ column_of old → (at column : ℕ) (why : LineKind) → ◌≡◌ {A = Result T LineFault} (Err fault) (Err (BadLine at column why)) → IsBad part old at column why
 is-bad part old new word fault first found took h told begins at column why e =
-    let same : ◌≡◌ {A = LineFault} (Refused new.line first found) (Refused at column why) = cc in
+    let same : ◌≡◌ {A = LineFault} (BadLine new.line first found) (BadLine at column why) = cc in
     let line : at ≡ new.line = cc in
     let place : column_of old ≡ column = cc in
     let answer : bad_at (column_of old) found ≡ bad_at column why = cc in
@@ -69,10 +69,10 @@ missing : (past column : ℕ) (part : Part) (parts : List Part) (more : ℕ) →
 unfolding first_bad
 missing past column part parts more = refl
 
-pub is-missing : {T : Type 0} (part : Part) (old : Cursor) (fault : LineFault) (first : ℕ) → old.rest ≡ None → fault ≡ Refused old.line first kind.Word → first ≡ column_of old → (at column : ℕ) (why : LineKind) → ◌≡◌ {A = Result T LineFault} (Err fault) (Err (Refused at column why)) → IsBad part old at column why
+pub is-missing : {T : Type 0} (part : Part) (old : Cursor) (fault : LineFault) (first : ℕ) → old.rest ≡ None → fault ≡ BadLine old.line first kind.Word → first ≡ column_of old → (at column : ℕ) (why : LineKind) → ◌≡◌ {A = Result T LineFault} (Err fault) (Err (BadLine at column why)) → IsBad part old at column why
 unfolding bad_left
 is-missing part old fault first none told begins at column why e =
-    let same : ◌≡◌ {A = LineFault} (Refused old.line first kind.Word) (Refused at column why) = cc in
+    let same : ◌≡◌ {A = LineFault} (BadLine old.line first kind.Word) (BadLine at column why) = cc in
     let line : at ≡ old.line = cc in
     let end : column_of old ≡ old.past = column-over old none in
     let answer : bad_at old.past kind.Word ≡ bad_at column why = cc in
@@ -91,19 +91,19 @@ empty-word : (part : Part) → fault_of part [] ≡ Some kind.Word
 unfolding fault_of
 empty-word part = refl
 
-pub is-empty : {T : Type 0} (part : Part) (old : Cursor) (text : Bor (List ℕ)) (word : List ℕ) (words : List (List ℕ)) (fault : LineFault) (first : ℕ) → old.rest ≡ Some text → parts_at space text.now ≡ word ∷ words → (length word == 0) ≡ true → fault ≡ Refused old.line first kind.Word → first ≡ column_of old → (at column : ℕ) (why : LineKind) → ◌≡◌ {A = Result T LineFault} (Err fault) (Err (Refused at column why)) → IsBad part old at column why
+pub is-empty : {T : Type 0} (part : Part) (old : Cursor) (text : Bor (List ℕ)) (word : List ℕ) (words : List (List ℕ)) (fault : LineFault) (first : ℕ) → old.rest ≡ Some text → parts_at space text.now ≡ word ∷ words → (length word == 0) ≡ true → fault ≡ BadLine old.line first kind.Word → first ≡ column_of old → (at column : ℕ) (why : LineKind) → ◌≡◌ {A = Result T LineFault} (Err fault) (Err (BadLine at column why)) → IsBad part old at column why
 unfolding bad_left
 is-empty part old text word words fault first h cut none told begins at column why e =
-    let same : ◌≡◌ {A = LineFault} (Refused old.line first kind.Word) (Refused at column why) = cc in
+    let same : ◌≡◌ {A = LineFault} (BadLine old.line first kind.Word) (BadLine at column why) = cc in
     let line : at ≡ old.line = cc in
     let answer : bad_at (column_of old) kind.Word ≡ bad_at column why = cc in
     let empty : word ≡ [] = no-length word none in
     let starts : left old ≡ [] ∷ words = begins-with old text word words h cut ∙ ap (λ w. w ∷ words) empty in
     record { line_is = line; bad = λ parts more. ap (first_bad old.past (column_of old) (part ∷ parts) more) starts ∙ bad-word old.past (column_of old) part parts more [] words kind.Word (empty-word part) ∙ ap Some answer }
 
-pub tells-word : {T : Type 0} (old : Cursor) (fault : LineFault) (first : ℕ) → fault ≡ Refused old.line first kind.Word → first ≡ column_of old → (at column : ℕ) (why : LineKind) → ◌≡◌ {A = Result T LineFault} (Err fault) (Err (Refused at column why)) → (column ≡ column_of old) × (why ≡ kind.Word)
+pub tells-word : {T : Type 0} (old : Cursor) (fault : LineFault) (first : ℕ) → fault ≡ BadLine old.line first kind.Word → first ≡ column_of old → (at column : ℕ) (why : LineKind) → ◌≡◌ {A = Result T LineFault} (Err fault) (Err (BadLine at column why)) → (column ≡ column_of old) × (why ≡ kind.Word)
 tells-word old fault first told begins at column why e =
-    let same : ◌≡◌ {A = LineFault} (Refused old.line first kind.Word) (Refused at column why) = cc in
+    let same : ◌≡◌ {A = LineFault} (BadLine old.line first kind.Word) (BadLine at column why) = cc in
     let place : column ≡ column_of old = cc in
     let word : why ≡ kind.Word = cc in
     (place, word)
@@ -167,10 +167,10 @@ unfolding first_bad
 left-over past column [] some = absurd (some refl)
 left-over past column (word ∷ words) some = refl
 
-pub is-left_over : {T : Type 0} (cursor : Cursor) (fault : LineFault) (first : ℕ) → left cursor ≢ [] → fault ≡ Refused cursor.line first kind.Word → first ≡ column_of cursor → (at column : ℕ) (why : LineKind) → ◌≡◌ {A = Result T LineFault} (Err fault) (Err (Refused at column why)) → (at ≡ cursor.line) × (bad_left cursor [] 0 ≡ Some (bad_at column why))
+pub is-left_over : {T : Type 0} (cursor : Cursor) (fault : LineFault) (first : ℕ) → left cursor ≢ [] → fault ≡ BadLine cursor.line first kind.Word → first ≡ column_of cursor → (at column : ℕ) (why : LineKind) → ◌≡◌ {A = Result T LineFault} (Err fault) (Err (BadLine at column why)) → (at ≡ cursor.line) × (bad_left cursor [] 0 ≡ Some (bad_at column why))
 unfolding bad_left
 is-left_over cursor fault first some told begins at column why e =
-    let same : ◌≡◌ {A = LineFault} (Refused cursor.line first kind.Word) (Refused at column why) = cc in
+    let same : ◌≡◌ {A = LineFault} (BadLine cursor.line first kind.Word) (BadLine at column why) = cc in
     let line : at ≡ cursor.line = cc in
     let answer : bad_at (column_of cursor) kind.Word ≡ bad_at column why = cc in
     (line, left-over cursor.past (column_of cursor) (left cursor) some ∙ ap Some answer)
@@ -203,7 +203,7 @@ is-not-over cursor b h = more-by_test cursor.rest b h
 -- ---- faults that pass through
 
 -- What a `?` returns is the fault that it found.
-pub through : {T U : Type 0} (r : Result T LineFault) (fault : LineFault) → (x : LineFault) × (r ≡ Err x) × (x ≡ fault) → (at column : ℕ) (why : LineKind) → r ≡ Err (Refused at column why) → ◌≡◌ {A = Result U LineFault} (Err fault) (Err (Refused at column why))
+pub through : {T U : Type 0} (r : Result T LineFault) (fault : LineFault) → (x : LineFault) × (r ≡ Err x) × (x ≡ fault) → (at column : ℕ) (why : LineKind) → r ≡ Err (BadLine at column why) → ◌≡◌ {A = Result U LineFault} (Err fault) (Err (BadLine at column why))
 through r fault p at column why e = cc
 
 -- ---- the numbers of events
