@@ -84,7 +84,7 @@ pub(crate) fn show_in<P: Program, R: Wait>(
 
 // What a row and its buffer agree on once one write more was shown.
 pub(crate) fn next_told<'a>(kept: &Option<Kept<'a>>) -> Agreed<'a>
-    requires { ForSome kept.now (λ k. k.told.opening.shown < 4000000001) }
+    requires { ForSome kept.now (λ k. k.told.opening.shown ≤ WRITES) }
     ensures { result ≡ told_as (option_map (λ k. raised k.told) kept.now) }
 {
     match kept {

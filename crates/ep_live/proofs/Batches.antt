@@ -15,12 +15,7 @@ use Rattle.ep_slot.specs.Hand.{HandState}
 use Rattle.ep_row.specs.AtRest.{IsNumbered, write_of}
 use Rattle.ep_guarded.specs.Tied.{AreTaken}
 use Rattle.ep_stream.specs.Rows.{IsBatch, IsDefined}
-
-none_some : {A : Type 0} (a : A) → None ≡ Some a → ⊥
-none_some a e = cc
-
-same : {A : Type 0} (a b : A) → Some a ≡ Some b → a ≡ b
-same a b e = cc
+use Rattle.ep_live.proofs.Pushing.{none_some, same}
 
 passed_cons : {A : Type 0} (p : A → Bool) (y : A) (rest : List A) (v : Bool) (k : ℕ) (x : A) → p y ≡ v → ((n : ℕ) → slice_get rest n ≡ Some x → p x ≡ true) → slice_get (cond v (y ∷ rest) rest) k ≡ Some x → p x ≡ true
 passed_cons p y rest true zero x e all is = ap p (sym (same y x is)) ∙ e

@@ -16,15 +16,12 @@ use Rattle.ep_tie.specs.Tied.{Tied}
 use Rattle.ep_guarded.specs.declared.agreed.Agreed.{Agreed}
 use Rattle.ep_guarded.specs.declared.agreed.Agreed.TheVariants as agreed
 use Rattle.ep_guarded.specs.declared.grant.Grant.{Grant}
-use Rattle.ep_guarded.specs.Tied.{hand_in, grant_in}
+use Rattle.ep_guarded.specs.declared.agreed.Stand.{Stand}
+use Rattle.ep_guarded.specs.Tied.{hand_in, grant_in, stand_in}
 use Rattle.ep_guarded.proofs.Resting.{each-set}
-use Rattle.ep_live.specs.RowSet.{half_at, said_by, stolen_in, hands_in, AreRowsOfOne, IsHandHalf, AreSlotTies}
-
-none_some : {A : Type 0} (a : A) → None ≡ Some a → ⊥
-none_some a e = cc
-
-same : {A : Type 0} (a b : A) → Some a ≡ Some b → a ≡ b
-same a b e = cc
+use Rattle.ep_live.specs.Made.{AreSlotTies}
+use Rattle.ep_live.specs.RowSet.{LiveRowsState, half_at, said_by, expected_in, out_in, stolen_in, hands_in, AreRowsOfOne, IsHandHalf}
+use Rattle.ep_live.proofs.Pushing.{none_some, same}
 
 -- ---- what is said at a row
 
@@ -108,6 +105,22 @@ held-grant (Some (agreed.Told told)) hand is = absurd (none_some hand is)
 held-grant (Some (agreed.Held held)) hand is = (held.grant.now, refl)
 held-grant (Some (agreed.Stand stand)) hand is = absurd (none_some hand is)
 
+-- A half without a hand tells of nothing that was granted.
+no-grant : (value : Option Agreed) → hand_in value ≡ None → grant_in value ≡ None
+no-grant None none = refl
+no-grant (Some agreed.Nothing) none = refl
+no-grant (Some (agreed.Told told)) none = refl
+no-grant (Some (agreed.Held held)) none = absurd (none_some _ (sym none))
+no-grant (Some (agreed.Stand stand)) none = refl
+
+-- What a half says of a thread is all that it says.
+pub stand-is : (value : Option Agreed) (stand : Stand) → stand_in value ≡ Some stand → value ≡ Some (agreed.Stand stand)
+stand-is None stand is = absurd (none_some stand is)
+stand-is (Some agreed.Nothing) stand is = absurd (none_some stand is)
+stand-is (Some (agreed.Told told)) stand is = absurd (none_some stand is)
+stand-is (Some (agreed.Held held)) stand is = absurd (none_some stand is)
+stand-is (Some (agreed.Stand other)) stand is = ap (λ (s : Stand). Some (agreed.Stand s)) (same other stand is)
+
 one-each : (half : Tied Agreed) → hands_in half ≤ 1
 one-each half =
     elim (hand_in half.value) as (λ o. option_map_or (λ hand. 1) o 0 ≤ 1) [
@@ -173,13 +186,13 @@ sum-set f halves k half now is =
 pub rows-changed : (rows slot : ℕ) (grant : Grant) (halves : List (Tied Agreed)) (seat new_seat : SeatState) (openings new_openings k : ℕ) (half now : Tied Agreed)
     → AreRowsOfOne rows slot grant halves seat openings → slice_get halves k ≡ Some half
     → now.place ≡ half.place → ((g : Grant) → grant_in now.value ≡ Some g → g ≡ grant) → stolen_in now ≤ 4000000000 * hands_in now
-    → new_seat.pool ≡ seat.pool → new_seat.total ≡ seat.total
+    → new_seat.pool ≡ seat.pool → new_seat.total ≡ seat.total → new_seat.seats ≡ seat.seats
     → new_seat.share + hands_in now ≡ seat.share + hands_in half
     → new_seat.given ≡ seat.given → stolen_in half + seat.taken ≤ stolen_in now + new_seat.taken
     → new_seat.taken + 4000000000 * hands_in now + 4000000000 * openings ≤ seat.taken + 4000000000 * hands_in half + 4000000000 * new_openings
     → new_openings ≤ 1000000
     → AreRowsOfOne rows slot grant (slice_set halves k now) new_seat new_openings
-rows-changed rows slot grant halves seat new_seat openings new_openings k half now rests at place granted few pool total share given stolen taken most =
+rows-changed rows slot grant halves seat new_seat openings new_openings k half now rests at place granted few pool total seats share given stolen taken most =
     let hands = sum-set hands_in halves k half now at in
     let chunks = sum-set stolen_in halves k half now at in
     let was_taken : seat.taken + 4000000000 * sum_by hands_in halves ≤ 4000000000 * openings = rests.taken in
@@ -191,6 +204,7 @@ rows-changed rows slot grant halves seat new_seat openings new_openings k half n
       halves_are = each-set (IsHandHalf rows slot grant) halves k now (λ n x is _. rests.halves_are n x is)
           (record { place = place ∙ (rests.halves_are k half at).place; granted = granted; few = few });
       seat_is = (pool ∙ rests.seat_is.0, total ∙ rests.seat_is.1);
+      seats = seats ∙ rests.seats;
       share = omega (arith, hands, was_share, share);
       given = omega (arith, chunks, was_given, given, stolen);
       taken = omega (arith, hands, was_taken, taken);
@@ -218,7 +232,7 @@ pub rows-fresh : (rows slot : ℕ) (grant : Grant) (halves : List (Tied Agreed))
     → seat ≡ record { pool = grant.pool.pool; total = grant.pool.total; seats = rows + 1; share = rows + 1; taken = 0; given = 0 }
     → AreRowsOfOne rows slot grant halves seat 0
 rows-fresh rows slot grant halves seat small count ties seat_is =
-    let off : (k : ℕ) (half : Tied Agreed) → slice_get halves k ≡ Some half → hand_in half.value ≡ None = λ k half is. ap hand_in (ties k half is).1 in
+    let off : (k : ℕ) (half : Tied Agreed) → slice_get halves k ≡ Some half → hand_in half.value ≡ None = λ k half is. (ties k half is).off in
     let hands = no_hands hands_in halves (λ k half is. (counts-none half (off k half is)).0) in
     let stolen = no_hands stolen_in halves (λ k half is. (counts-none half (off k half is)).1) in
     let share = ap (λ (s : SeatState). s.share) seat_is in
@@ -229,13 +243,50 @@ rows-fresh rows slot grant halves seat small count ties seat_is =
       within = omega (arith, small);
       halves_are = λ k half is.
           record {
-            place = (ties k half is).0;
-            granted = λ g told. absurd (none_some g (sym (ap grant_in (ties k half is).1) ∙ told));
+            place = (ties k half is).place;
+            granted = λ g told. absurd (none_some g (sym (no-grant half.value (off k half is)) ∙ told));
             few = omega (arith, counts-none half (off k half is));
           };
       seat_is = (ap (λ (s : SeatState). s.pool) seat_is, ap (λ (s : SeatState). s.total) seat_is);
+      seats = ap (λ (s : SeatState). s.seats) seat_is;
       share = omega (arith, share, hands);
       given = omega (arith, given, stolen, taken);
       taken = omega (arith, taken, hands);
       few = omega arith;
+    }
+
+-- ---- the rows at last
+
+-- The rows of a session that is closed everywhere, where nothing is out.
+pub record HaveEnded (rows slot : ℕ) (halves : List (Tied Agreed)) (seat : SeatState) : Type 0 where
+  pub halves_are : AreSlotTies rows slot halves
+  pub share : seat.share ≡ rows + 1
+  pub seats : seat.seats ≡ rows + 1
+  pub taken : seat.taken ≡ seat.given
+
+pub rows-ended : (set now : LiveRowsState) (rows openings : ℕ) → set ≡ now
+    → AreRowsOfOne rows set.slot set.grant set.halves set.seat openings
+    → ((row slot : ℕ) → expected_in now row slot ≡ None) → ((slot : ℕ) → out_in now slot ≡ 0)
+    → HaveEnded rows set.slot set.halves set.seat
+rows-ended set now rows openings is rests all_closed all_given =
+    let closed : (row : ℕ) → expected_in set row set.slot ≡ None = λ row. ap (λ (v : LiveRowsState). expected_in v row set.slot) is ∙ all_closed row set.slot in
+    let given : out_in set set.slot ≡ 0 = ap (λ (v : LiveRowsState). out_in v set.slot) is ∙ all_given set.slot in
+    let off : (k : ℕ) (half : Tied Agreed) → slice_get set.halves k ≡ Some half → hand_in half.value ≡ None =
+    λ k half is.
+    ap (λ (h : Tied Agreed). hand_in h.value) (sym (half-is set.halves (suc k) half (omega arith) (ap (λ (n : ℕ). slice_get set.halves n) {x = suc k - 1} {y = k} (omega arith) ∙ is)))
+    ∙ sym (said-own hand_in set.halves set.slot (suc k) set.slot refl)
+    ∙ closed (suc k)
+    in
+    let hands = no_hands hands_in set.halves (λ k half is. (counts-none half (off k half is)).0) in
+    let stolen = no_hands stolen_in set.halves (λ k half is. (counts-none half (off k half is)).1) in
+    let out : sum_by stolen_in set.halves + set.seat.taken - set.seat.given ≡ 0 =
+    sym (ap (λ v. if v then sum_by stolen_in set.halves + set.seat.taken - set.seat.given else 0) (eq-eqb set.slot set.slot refl)) ∙ given
+    in
+    let was_share = rests.share in
+    let was_given = rests.given in
+    record {
+      halves_are = λ k half is. record { place = (rests.halves_are k half is).place; off = off k half is };
+      share = omega (arith, hands, was_share);
+      seats = rests.seats;
+      taken = omega (arith, stolen, out, was_given);
     }

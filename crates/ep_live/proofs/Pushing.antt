@@ -2,10 +2,12 @@
 use Rattle.std.proofs.Common.{◌≡◌, ℕ, zero, suc, List, [], ◌∷◌, ◌++◌, length, None, Some, subst}
 use Rattle.std.specs.Prelude.{slice_get}
 
-same : {A : Type 0} (a b : A) → Some a ≡ Some b → a ≡ b
+-- One value is one.
+pub same : {A : Type 0} (a b : A) → Some a ≡ Some b → a ≡ b
 same a b e = cc
 
-none_some : {A : Type 0} (a : A) → None ≡ Some a → ⊥
+-- Nothing is no value.
+pub none_some : {A : Type 0} (a : A) → None ≡ Some a → ⊥
 none_some a e = cc
 
 -- It holds of each where it holds of each before and of the one that was pushed.
@@ -14,7 +16,3 @@ each-push Q [] y each here zero x is = subst (Q 0) (same y x is) here
 each-push Q [] y each here (suc k) x is = absurd (none_some x is)
 each-push Q (first ∷ xs) y each here zero x is = each 0 x is
 each-push Q (first ∷ xs) y each here (suc k) x is = each-push (λ n. Q (suc n)) xs y (λ k. each (suc k)) here k x is
-
--- It holds of each of no items.
-pub each-none : {A : Type 0} (Q : ℕ → A → Type 0) (k : ℕ) (x : A) → slice_get [] k ≡ Some x → Q k x
-each-none Q k x is = absurd (none_some x is)

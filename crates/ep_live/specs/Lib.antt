@@ -1,4 +1,6 @@
 pub mod Live
 pub mod Made
+pub mod Stands
 pub mod RowSet
 pub mod Outside
+pub mod Tests

@@ -1,19 +1,20 @@
 -- What holds of the halves that a run begins with. All of it is this project's own.
-use Rattle.std.specs.Prelude.{◌≡◌, ℕ, ◌+◌, false, List, Some, slice_get}
+use Rattle.std.specs.Prelude.{◌≡◌, ℕ, ◌+◌, false, List, None, Some, slice_get}
 use Rattle.std.specs.Global.{Box}
 use Rattle.ep_tie.specs.Tied.{Tied}
 use Rattle.ep_guarded.specs.declared.agreed.Agreed.{Agreed}
 use Rattle.ep_guarded.specs.declared.agreed.Agreed.TheVariants as agreed
-use Rattle.ep_guarded.specs.Tied.{BufferState, TiedRowState, buffer_number, buffer_place}
+use Rattle.ep_guarded.specs.Tied.{BufferState, TiedRowState, buffer_number, buffer_place, stand_in, hand_in}
 use Rattle.ep_live.specs.Live.{hand_place}
 
--- The half at each place is of the tie between the row with this number and its thread, which has made no write.
-pub record IsStand (number : ℕ) (half : Tied Agreed) : Type 0 where
+-- The half is of the tie between the row with this number and its thread, which has begun so many writes.
+pub record IsStand (index number : ℕ) (half : Tied Agreed) : Type 0 where
   pub place : half.place ≡ number
-  pub stands : half.value ≡ Some (agreed.Stand (record { thread = number + 1; index = 0 }))
+  pub stands : stand_in half.value ≡ Some (record { thread = number + 1; index = index })
 
-abbrev pub AreStands : List (Tied Agreed) → Type 0
-AreStands halves = (k : ℕ) (half : Tied Agreed) → slice_get halves k ≡ Some half → IsStand k half
+-- The halves are of the ties between rows and their threads, by row, each of which has begun so many writes.
+abbrev pub AreStands : ℕ → List (Tied Agreed) → Type 0
+AreStands index halves = (k : ℕ) (half : Tied Agreed) → slice_get halves k ≡ Some half → IsStand index k half
 
 -- The half is of a tie between a row and this buffer of it, in which nothing is open.
 pub record IsRowTie (rows number : ℕ) (half : Tied Agreed) : Type 0 where
@@ -32,6 +33,15 @@ pub record IsHandTie (rows number : ℕ) (half : Tied Agreed) : Type 0 where
 -- The halves are of the ties between buffers and their hands, by the buffer's number.
 abbrev pub AreHandTies : ℕ → List (Tied Agreed) → Type 0
 AreHandTies rows halves = (k : ℕ) (half : Tied Agreed) → slice_get halves k ≡ Some half → IsHandTie rows k half
+
+-- The half is of the tie between the buffer in this slot of a row and its hand, which there is not.
+pub record IsSlotTie (rows slot row : ℕ) (half : Tied Agreed) : Type 0 where
+  pub place : half.place ≡ hand_place rows (buffer_number row slot)
+  pub off : hand_in half.value ≡ None
+
+-- The halves are of the ties between the buffers in this slot and their hands, by row.
+abbrev pub AreSlotTies : ℕ → ℕ → List (Tied Agreed) → Type 0
+AreSlotTies rows slot halves = (k : ℕ) (half : Tied Agreed) → slice_get halves k ≡ Some half → IsSlotTie rows slot k half
 
 -- The buffers, by their numbers.
 abbrev pub AreBuffers : ℕ → List (Box BufferState) → Type 0

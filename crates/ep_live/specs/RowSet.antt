@@ -3,14 +3,16 @@ use Rattle.std.specs.Prelude.{◌≡◌, ℕ, zero, suc, ◌+◌, ◌-◌, ◌*�
 use Rattle.std.specs.List.{sum_by}
 use Rattle.std.specs.Option.{ForSome, option_map_or}
 use Rattle.ep_defs.specs.declared.limits.TheConstants.{SESSIONS, SESSION_THREADS, WRITES}
+use Rattle.ep_defs.specs.declared.event.EventDef.{EventDef}
 use Rattle.ep_defs.specs.declared.session.Config.{Config}
+use Rattle.ep_defs.specs.declared.session.Marks.{Marks}
+use Rattle.ep_defs.specs.declared.session.Write.{Write}
 use Rattle.ep_pool.specs.Shared.{SeatState, IsSeatOf}
 use Rattle.ep_slot.specs.Hand.{HandState}
 use Rattle.ep_tie.specs.Tied.{Tied}
 use Rattle.ep_guarded.specs.declared.agreed.Agreed.{Agreed}
-use Rattle.ep_guarded.specs.declared.agreed.Agreed.TheVariants as agreed
 use Rattle.ep_guarded.specs.declared.grant.Grant.{Grant}
-use Rattle.ep_guarded.specs.Tied.{hand_in, grant_in, buffer_number}
+use Rattle.ep_guarded.specs.Tied.{hand_in, grant_in, buffer_number, AreCounted}
 use Rattle.ep_live.specs.Live.{hand_place}
 
 -- ---- the halves of a session's hands
@@ -38,12 +40,14 @@ hands_in half = option_map_or (λ hand. 1) (hand_in half.value) 0
 
 -- ---- the row set of one session
 
--- The rows of one session: its slot, what it was granted, the halves of its hands by row, and its pool's seat.
+-- The rows of one session: its slot, what it was granted, the halves of its hands by row, its pool's seat, and how many
+-- writes each thread has begun, while the set has the halves of all threads.
 pub record LiveRowsState : Type 0 where
   pub slot : ℕ
   pub grant : Grant
   pub halves : List (Tied Agreed)
   pub seat : SeatState
+  pub stands : Option ℕ
 
 -- By row and slot, the hand that the half at the row agrees on.
 abbrev pub expected_in : LiveRowsState → ℕ → ℕ → Option HandState
@@ -57,9 +61,15 @@ configured_in set = said_by config_in set.halves set.slot
 abbrev pub out_in : LiveRowsState → ℕ → ℕ
 out_in set slot = if slot == set.slot then sum_by stolen_in set.halves + set.seat.taken - set.seat.given else 0
 
--- The halves of the hands that are to come in this slot, by row.
-abbrev pub AreSlotTies : ℕ → ℕ → List (Tied Agreed) → Type 0
-AreSlotTies rows slot halves = (k : ℕ) (half : Tied Agreed) → slice_get halves k ≡ Some half → (half.place ≡ hand_place rows (buffer_number k slot)) × (half.value ≡ Some agreed.Nothing)
+-- Hands of the row's thread pass, and while the threads' halves are here, those that begin where the thread stands.
+abbrev pub tests_hand_in : LiveRowsState → ℕ → HandState → Type 0
+tests_hand_in set row hand = (hand.thread ≡ row) × ForSome set.stands (λ index. hand.from ≡ index)
+
+-- Marks pass that count all that the session gets, and while the threads' halves are here, those that end where the thread
+-- stands.
+abbrev pub tests_marks_in : List EventDef → (ℕ → List Write) → LiveRowsState → Config → Marks → Type 0
+tests_marks_in events writes set config marks =
+    AreCounted events writes config marks × ForSome set.stands (λ index. marks.to ≡ index)
 
 -- ---- what holds at any time
 
@@ -74,6 +84,7 @@ pub record AreRowsOfOne (rows slot : ℕ) (grant : Grant) (halves : List (Tied A
   pub within : slot + 1 ≤ SESSIONS
   pub halves_are : (k : ℕ) (half : Tied Agreed) → slice_get halves k ≡ Some half → IsHandHalf rows slot grant k half
   pub seat_is : IsSeatOf grant.pool seat
+  pub seats : seat.seats ≡ rows + 1
   pub share : seat.share + sum_by hands_in halves ≡ rows + 1
   pub given : seat.given ≤ sum_by stolen_in halves + seat.taken
   pub taken : seat.taken + WRITES * sum_by hands_in halves ≤ WRITES * openings

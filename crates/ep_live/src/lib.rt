@@ -6,15 +6,21 @@
 //! ep_locks.
 //!
 //! Its one contract: whoever writes the plan's next write may, and what a session takes of a thread are the thread's next
-//! writes that it gets. One session's rows are a row set of its stream.
+//! writes that it gets. One session's rows are a row set of its stream. While nobody writes it has the threads' halves of
+//! their ties too, so that its openings and closings stand where the threads do. At its end all chunks are given back.
 #![tactic(auto)]
 
+mod limits;
 mod live;
 mod live_rows;
 mod made;
+mod stands;
 
+pub use limits::ROW_TIES;
 pub use live::{BuffersByNumber, Live, RowsByNumber};
-pub use live_rows::LiveRows;
+pub use live_rows::{Ended, LiveRows, same_tests_have_the_same_stands};
+pub use made::slot_halves;
+pub use stands::Stands;
 
 #[cfg(test)]
 mod tests;

@@ -1,5 +1,5 @@
 //! Rows and buffers behind locks.
-ghost use Rattle.std.specs.Prelude.{◌≡◌, ◌+◌, ◌-◌, ◌*◌, ◌^◌, ◌<◌, ◌≤◌, ℕ, true, false, length, option_map, slice_get, All, Some, None, IfOk, OnOk, OnErr, IsTrue};
+ghost use Rattle.std.specs.Prelude.{◌≡◌, ◌+◌, ◌-◌, ◌*◌, ◌^◌, ◌<◌, ◌≤◌, ℕ, true, false, length, vec_len, option_map, slice_get, All, Some, None, IfOk, OnOk, OnErr, IsTrue};
 ghost use Rattle.std.specs.Int.{bit_at};
 ghost use Rattle.std.specs.Option.{ForSome};
 ghost use Rattle.ep_row.specs.Bits.{ClearsBit};
@@ -14,7 +14,9 @@ ghost use Rattle.ep_live.specs.Live.{hand_place, with_one};
 ghost use Rattle.ep_live.specs.Made.{AreStands, AreHandTies};
 ghost use Rattle.ep_stream.specs.Rows.{first_hand};
 
+use crate::limits::ROW_TIES;
 use crate::made::{make_rows, make_stands};
+use crate::stands::Stands;
 use ep_defs::limits::{EVENTS, SESSIONS, WRITES};
 use ep_defs::{EventDef, Marks, Write};
 use ep_guarded::{Agreed, Grant, Program, TiedBuffer, TiedRow};
@@ -88,11 +90,13 @@ impl<'a, P: Program> Live<'a, P> {
         AllocError,
     >
         requires ties { blank.ties ≡ P.ties }
-        requires places { blank.places ≡ rows + 128 * rows }
+        requires places { blank.places ≡ rows + ROW_TIES * rows }
         requires rows { rows ≡ P.rows }
         requires events { events.items ≡ P.events }
         requires few { length events.items ≤ EVENTS }
-        ensures threads { IfOk result (λ made. AreStands made.1.items) }
+        ensures thread_count { IfOk result (λ made. vec_len made.1 ≡ P.rows) }
+        ensures threads { IfOk result (λ made. AreStands 0 made.1.items) }
+        ensures hand_count { IfOk result (λ made. vec_len made.2 ≡ P.rows * SESSIONS) }
         ensures hands { IfOk result (λ made. AreHandTies P.rows made.2.items) }
     {
         let (ties, mut maker) = blank.open::<P>();
@@ -187,7 +191,8 @@ impl<'a, P: Program> Live<'a, P> {
         self.buffers.put(held, buffer);
     }
 
-    /// Opens a session, with what it was granted, in a slot of the row with this number, and gives its hand. The seat of its
+    /// Opens a session, with what it was granted, in a slot of the row with this number, and gives its hand. Where
+    /// the threads' halves are lent, the session begins where the thread stands. The seat of its
     /// pool gives a share to the buffer. It waits for the row and for the buffer. Out of memory all stays as it was.
     pub fn open<R: Wait>(
         &self,
@@ -196,6 +201,7 @@ impl<'a, P: Program> Live<'a, P> {
         number: usize,
         slot: u32,
         half: &mut Right<P, Agreed<'a>>,
+        stands: &mut Stands<'a, P>,
         session: u64,
         grant: &'a Grant,
         seat: &mut PoolSeat,
@@ -207,14 +213,17 @@ impl<'a, P: Program> Live<'a, P> {
         requires seat { IsSeatOf grant.now.pool seat.old }
         requires share { 1 < seat.old.share }
         ensures hand { IfOk result (λ hand. hand ≡ first_hand session (number + 1) hand.from) }
+        ensures from { IfOk result (λ hand. ForSome stands.old (λ index. hand.from ≡ index)) }
         ensures half { IfOk result (λ hand. hand_in half.new.value ≡ Some hand) }
         ensures grant { OnOk result (grant_in half.new.value ≡ Some grant.now) }
         ensures seat { OnOk result (seat.new ≡ record seat.old { share = seat.old.share - 1 }) }
         ensures none { OnErr result (half.new ≡ half.old) }
         ensures none_seat { OnErr result (seat.new ≡ seat.old) }
         ensures place { half.new.place ≡ half.old.place }
+        ensures stands { stands.new ≡ stands.old }
     {
         let (mut row, row_held) = self.rows.take(rt, number);
+        stands.meet(&self.ties, &mut row, number);
         let (mut buffer, buffer_held) = self.buffers.take(rt, buffer_at(number, slot));
         let opened = row.open(
             alloc,
@@ -233,14 +242,16 @@ impl<'a, P: Program> Live<'a, P> {
     }
 
     /// Closes the session of a hand in a slot of the row with this number, and gives what was pending and what the session
-    /// had of the row's thread. The seat of its pool gets the buffer's share back, with what was taken through it. It waits
-    /// for the row and for the buffer, and takes no memory.
+    /// had of the row's thread. Where the threads' halves are lent, the session ends where the thread stands. The seat of
+    /// its pool gets the buffer's share back, with what was taken through it. It waits for the row and for the buffer, and
+    /// takes no memory.
     pub fn close<R: Wait>(
         &self,
         rt: &R,
         number: usize,
         slot: u32,
         half: &mut Right<P, Agreed<'a>>,
+        stands: &mut Stands<'a, P>,
         hand: Hand,
         seat: &mut PoolSeat,
     ) -> (Batch, Marks)
@@ -255,13 +266,16 @@ impl<'a, P: Program> Live<'a, P> {
         ensures numbered { ForSome (grant_in half.old.value) (λ grant. All (IsNumbered P.events grant.config (P.writes hand.thread) hand.from) (records_of result.0.chain)) }
         ensures filled { All HasRecords result.0.chain }
         ensures marks { AreMarks hand (records_of result.0.chain) result.0.last result.1.to result.1 }
+        ensures to { ForSome stands.old (λ index. result.1.to ≡ index) }
         ensures counted { ForSome (grant_in half.old.value) (λ grant. AreCounted P.events P.writes grant.config result.1) }
         ensures seat { seat.new ≡ record seat.old { share = seat.old.share + 1; taken = seat.old.taken + (hand.stolen + length result.0.chain) } }
         ensures few { hand.stolen + length result.0.chain ≤ WRITES }
         ensures half { half.new.value ≡ Some agreed.Nothing }
         ensures place { half.new.place ≡ half.old.place }
+        ensures stands { stands.new ≡ stands.old }
     {
         let (mut row, row_held) = self.rows.take(rt, number);
+        stands.meet(&self.ties, &mut row, number);
         let (mut buffer, buffer_held) = self.buffers.take(rt, buffer_at(number, slot));
         let closed = row.close(&self.ties, slot, &mut buffer, half, hand, seat);
         self.buffers.put(buffer_held, buffer);

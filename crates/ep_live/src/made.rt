@@ -4,8 +4,9 @@ ghost use Rattle.ep_tie.specs.Tied.{Tied};
 ghost use Rattle.ep_guarded.specs.declared.agreed.Agreed.{Agreed as AgreedValue};
 ghost use Rattle.ep_guarded.specs.declared.agreed.Agreed.TheVariants as agreed;
 ghost use Rattle.ep_guarded.specs.Tied.{buffer_number, buffer_place};
-ghost use Rattle.ep_live.specs.Made.{AreStands, AreRowTies, AreHandTies, AreBuffers, AreRows};
+ghost use Rattle.ep_live.specs.Made.{AreStands, AreRowTies, AreHandTies, AreSlotTies, AreBuffers, AreRows};
 
+use crate::limits::ROW_TIES;
 use ep_defs::limits::SESSIONS;
 use ep_guarded::{Agreed, Program, Stand, TiedBuffer, TiedRow};
 use ep_tie::{Left, Maker, Right, Ties};
@@ -20,9 +21,9 @@ pub(crate) fn make_stands<'a, P: Program>(
 ) -> Result<(Vec<Left<P, Agreed<'a>>>, Vec<Right<P, Agreed<'a>>>), AllocError>
     requires first { maker.old.made ≡ 0 }
     requires room { rows ≤ maker.old.places }
-    ensures count { IfOk result (λ halves. vec_len halves.0 ≡ rows) }
-    ensures rows { IfOk result (λ halves. AreStands halves.0.items) }
-    ensures threads { IfOk result (λ halves. AreStands halves.1.items) }
+    ensures count { IfOk result (λ halves. (vec_len halves.0 ≡ rows) × (vec_len halves.1 ≡ rows)) }
+    ensures rows { IfOk result (λ halves. AreStands 0 halves.0.items) }
+    ensures threads { IfOk result (λ halves. AreStands 0 halves.1.items) }
     ensures made { OnOk result (maker.new.made ≡ rows) }
     ensures places { maker.new.places ≡ maker.old.places }
 {
@@ -77,12 +78,12 @@ pub(crate) fn make_buffers<'a, P: Program>(
     hands: &mut Vec<Right<P, Agreed<'a>>>,
 ) -> Result<Vec<Left<P, Agreed<'a>>>, AllocError>
     requires made { maker.old.made ≡ buffer_place P.rows (buffer_number number 0) }
-    requires room { maker.old.made + 128 ≤ maker.old.places }
+    requires room { maker.old.made + ROW_TIES ≤ maker.old.places }
     requires count { vec_len buffers.old ≡ buffer_number number 0 }
     requires hand_count { vec_len hands.old ≡ buffer_number number 0 }
     requires buffers { AreBuffers P.rows buffers.old.items }
     requires hands { AreHandTies P.rows hands.old.items }
-    ensures lefts { IfOk result (λ lefts. (vec_len lefts ≡ 64) × AreRowTies P.rows number lefts.items) }
+    ensures lefts { IfOk result (λ lefts. (vec_len lefts ≡ SESSIONS) × AreRowTies P.rows number lefts.items) }
     ensures made { OnOk result (maker.new.made ≡ buffer_place P.rows (buffer_number (number + 1) 0)) }
     ensures places { maker.new.places ≡ maker.old.places }
     ensures count { OnOk result (vec_len buffers.new ≡ buffer_number (number + 1) 0) }
@@ -117,13 +118,14 @@ pub(crate) fn make_rows<'a, P: Program>(
     AllocError,
 >
     requires made { maker.old.made ≡ P.rows }
-    requires room { P.rows + 128 * P.rows ≤ maker.old.places }
+    requires room { P.rows + ROW_TIES * P.rows ≤ maker.old.places }
     requires count { vec_len stands ≡ P.rows }
     requires few { P.rows < 2 ^ 32 }
-    requires stands { AreStands stands.items }
+    requires stands { AreStands 0 stands.items }
     requires events { events ≡ length P.events }
     ensures count { IfOk result (λ made. vec_len made.0 ≡ P.rows) }
-    ensures buffer_count { IfOk result (λ made. vec_len made.1 ≡ P.rows * 64) }
+    ensures buffer_count { IfOk result (λ made. vec_len made.1 ≡ P.rows * SESSIONS) }
+    ensures hand_count { IfOk result (λ made. vec_len made.2 ≡ P.rows * SESSIONS) }
     ensures rows { IfOk result (λ made. AreRows made.0.items) }
     ensures buffers { IfOk result (λ made. AreBuffers P.rows made.1.items) }
     ensures hands { IfOk result (λ made. AreHandTies P.rows made.2.items) }
@@ -139,4 +141,25 @@ pub(crate) fn make_rows<'a, P: Program>(
         number += 1;
     }
     Ok((rows, buffers, hands))
+}
+
+/// Of the halves of all hands, by the buffers' numbers, those of this slot, by row. The others are let go. It takes no
+/// memory.
+pub fn slot_halves<'a, P: Program>(
+    hands: Vec<Right<P, Agreed<'a>>>,
+    slot: u32,
+) -> Vec<Right<P, Agreed<'a>>>
+    requires slot { slot < SESSIONS }
+    requires count { vec_len hands ≡ P.rows * SESSIONS }
+    requires hands { AreHandTies P.rows hands.items }
+    ensures count { vec_len result ≡ P.rows }
+    ensures halves { AreSlotTies P.rows slot result.items }
+{
+    let mut hands = hands;
+    let rows = hands.len() / SESSIONS;
+    for row in 0..rows {
+        hands.swap(row, row * SESSIONS + slot as usize);
+    }
+    hands.truncate(rows);
+    hands
 }

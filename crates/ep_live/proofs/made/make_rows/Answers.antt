@@ -7,6 +7,7 @@ use Rattle.ep_guarded.specs.declared.agreed.Agreed.TheVariants as agreed
 use Rattle.ep_row.specs.Row.{new_row}
 use Rattle.ep_guarded.specs.Tied.{TiedRowState}
 use Rattle.ep_live.specs.Made.{AreRows, IsRow}
+use Rattle.ep_live.proofs.Halves.{stand-is}
 use Rattle.ep_live.proofs.Pushing.{each-push}
 use Rattle.ep_live.proofs.made.make_rows.Goals as goal
 
@@ -22,7 +23,7 @@ new-requires-clause-stands g c =
     let gives = c.into_iter-stand-iterator.ensures.into_iter_gives in
     let turn = YieldsList-turn (YieldsList-from_vec {s = c.into_iter-stand-iterator.result} c.args.stands.items gives.0 (gives.1 ∙ c.args.stands.ok.0)) c.loop-stand.yielded c.loop-stand.stand-iterator c.loop-stand.yielded_by c.next.result c.next.new.self c.in-Some.stand c.in-Some.is c.next.ensures.steps in
     let at = slice_get_read c.args.stands.items _ (length c.loop-stand.yielded) c.in-Some.stand refl turn.0 turn.1 in
-    (c.requires.stands _ c.in-Some.stand at).stands
+    stand-is c.in-Some.stand.value _ (c.requires.stands _ c.in-Some.stand at).stands
     ∙ ap (λ (n : ℕ). Some (agreed.Stand (record { thread = n + 1; index = 0 }))) (sym c.loop-stand.invariant.number)
 
 pub loop-stand-preserved : goal.loop-stand-preserved

@@ -2,6 +2,7 @@ use Rattle.std.proofs.Common.{◌≡◌, ◌∙◌, ℕ, ◌+◌, List, [], ◌�
 use Rattle.ep_tie.specs.Tied.{Tied}
 use Rattle.ep_guarded.specs.declared.agreed.Agreed.{Agreed}
 use Rattle.ep_guarded.specs.declared.agreed.Agreed.TheVariants as agreed
+use Rattle.ep_guarded.specs.Tied.{stand_in}
 use Rattle.ep_live.specs.Made.{AreStands, IsStand}
 use Rattle.ep_live.proofs.Pushing.{each-push}
 use Rattle.ep_live.proofs.made.make_stands.Goals as goal
@@ -20,13 +21,13 @@ loop-number-preserved g c =
     let right : Tied Agreed = c.next-left.result.1 in
     let grown : c.push.new.self.items ≡ lefts ++ left ∷ [] = c.in_ok-push.ensures.items in
     let grown_right : c.push-in-loop-number.new.self.items ≡ rights ++ right ∷ [] = c.in_ok-push-2.ensures.items in
-    let left_is : IsStand (length lefts) left = subst (λ (k : ℕ). IsStand k left) (sym left_len) (record { place = next.place.0 ∙ inv.made; stands = next.value.0 ∙ stand }) in
-    let right_is : IsStand (length rights) right = subst (λ (k : ℕ). IsStand k right) (sym right_len) (record { place = next.place.1 ∙ inv.made; stands = next.value.1 ∙ stand }) in
+    let left_is : IsStand 0 (length lefts) left = subst (λ (k : ℕ). IsStand 0 k left) (sym left_len) (record { place = next.place.0 ∙ inv.made; stands = ap stand_in (next.value.0 ∙ stand) }) in
+    let right_is : IsStand 0 (length rights) right = subst (λ (k : ℕ). IsStand 0 k right) (sym right_len) (record { place = next.place.1 ∙ inv.made; stands = ap stand_in (next.value.1 ∙ stand) }) in
     record {
       made = next.made.0 ∙ ap (λ (m : ℕ). m + 1) inv.made;
       places = next.made.1 ∙ inv.places;
       lefts = search rules;
       rights = search rules;
-      rows = subst AreStands (sym grown) (each-push IsStand lefts left inv.rows left_is);
-      threads = subst AreStands (sym grown_right) (each-push IsStand rights right inv.threads right_is);
+      rows = subst (AreStands 0) (sym grown) (each-push (IsStand 0) lefts left inv.rows left_is);
+      threads = subst (AreStands 0) (sym grown_right) (each-push (IsStand 0) rights right inv.threads right_is);
     }

@@ -10,6 +10,6 @@ invariant-loop-number g l =
       places : l.maker.places ≡ l.initial.maker.places;
       lefts : vec_len l.lefts ≡ l.number;
       rights : vec_len l.rights ≡ l.number;
-      rows : AreStands l.lefts.items;
-      threads : AreStands l.rights.items;
+      rows : AreStands 0 l.lefts.items;
+      threads : AreStands 0 l.rights.items;
     }

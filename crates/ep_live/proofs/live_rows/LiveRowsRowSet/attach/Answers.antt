@@ -66,7 +66,7 @@ invariant_of-self-2 g c =
     rows-changed _ _ _ halves c.self.inside.seat c.open.new.seat c.self.inside.openings (c.self.inside.openings + 1) (c.args.row - 1) half c.open.new.half c.self.invariant at
     opened.place
     (λ grant is. same grant c.self.inside.grant.now (sym is ∙ opened.grant))
-    (omega (arith, now, none)) (ap (λ s. s.pool) opened.seat) (ap (λ s. s.total) opened.seat)
+    (omega (arith, now, none)) (ap (λ s. s.pool) opened.seat) (ap (λ s. s.total) opened.seat) (ap (λ s. s.seats) opened.seat)
     (omega (arith, was, now, share, some, c.self.invariant.share, c.self.invariant.count)) (ap (λ s. s.given) opened.seat) (omega (arith, was, now, taken)) (omega (arith, was, now, taken)) (omega (arith, c.self.invariant.few, c.if-self-eq-SESSION_THREADS.false))
   where
     same : (a b : Grant) → Some a ≡ Some b → a ≡ b

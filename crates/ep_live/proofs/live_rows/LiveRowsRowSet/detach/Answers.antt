@@ -51,7 +51,7 @@ invariant_of-self g c =
     rows-changed _ _ _ halves c.self.inside.seat c.close.new.seat c.self.inside.openings c.self.inside.openings (c.args.row - 1) half c.close.new.half c.self.invariant at
     c.close.ensures.place
     (λ grant is. absurd (no_grant grant (sym (ap grant_in c.close.ensures.half) ∙ is)))
-    (omega (arith, now)) (ap (λ s. s.pool) seat) (ap (λ s. s.total) seat)
+    (omega (arith, now)) (ap (λ s. s.pool) seat) (ap (λ s. s.total) seat) (ap (λ s. s.seats) seat)
     (omega (arith, was, now, share)) (ap (λ s. s.given) seat) (omega (arith, was, now, taken)) (omega (arith, was, now, taken, few)) c.self.invariant.few
   where
     no_grant : (grant : Grant) → None ≡ Some grant → ⊥
@@ -81,9 +81,11 @@ returns-clause-tested_marks g c config is =
     let hand_is = ap (λ h. hand_in h.value) (sym here) ∙ sym (said-own hand_in halves c.self.inside.slot c.args.row c.args.slot own) ∙ expected in
     let held = held-grant half.value c.args.hand hand_is in
     let configured = ap (λ (v : LiveRowsState). configured_in v c.args.row c.args.slot) c.self.view_is ∙ is in
-    let config_is = ap (λ h. config_in h.value) (sym here) ∙ sym (said-own config_in halves c.self.inside.slot c.args.row c.args.slot own) ∙ configured in
-    subst (λ (x : Config). AreCounted g.P.Program.events g.P.Program.writes x c.close.result.1) (same held.0.config config (sym (ap (λ (o : Option Grant). option_map (λ g. g.config) o) held.1) ∙ config_is))
-    (c.close.ensures.counted held.0 held.1)
+    let config_is = ap (λ h. config_in h.value) (sym here) ∙ sym (said-own config_in halves c.self.inside.slot c.args.row c.args.slot own) ∙ configured in (
+      subst (λ (x : Config). AreCounted g.P.Program.events g.P.Program.writes x c.close.result.1) (same held.0.config config (sym (ap (λ (o : Option Grant). option_map (λ g. g.config) o) held.1) ∙ config_is))
+          (c.close.ensures.counted held.0 held.1),
+      λ index here. c.close.ensures.to index (ap (λ (v : LiveRowsState). v.stands) c.self.view_is ∙ here),
+    )
   where
     same : (a b : Config) → Some a ≡ Some b → a ≡ b
     same a b e = cc

@@ -32,7 +32,7 @@ invariant_of-self g c =
     rows-changed _ _ _ halves c.self.inside.seat c.self.inside.seat c.self.inside.openings c.self.inside.openings (c.args.row - 1) half c.steal.new.half c.self.invariant at
     c.steal.ensures.place
     (λ grant is. (c.self.invariant.halves_are (c.args.row - 1) half at).granted grant (sym c.steal.ensures.grant ∙ is))
-    (omega (arith, now, few)) refl refl
+    (omega (arith, now, few)) refl refl refl
     (omega (arith, was, now)) refl (omega (arith, was, now, after)) (omega (arith, was, now)) c.self.invariant.few
 
 pub returns-clause-batch : goal.returns-clause-batch
