@@ -8,15 +8,16 @@ use Rattle.std.proofs.lemmas.Bool.{eqb-true, ne_eqb, ltb-true}
 use Rattle.ep_defs.specs.declared.event.EventDef.{EventDef}
 use Rattle.ep_defs.specs.declared.session.TraceInfo.{TraceInfo}
 use Rattle.ep_defs.specs.Entry.{Entry}
-use Rattle.nt_blocks.specs.Ordered.{kinds_of}
-use Rattle.nt_whole.specs.Reading.{IsReadAs}
+use Rattle.nt_blocks.specs.Ordered.{AreOrdered}
+use Rattle.nt_blocks.specs.Verdict.{Good, verdict}
 use Rattle.nt_write.specs.Canonical.{IsCanonical}
 use Rattle.ep_model.specs.declared.step.Step.{Step}
 use Rattle.ep_model.specs.declared.step.Step.TheVariants as step
 use Rattle.ep_model.specs.Entries.{entries}
-use Rattle.ep_model.specs.Faithful.{AreFaithful, shares_of}
+use Rattle.ep_model.specs.Faithful.{shares_of}
 use Rattle.ep_model.specs.History.{Past, is_finished}
 use Rattle.ep_model.specs.Marks.{marks_of}
+use Rattle.ep_faithful.specs.Faithful.{Faithful}
 use Rattle.ep_core.specs.declared.ended.Ended.{Ended}
 use Rattle.ep_core.specs.state.Works.{EndedFollows, EndedAt}
 use Rattle.ep_core.specs.Streams.{IsStreamOf}
@@ -69,22 +70,7 @@ ended_after events info past session stamp other left before after is stays same
 pub ended_at : (events : List EventDef) (info : TraceInfo) (session : ℕ) (past : Past) (found : Option Ended) (ended : Ended) → EndedAt events info session past found → found ≡ Some ended → EndedFollows events info session past ended
 ended_at events info session past found ended h is = let P : Option Ended → Type 0 = λ o. EndedAt events info session past o in subst P is h
 
--- The items of a canonical stream of faithful entries tell of each thread what the session admitted and did not refuse.
-pub stream_of : (events : List EventDef) (info : TraceInfo) (session : ℕ) (past : Past) (bytes : List ℕ) → AreFaithful (shares_of events session past) (entries events session past)
-    → (canonical : IsCanonical info (entries events session past) bytes) → IsReadAs info (entries events session past) canonical.items bytes → IsStreamOf events info session past bytes
-stream_of events info session past bytes faithful canonical reading =
-    record {
-      canonical = canonical;
-      found = reading.found;
-      ordered = reading.ordered;
-      faithful = record {
-        info = info;
-        others = kinds_of canonical.read.others;
-        entries = entries events session past;
-        one_trace = ap kinds_of canonical.read.hold;
-        no_other_trace = canonical.no_other_trace;
-        told = canonical.told;
-        plain = canonical.plain;
-        faithful = faithful;
-      };
-    }
+-- The stream of a session's entries, which are faithful, is found whole and tells of each thread what the session admitted and did not refuse.
+pub stream_of : (events : List EventDef) (info : TraceInfo) (session : ℕ) (past : Past) (bytes : List ℕ) → (canonical : IsCanonical info (entries events session past) bytes)
+    → verdict bytes ≡ Good canonical.items → AreOrdered canonical.items → Faithful (shares_of events session past) canonical.items → IsStreamOf events info session past bytes
+stream_of events info session past bytes canonical found ordered faithful = record { canonical = canonical; found = found; ordered = ordered; faithful = faithful }

@@ -1,4 +1,3 @@
-pub mod Faithful
 pub mod Machine
 pub mod Streams
 pub mod state

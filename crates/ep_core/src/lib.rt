@@ -2,8 +2,8 @@
 //!
 //! `work` makes a step in the tables of sessions, threads and rows, and `machine` asks first what stands against it and
 //! keeps what is left of finished sessions (`ended`). It stands on ep_made, for the steps, ep_judge, for what stands
-//! against them, and on the laws of ep_stands, ep_rests, ep_told and nt_whole. `specs/Machine` says what the machine has
-//! come to, `specs/Streams` and `specs/Faithful` what the stream of a finished session is.
+//! against them, and on the laws of ep_stands, ep_rests, ep_told and ep_faithful. `specs/Machine` says what the machine has
+//! come to, and `specs/Streams` what the stream of a finished session is.
 //!
 //! Its one contract: after every lawful list of steps the stream of a finished session is the canonical one of its
 //! entries, and faithful; a step that can't be made is refused with its first kind and changes nothing.

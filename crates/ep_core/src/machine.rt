@@ -14,11 +14,11 @@ ghost use Rattle.ep_core.specs.state.Works.{Works, CanGoOn, EndedFollow, Standin
 use crate::ended::Ended;
 use crate::work::Work;
 use ep_defs::{EventDef, Marks, TraceInfo};
+use ep_faithful::a_faithful_stream_is_found;
 use ep_judge::objection;
 use ep_model::laws::{finished_sessions_are_faithful, other_sessions_steps_do_not_matter};
 use ep_model::{Step, Unlawful};
 use ep_told::a_finished_session_stays;
-use nt_whole::a_canonical_stream_is_read_whole;
 use std::alloc::{AllocError, Global};
 use std::collections::BTreeMap;
 
@@ -162,7 +162,7 @@ impl Machine {
             → IfSome result (λ bytes. IsCanonical info (entries events session (only session past)) bytes.now) }
     {
         finished_sessions_are_faithful();
-        a_canonical_stream_is_read_whole();
+        a_faithful_stream_is_found();
         other_sessions_steps_do_not_matter();
         let ended = self.ended.get(&session)?;
         Some(ended.sink.taken())

@@ -1,0 +1,13 @@
+mod Accounts
+mod All
+mod Batches
+mod Calls
+mod Closing
+mod Ended
+mod Ends
+mod Keeping
+mod Numbered
+mod Part
+mod Points
+mod Shares
+mod Sweeps

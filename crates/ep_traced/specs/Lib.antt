@@ -1,0 +1,4 @@
+pub mod Streams
+pub mod Traced
+pub mod Tracing
+pub mod TwoThreads

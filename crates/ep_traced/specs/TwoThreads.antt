@@ -1,0 +1,40 @@
+-- A small run of two threads, of which it is computed what a session's stream tells.
+use Rattle.std.specs.Prelude.{ℕ, List, [], ◌∷◌, ◌==◌, if◌then◌else◌}
+use Rattle.ep_defs.specs.declared.session.Marks.{Marks}
+use Rattle.ep_defs.specs.declared.session.Write.{Write}
+use Rattle.ep_defs.specs.Samples.{write_e}
+use Rattle.ep_defs.specs.Entry.{Entry}
+use Rattle.ep_model.specs.Schedules.{told_by, point_at}
+
+-- Thread 1 writes an event before the session is opened on it, and then one that is finer than the session wants
+-- between others. Thread 2 writes once, and others nothing.
+abbrev pub two_threads : ℕ → List Write
+two_threads thread =
+    if thread == 1
+    then write_e 1 ∷ write_e 1 ∷ write_e 2 ∷ write_e 1 ∷ write_e 1 ∷ []
+    else (if thread == 2 then write_e 1 ∷ [] else [])
+
+-- The session gets three writes of thread 1 and refuses the second of them; it gets the one of thread 2.
+abbrev pub two_marks : List Marks
+two_marks =
+    record { thread = 1; from = 1; to = 5; taken = 2; refused = 1 }
+    ∷ record { thread = 2; from = 0; to = 1; taken = 1; refused = 0 }
+    ∷ []
+
+-- What its stream tells, with a point between and one at the end.
+abbrev pub two_told : List Entry
+two_told =
+    told_by 1 1 100 [] ∷ point_at 150 ((1, 1) ∷ (2, 0) ∷ []) ∷ told_by 1 3 160 [] ∷ told_by 2 1 155 []
+    ∷ point_at 200 ((1, 3) ∷ (2, 1) ∷ []) ∷ []
+
+-- The same without the last event of thread 1.
+abbrev pub two_lost : List Entry
+two_lost = told_by 1 1 100 [] ∷ point_at 150 ((1, 1) ∷ (2, 0) ∷ []) ∷ told_by 2 1 155 [] ∷ point_at 200 ((1, 3) ∷ (2, 1) ∷ []) ∷ []
+
+-- What a sink may have taken before a fault: the point between was told, and then nothing more of thread 1.
+abbrev pub two_begun : List Entry
+two_begun = told_by 1 1 100 [] ∷ point_at 150 ((1, 1) ∷ (2, 0) ∷ []) ∷ told_by 2 1 155 [] ∷ []
+
+-- Two events of thread 1 in the wrong order.
+abbrev pub two_swapped : List Entry
+two_swapped = told_by 1 3 100 [] ∷ told_by 1 2 160 [] ∷ []
