@@ -3,8 +3,8 @@ use Rattle.std.proofs.Common.{◌≡◌, ℕ, zero, suc, ◌+◌, ◌<◌, ◌�
 use Rattle.std.specs.Prelude.{◌==◌, if◌then◌else◌}
 use Rattle.std.specs.List.{range_with_len}
 use Rattle.std.proofs.lemmas.Bool.{cases_eq, eq-eqb, ne_eqb, eqb-true, eqb-false, or_left, or_right, or_cases, false_from_ne_true}
+use Rattle.ep_model.proofs.Ascending.{AreAbove, IsAscending}
 use Rattle.ep_model.proofs.Lists.{has}
-use Rattle.ep_told.proofs.Lists.{AreAbove, IsAscending}
 use Rattle.ep_stream.specs.Rows.{IsRow}
 use Rattle.ep_traced.specs.Tracing.{Account}
 

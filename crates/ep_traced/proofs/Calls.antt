@@ -12,6 +12,7 @@ use Rattle.ep_defs.specs.declared.session.Marks.{Marks}
 use Rattle.ep_defs.specs.declared.session.TraceInfo.{TraceInfo}
 use Rattle.ep_defs.specs.declared.session.Write.{Write}
 use Rattle.ep_defs.specs.Entry.{Entry}
+use Rattle.ep_model.proofs.Ascending.{IsAscending}
 use Rattle.ep_model.proofs.Lists.{has}
 use Rattle.ep_slot.specs.Hand.{HandState}
 use Rattle.ep_guarded.specs.Tied.{AreCounted}
@@ -27,7 +28,6 @@ use Rattle.ep_stream.specs.Session.{Rest, Started, Attached, Detached, Writes, S
 use Rattle.ep_stream.specs.Steps.{ToldRows, TellsStep, Closes}
 use Rattle.ep_stream.specs.Sweep.{Swept, TellsTakings, entries_in, hands_after, named_after, named_behind, point_after, records_in, rows_of, sweep_entries}
 use Rattle.ep_stream.specs.Telling.{IsFaulty, IsFront, IsTelling, entries_of}
-use Rattle.ep_told.proofs.Lists.{IsAscending}
 use Rattle.ep_traced.specs.Tracing.{Account, IsAdmittedAs, IsHandBy, IsHeld, IsTracing, TellsAll, TellsPart, Traces, marks_by}
 use Rattle.ep_traced.proofs.Accounts.{has-row, next-fresh, row-before, with_opened}
 use Rattle.ep_traced.proofs.All.{all-fresh}

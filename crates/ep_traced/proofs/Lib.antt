@@ -5,6 +5,7 @@ mod Calls
 mod Closing
 mod Ended
 mod Ends
+mod Framed
 mod Keeping
 mod Numbered
 mod Part

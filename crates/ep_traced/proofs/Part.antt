@@ -1,10 +1,10 @@
 -- What was told of each thread is of its writes, in their order, whatever was left out after a fault.
-use Rattle.std.proofs.Common.{◌≡◌, ℕ, ◌+◌, true, false, inl, inr, List, [], ◌∷◌, ◌++◌, map, filter, refl, ap, sym, ◌∙◌, arith}
+use Rattle.std.proofs.Common.{◌≡◌, ℕ, ◌+◌, ◌≤◌, true, false, inl, inr, List, [], ◌∷◌, ◌++◌, length, map, filter, refl, ap, sym, ◌∙◌, arith}
 use Rattle.std.specs.Prelude.{◌==◌}
 use Rattle.std.specs.List.{list_all, range_with_len, AllByRecursion}
 use Rattle.std.proofs.lemmas.Bool.{cases_eq, eq-eqb, ne_eqb, and_parts, and_from, true≢false}
 use Rattle.std.proofs.lemmas.Grind.{flat_map-append}
-use Rattle.std.proofs.lemmas.List.{append-nil}
+use Rattle.std.proofs.lemmas.List.{append-nil, length-append, length-map}
 use Rattle.ep_defs.specs.declared.event.EventDef.{EventDef}
 use Rattle.ep_defs.specs.declared.session.Config.{Config}
 use Rattle.ep_defs.specs.declared.session.Write.{Write}
@@ -85,7 +85,7 @@ own-alone threads thread (event ∷ told) is own = (ap (λ t. has t threads) own
 -- Nothing was told of no thread.
 pub part-none : (events : List EventDef) (config : Config) (writes : ℕ → List Write) (accounts : ℕ → Account) → TellsPart events config writes 0 accounts []
 part-none events config writes accounts =
-    record { rising = λ thread row. absurd (omega (arith, row.0, row.1)); in_place = λ thread row. tt; alone = tt }
+    record { rising = λ thread row. absurd (omega (arith, row.0, row.1)); in_place = λ thread row. tt; few = λ thread row. omega arith; alone = tt }
 
 -- A batch of a thread's events more.
 pub part-taken : (events : List EventDef) (config : Config) (writes : ℕ → List Write) (opened : ℕ) (accounts : ℕ → Account) (told : List Entry) (thread count last : ℕ) (more : List EventEntry)
@@ -114,6 +114,17 @@ part-taken events config writes opened accounts told thread count last more row 
                 let apart = ne_eqb thread t (λ e. other (sym e)) in
                 rw (events_of-other t thread more apart batch.own, append-nil (events_of t told)) (part.in_place t is)
           ]);
+      few = λ t is.
+          rw (events-append t told (map Event more))
+          (elim (cases_eq t thread) [
+            | inl same ↦
+                let both = length-append (events_of thread told) (map contents_of more) in
+                rw (eq-eqb t thread same, same, events_of-own thread more batch.own)
+                (omega (arith, both, length-map more contents_of, batch.counted, part.few thread row))
+            | inr other ↦
+                let apart = ne_eqb thread t (λ e. other (sym e)) in
+                rw (ne_eqb t thread other, events_of-other t thread more apart batch.own, append-nil (events_of t told)) (part.few t is)
+          ]);
       alone = each-append _ told (map Event more) part.alone (own-alone (range_with_len 1 opened) thread more (row-has opened thread row) batch.own);
     }
 
@@ -124,6 +135,7 @@ part-pointed events config writes opened accounts told point speaks part =
     record {
       rising = λ t is. rw (events-append t told (Point point ∷ []), append-nil (events_of t told)) (part.rising t is);
       in_place = λ t is. rw (events-append t told (Point point ∷ []), append-nil (events_of t told)) (part.in_place t is);
+      few = λ t is. rw (events-append t told (Point point ∷ []), append-nil (events_of t told)) (part.few t is);
       alone = each-append _ told (Point point ∷ []) part.alone (speaks, tt);
     }
 
@@ -133,6 +145,9 @@ part-front events config writes opened accounts told more part =
     record {
       rising = λ t is. rising-front 0 (accounts t).last (events_of t told) (events_of t more) (rw (events-append t told more) at (part.rising t is));
       in_place = λ t is. each-front _ (events_of t told) (events_of t more) (rw (events-append t told more) at (part.in_place t is));
+      few = λ t is.
+          let all : length (events_of t told ++ events_of t more) ≤ (accounts t).taken = rw (events-append t told more) at (part.few t is) in
+          omega (arith, all, length-append (events_of t told) (events_of t more));
       alone = each-front _ told more part.alone;
     }
 
@@ -151,6 +166,11 @@ part-opened events config writes opened from accounts told part =
           elim (cases_eq t (opened + 1)) [
             | inl same ↦ rw (same, nothing) tt
             | inr other ↦ rw (ne_eqb t (opened + 1) other) (part.in_place t (row-before opened t is (ne_eqb t (opened + 1) other)))
+          ];
+      few = λ t is.
+          elim (cases_eq t (opened + 1)) [
+            | inl same ↦ rw (eq-eqb t (opened + 1) same, same, nothing) (omega arith)
+            | inr other ↦ rw (ne_eqb t (opened + 1) other) (part.few t (row-before opened t is (ne_eqb t (opened + 1) other)))
           ];
       alone = each-more _ _ told (speaks-more opened) part.alone;
     }

@@ -103,7 +103,7 @@ pointed events config writes opened Sound hands named marks told stamp h =
         within = h.keeps.within;
         counted = h.keeps.counted;
       };
-      part = record { rising = part.rising; in_place = part.in_place; alone = part.alone };
+      part = record { rising = part.rising; in_place = part.in_place; few = part.few; alone = part.alone };
       all = λ sound thread row few. all-behind accounts opened stamp thread told row few (h.keeps.open_named thread) (h.all sound thread row few);
     } in
     subst Is (sym numbers) (behind, λ t. refl)

@@ -12,10 +12,10 @@ use Rattle.ep_defs.specs.declared.session.Write.{Write}
 use Rattle.ep_defs.specs.Entry.{EventEntry, Entry, Event}
 use Rattle.ep_chunk.specs.Record.{Record}
 use Rattle.ep_model.specs.Faithful.{Contents}
+use Rattle.ep_model.proofs.Ascending.{AreAbove, IsAscending}
 use Rattle.ep_model.proofs.Tally.{events_of-other, sightings-other}
 use Rattle.ep_slot.specs.Hand.{HandState}
 use Rattle.ep_guarded.specs.Tied.{AreCounted}
-use Rattle.ep_told.proofs.Lists.{AreAbove, IsAscending}
 use Rattle.ep_stream.specs.declared.opened.Named.{Named}
 use Rattle.ep_stream.specs.Named.{with_number, with_marks}
 use Rattle.ep_stream.specs.Rows.{IsRow, IsMarked, hand_after}
@@ -114,7 +114,7 @@ closed-traces events config writes opened Sound hands new named marks told row l
     record {
       accounts = now;
       keeps = keeps-closed events config writes opened (length records) last row accounts hands new named marks hand mark by marked.thread marked.from marked.taken marked.refused counted sets h.keeps;
-      part = (let part = part-taken events config writes opened accounts told row (length records) last batch.told by.row_is h.part batch.are in record { rising = part.rising; in_place = part.in_place; alone = part.alone });
+      part = (let part = part-taken events config writes opened accounts told row (length records) last batch.told by.row_is h.part batch.are in record { rising = part.rising; in_place = part.in_place; few = part.few; alone = part.alone });
       all = λ sound.
           all-batch opened row (length records) last accounts now told _ batch.told batch.are up (rw here refl) (rw here refl) (h.keeps.open_named row by.is_open) (λ x off. rw off refl) (h.all sound);
     })

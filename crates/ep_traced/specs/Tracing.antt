@@ -86,10 +86,12 @@ abbrev pub speaks_of : List ℕ → Entry → Bool
 speaks_of threads (Event event) = list_any (λ t. t == event.thread) threads
 speaks_of threads (Point point) = list_all (λ (named : ℕ × ℕ). list_any (λ t. t == named.0) threads) point.threads
 
--- What was told is of the writes that the session gets, in their order, and of no other thread.
+-- What was told is of the writes that the session gets, in their order, no more of each thread than was taken, and of
+-- no other thread.
 pub record TellsPart (events : List EventDef) (config : Config) (writes : ℕ → List Write) (opened : ℕ) (accounts : ℕ → Account) (told : List Entry) : Type 0 where
   pub rising : (thread : ℕ) → IsRow opened thread → AreRising 0 (accounts thread).last (events_of thread told)
   pub in_place : (thread : ℕ) → IsRow opened thread → AreInPlace (contents_from events config (accounts thread).from (writes thread)) (events_of thread told)
+  pub few : (thread : ℕ) → IsRow opened thread → length (events_of thread told) ≤ (accounts thread).taken
   pub alone : AllByRecursion (λ entry. speaks_of (range_with_len 1 opened) entry ≡ true) told
 
 -- All that was taken of a thread was told: what the entries see of it, and how many numbers they miss up to there.

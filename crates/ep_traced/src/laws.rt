@@ -1,5 +1,6 @@
 //! Laws: what holds of the definitions alone.
-ghost use Rattle.std.specs.Prelude.{◌≡◌, ℕ, ◌+◌, ◌≤◌, true, false, List, [], ◌++◌, length, Option, None, Result};
+ghost use Rattle.std.specs.Prelude.{◌≡◌, ℕ, ◌+◌, ◌<◌, ◌≤◌, true, false, List, [], ◌++◌, length, Option, None, Result};
+ghost use Rattle.std.specs.List.{sum_by};
 ghost use Rattle.ep_defs.specs.declared.limits.TheConstants.{WRITES};
 ghost use Rattle.ep_defs.specs.declared.event.EventDef.{EventDef};
 ghost use Rattle.ep_defs.specs.declared.session.Config.{Config};
@@ -8,9 +9,11 @@ ghost use Rattle.ep_defs.specs.declared.session.TraceInfo.{TraceInfo};
 ghost use Rattle.ep_defs.specs.declared.session.Write.{Write};
 ghost use Rattle.ep_defs.specs.Entry.{Entry};
 ghost use Rattle.nt_write.specs.declared.fault.Fault.{Fault};
+ghost use Rattle.nt_write.specs.declared.limits.TheConstants.{FRAMED_EVENTS};
 ghost use Rattle.nt_write.specs.Canonical.{IsCanonical};
 ghost use Rattle.ep_guarded.specs.Tied.{AreCounted};
 ghost use Rattle.ep_stream.specs.declared.session.Fate.{Fate};
+ghost use Rattle.ep_stream.specs.declared.session.Fate.TheVariants.{TooLong};
 ghost use Rattle.ep_stream.specs.declared.session.Seat.{Seat};
 ghost use Rattle.ep_stream.specs.declared.session.Session.{Session};
 ghost use Rattle.ep_stream.specs.Session.{writer_of, hand_on, rest_of, new_rest, WasOpened, SameHands, Started, Attached, Detached, Writes, Ended};
@@ -98,7 +101,7 @@ pub fn a_closed_row_is_traced<S: Sink>()
 /// A session that was closed on each of its rows and ended, of threads that make no more writes than they can: its
 /// marks are those of the rows' threads (`marks`). Where its fate is no fault its sink took the stream of all that
 /// the threads wrote and it got, less what was refused (`whole`); and else what begins the stream of a part of that
-/// (`part`).
+/// (`part`). Where it ran out of stack ids, more events were taken of the threads than there are ids (`too_long`).
 pub fn a_session_that_ends_has_traced<S: Sink>()
     ensures marks { (events : List EventDef) (writes : ℕ → List Write) (before : List ℕ) (info : TraceInfo)
         (config : Config) (opened : ℕ) (told : List Entry) (session : Session S)
@@ -121,6 +124,14 @@ pub fn a_session_that_ends_has_traced<S: Sink>()
         → Ended S.tells_taken S.taken S.write_faults stamp handed session fate sink
         → is_fault handed ≡ false → is_fault fate ≡ true
         → TookTracedPart S.tells_taken S.taken before info events config writes (rest_of session).marks sink }
+    ensures too_long { (events : List EventDef) (writes : ℕ → List Write) (before : List ℕ) (info : TraceInfo)
+        (config : Config) (opened : ℕ) (told : List Entry) (session : Session S)
+        (stamp : ℕ) (handed fate : Fate) (sink : S)
+        → IsTracing S.tells_taken S.taken before info events config writes opened told session
+        → ((row : ℕ) → hand_on session row ≡ None)
+        → Ended S.tells_taken S.taken S.write_faults stamp handed session fate sink
+        → (handed ≡ TooLong → ⊥) → fate ≡ TooLong
+        → FRAMED_EVENTS < sum_by (λ mark. mark.taken) (rest_of session).marks }
 {}
 
 /// The stream of entries that trace the threads is found whole, and its items tell of each thread what it wrote and

@@ -1,4 +1,4 @@
-use Rattle.ep_traced.proofs.Ended.{ended-marks, ended-part, ended-whole}
+use Rattle.ep_traced.proofs.Ended.{ended-marks, ended-part, ended-spent, ended-whole}
 use Rattle.ep_traced.proofs.laws.a_session_that_ends_has_traced.Goals as goal
 
 pub returns-clause-marks : goal.returns-clause-marks
@@ -9,3 +9,6 @@ returns-clause-whole g c = ended-whole g.S.Sink.tells_taken g.S.Sink.taken g.S.S
 
 pub returns-clause-part : goal.returns-clause-part
 returns-clause-part g c = ended-part g.S.Sink.tells_taken g.S.Sink.taken g.S.Sink.write_faults
+
+pub returns-clause-too_long : goal.returns-clause-too_long
+returns-clause-too_long g c = ended-spent g.S.Sink.tells_taken g.S.Sink.taken g.S.Sink.write_faults
