@@ -409,6 +409,7 @@ impl<S: Sink> Session<S> {
         ensures config { result.config ≡ (rest_of self).config }
         ensures marks { result.marks ≡ (rest_of self).marks }
         ensures ended { Ended S.tells_taken S.taken S.write_faults stamp fate self result.fate result.sink }
+        ensures later { S.write_faults (sink_of self) ≤ S.write_faults result.sink }
     {
         let mut session = self;
         let _ = session.point(alloc, stamp);

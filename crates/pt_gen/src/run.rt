@@ -11,6 +11,7 @@ use ep_core::{Machine, StepFault};
 use ep_defs::standard_info;
 use ep_gen::Gen;
 use ep_gen::laws::a_schedule_can_be_made;
+use pt_load::laws::sample_events_are_valid;
 use pt_load::sample_events;
 use std::alloc::{AllocError, Global};
 
@@ -20,6 +21,7 @@ pub(crate) fn run(alloc: Global, asked: Asked) -> Result<Machine, AllocError>
     ensures { IfOk result (Follows sample (standard_info_of 1 1) (reverse (generated asked.seed asked.writes))) }
 {
     a_schedule_can_be_made();
+    sample_events_are_valid();
     let mut machine = Machine::new(alloc, sample_events(alloc)?, standard_info(1, 1))?;
     let mut steps = Gen::new(asked.seed, asked.writes);
     while let Some(step) = steps.next(alloc)? {

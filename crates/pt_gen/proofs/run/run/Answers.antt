@@ -6,7 +6,6 @@ use Rattle.ep_model.specs.declared.step.Step.{Step}
 use Rattle.ep_core.specs.Machine.{Follows}
 use Rattle.ep_gen.specs.Schedule.{generated}
 use Rattle.pt_load.specs.Sample.{sample}
-use Rattle.pt_gen.proofs.Events.{sample_is_short, sample_is_valid, sample_is_distinct}
 use Rattle.pt_gen.proofs.Steps.{one_more, all_made, made_so_far, given_some, given_none}
 use Rattle.pt_gen.proofs.run.run.Goals as goal
 
@@ -14,13 +13,13 @@ unlike : (kind : Kind) → None ≡ Some kind → ⊥
 unlike kind is = cc
 
 pub new-requires-clause-few : goal.new-requires-clause-few
-new-requires-clause-few c = rw c.in_ok-sample_events.ensures sample_is_short
+new-requires-clause-few c = rw c.in_ok-sample_events.ensures c.sample_events_are_valid.ensures.few
 
 pub new-requires-clause-valid : goal.new-requires-clause-valid
-new-requires-clause-valid c = rw c.in_ok-sample_events.ensures sample_is_valid
+new-requires-clause-valid c = rw c.in_ok-sample_events.ensures c.sample_events_are_valid.ensures.valid
 
 pub new-requires-clause-distinct : goal.new-requires-clause-distinct
-new-requires-clause-distinct c = rw c.in_ok-sample_events.ensures sample_is_distinct
+new-requires-clause-distinct c = rw c.in_ok-sample_events.ensures c.sample_events_are_valid.ensures.distinct
 
 pub loop-machine-init : goal.loop-machine-init
 loop-machine-init c =

@@ -1,0 +1,7 @@
+pub mod Load
+pub mod Lists
+pub mod Hands
+pub mod Steps
+pub mod Ending
+pub mod Fresh
+pub mod Answering

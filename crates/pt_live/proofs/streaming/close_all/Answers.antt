@@ -1,0 +1,52 @@
+use Rattle.std.proofs.Common.{◌≡◌, ◌∙◌, ◌≢◌, ℕ, ◌+◌, ◌<◌, ◌≤◌, List, None, Some, length, refl, sym, ap, subst, arith, rules}
+use Rattle.std.specs.List.{AllByRecursion}
+use Rattle.ep_defs.specs.declared.event.EventDef.{EventDef}
+use Rattle.ep_slot.specs.Hand.{HandState}
+use Rattle.ep_stream.specs.declared.session.Session.{Session}
+use Rattle.ep_stream.specs.Session.{Attached, SameHands, Rest, hand_on, opened_count, rest_of, writer_of, WasOpened}
+use Rattle.ep_live.specs.RowSet.{LiveRowsState, tests_hand_in}
+use Rattle.pt_live.specs.Trace.{IsWhole}
+use Rattle.pt_live.specs.state.Open.{Goes, IsOpen}
+use Rattle.pt_live.proofs.Steps.{detached-weaker, goes-by, goes-more, goes-on, marks-more, open-closed}
+use Rattle.pt_live.proofs.streaming.close_all.Goals as goal
+
+pub loop-place-preserved : goal.loop-place-preserved
+loop-place-preserved g c =
+    let old = c.loop-place.session in
+    let mid = c.detach.new.self in
+    let new = c.give.new.self in
+    let place = c.loop-place.place in
+    let inv = c.loop-place.invariant in
+    let d = c.detach.ensures.detached in
+    let tells = g.S.Sink.tells_taken in
+    let taken = g.S.Sink.taken in
+    let faults = g.S.Sink.write_faults in
+    let events = g.P.Program.events in
+    let writes = g.P.Program.writes in
+    let opened = c.args.opened in
+    record {
+      stands = c.same_tests_have_the_same_stands.ensures c.detach.new.rows c.give.new.rows c.give.ensures.set.hands
+          ∙ c.same_tests_have_the_same_stands.ensures c.loop-place.rows c.detach.new.rows c.detach.ensures.set.hands ∙ inv.stands;
+      is_open =
+          open-closed g.P.Program.rows place opened _ _ c.loop-place.rows c.detach.new.rows c.give.new.rows old mid new inv.is_open (omega (arith, c.loop-place-test.true))
+          d.hands c.give.ensures.hands c.give.ensures.rows c.detach.ensures.set.count_is c.give.ensures.set.count_is
+          (ap (λ (r : Rest). r.seat.slot) d.rest) (ap (λ (r : Rest). r.seat.slot) c.give.ensures.rest) (ap (λ (r : Rest). r.in_hand) c.give.ensures.rest)
+          refl c.detach.ensures.slots refl c.give.ensures.slots;
+      marks = λ to is all.
+          subst (AllByRecursion (IsWhole to)) (sym (ap (λ (r : Rest). r.marks) c.give.ensures.rest ∙ ap (λ (r : Rest). r.marks) d.rest))
+          (marks-more (IsWhole to) d.marks (rest_of old).marks
+          (record { from = d.marked.from ∙ inv.is_open.hands.from (place + 1) d.hand d.was; to_is = d.tested_marks.1 to (inv.stands ∙ is) })
+          (inv.marks to is all));
+      goes =
+          goes-on tells taken faults events writes opened opened opened c.args.session.now old new inv.goes
+          (goes-on tells taken faults events writes opened opened opened old mid new
+          (goes-more tells taken faults events writes opened old mid c.detach.result
+          (λ before info config told t. c.a_closed_row_is_traced.ensures events c.args.events.now writes before info config opened told (place + 1) None None old mid c.detach.result
+          (c.requires.events ∙ sym c.requires.run) t
+          (detached-weaker _ _ _ _ _ c.args.events.now (place + 1) old mid (λ marks passed. passed.0) d)
+          c.detach.ensures.faulty)
+          c.detach.ensures.faulty)
+          (goes-by tells taken faults events writes opened opened mid new
+          (λ before info config told t. c.a_call_that_takes_nothing_changes_no_trace.ensures events writes before info config opened told mid new 0 t c.give.ensures.hands c.give.ensures.rest c.give.ensures.writer)
+          c.give.ensures.writer));
+    }

@@ -1,0 +1,7 @@
+use Rattle.std.proofs.Common.{◌≡◌, ◌≤◌, length, refl, sym, ap, subst}
+use Rattle.ep_defs.specs.declared.event.EventDef.{EventDef}
+use Rattle.ep_defs.specs.declared.limits.TheConstants.{EVENTS}
+use Rattle.pt_live.proofs.trace.run_named.Goals as goal
+
+pub new-requires-clause-few : goal.new-requires-clause-few
+new-requires-clause-few g c = rw (c.requires.events, c.requires.run.events_are) c.sample_events_are_valid.ensures.few

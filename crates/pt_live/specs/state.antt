@@ -1,0 +1,4 @@
+pub mod Writers
+pub mod Open
+pub mod Ended
+pub mod Kit

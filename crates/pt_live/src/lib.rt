@@ -1,0 +1,22 @@
+//! The running threads of the sample program, and what is streamed of them.
+//!
+//! Each thread of a run writes in a thread of its own where one can be made, while the calling thread streams: it opens
+//! its session on all rows, takes from them again and again until the threads have ended, and closes it. It stands on
+//! pt_load, for what the threads write, on ep_live, for the rows behind locks, on ep_stream, for the stream, on ep_traced,
+//! for what the stream has told, and on pt_io, for the output, the clock and the gate. What it answers is defined in
+//! `specs/Trace`.
+//!
+//! Its one contract: the clauses of `run_trace`.
+#![tactic(auto)]
+
+mod lent;
+mod run;
+mod session;
+mod streaming;
+#[cfg(test)]
+mod tests;
+mod threads;
+mod trace;
+mod writers;
+
+pub use trace::{TraceEnd, run_trace};

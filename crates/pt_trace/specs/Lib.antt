@@ -1,0 +1,3 @@
+-- to be believed
+pub mod Words
+pub mod Traced
