@@ -1,10 +1,9 @@
 -- Rows with their halves where a session is opened or closed.
-use Rattle.std.proofs.Common.{◌≡◌, ℕ, zero, suc, ◌+◌, ◌*◌, ◌<◌, ◌≤◌, Bool, false, List, [], ◌∷◌, length, take, Option, None, Some, refl, ap, sym, ◌∙◌, subst, arith, inl, inr, get_or}
+use Rattle.std.proofs.Common.{◌≡◌, ℕ, zero, suc, ◌+◌, ◌*◌, ◌<◌, ◌≤◌, Bool, false, List, [], ◌∷◌, length, take, Option, None, Some, refl, ap, sym, ◌∙◌, subst, arith, get_or}
 use Rattle.std.specs.Prelude.{if◌then◌else◌, option_map, slice_get, slice_set, replicate}
-use Rattle.std.specs.Int.{bit_at}
 use Rattle.std.proofs.Math.ListN.{length-set}
-use Rattle.std.proofs.lemmas.Bool.{true≢false, cases_eq, eq-eqb, ne_eqb}
-use Rattle.std.proofs.lemmas.Nat.Bits.{bit_at-lt}
+use Rattle.std.proofs.lemmas.Bool.{true≢false, eq-eqb, ne_eqb}
+use Rattle.std.proofs.lemmas.Option.{none-some}
 use Rattle.std.proofs.lemmas.List.{get_or-set_other, length-replicate, length-take}
 use Rattle.ep_defs.specs.declared.event.EventDef.{EventDef}
 use Rattle.ep_defs.specs.declared.session.Config.{Config}
@@ -16,6 +15,7 @@ use Rattle.ep_slot.specs.Hand.{HandState, hand_of}
 use Rattle.ep_row.specs.declared.row.Opening.{Opening}
 use Rattle.ep_row.specs.Row.{RowState, slot_of, new_row}
 use Rattle.ep_row.specs.AtRest.{RowAtRest, KeepsRestOpened, RestsAnew, with_config}
+use Rattle.ep_row.proofs.Masks.{bit_zero}
 use Rattle.ep_tie.specs.Tied.{Tied}
 use Rattle.ep_guarded.specs.declared.agreed.Told.{Told}
 use Rattle.ep_guarded.specs.declared.agreed.Agreed.{Agreed}
@@ -123,29 +123,18 @@ row-closed rows events writes old new buffers writer half now slot rests at plac
           (λ s half at ne. told-kept old new (rests.configs s) s half.value (ap (λ (os : List (Option Opening)). get_or os s None) closes.slots ∙ get_or-set_other old.slots slot s None None ne) thread (rests.told s half at))
           (record {
             slot_is = ap (λ (os : List (Option Opening)). get_or os slot None) closes.slots ∙ none-set old.slots slot ∙ ap (λ (t : Option Told). option_map (λ t. t.opening) t) (sym inside);
-            thread = λ t is. absurd (none_some t (sym inside ∙ is));
-            config_is = λ t is. absurd (none_some t (sym inside ∙ is));
+            thread = λ t is. absurd (none-some t (sym inside ∙ is));
+            config_is = λ t is. absurd (none-some t (sym inside ∙ is));
           });
       stands = rests.stands ∙ ap (λ (r : RowState). Some (agreed.Stand (record { thread = r.thread; index = r.index }))) (sym is);
       thread_is = thread ∙ rests.thread_is;
     }
-  where
-    none_some : (t : Told) → None ≡ Some t → ⊥
-    none_some t e = cc
-
--- No slot is due outside a write.
-quiet-bit : (due s : ℕ) → (bit_at due s ≡ 1 → ⊥) → bit_at due s ≡ 0
-quiet-bit due s none =
-    elim (cases_eq (bit_at due s) 1) [
-      | inl one ↦ absurd (none one)
-      | inr other ↦ let small = bit_at-lt due s in omega arith
-    ]
 
 pub are-counted : (events : List EventDef) (configs : ℕ → Config) (writes : ℕ → List Write) (row : RowState) (slot : ℕ) (opening : Opening) (config : Config) (hand : HandState) (records : List Record) (last : ℕ) (marks : Marks) → RowOver events configs (writes row.thread) row → slot < 64 → row.in_write ≡ false → slot_of row slot ≡ Some opening → configs slot ≡ config → hand.thread ≡ row.thread → hand.from ≡ opening.from → last ≡ opening.shown → AreMarks hand records last row.index marks → AreCounted events writes config marks
 are-counted events configs writes row slot opening config hand records last marks over within quiet is config_is thread from shown are =
     let rest = over.rest in
     let open' = rest.slots slot within opening is in
-    let none = quiet-bit row.due slot (λ one. true≢false (sym (rest.due slot within one).0 ∙ quiet)) in
+    let none = bit_zero row.due slot (λ one. true≢false (sym (rest.due slot within one).0 ∙ quiet)) in
     let whole = length-take row.index (writes row.thread) in
     let threads : marks.thread ≡ row.thread = are.thread ∙ thread in
     let from_is : marks.from ≡ opening.from = are.from ∙ from in
@@ -196,8 +185,8 @@ row-new rows events writes number count row buffers writer is rests many place f
           λ s half at.
           record {
             slot_is = off s ∙ ap (λ (t : Option Told). option_map (λ t. t.opening) t) (sym (tells s half at));
-            thread = λ t told. absurd (none_some t (sym (tells s half at) ∙ told));
-            config_is = λ t told. absurd (none_some t (sym (tells s half at) ∙ told));
+            thread = λ t told. absurd (none-some t (sym (tells s half at) ∙ told));
+            config_is = λ t told. absurd (none-some t (sym (tells s half at) ∙ told));
           };
       stands =
           stands
@@ -205,6 +194,3 @@ row-new rows events writes number count row buffers writer is rests many place f
           ∙ ap (λ (i : ℕ). Some (agreed.Stand (record { thread = row.thread; index = i }))) (sym index);
       thread_is = thread ∙ ap (λ (p : ℕ). p + 1) (sym place);
     }
-  where
-    none_some : (t : Told) → None ≡ Some t → ⊥
-    none_some t e = cc

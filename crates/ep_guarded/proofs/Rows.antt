@@ -1,27 +1,24 @@
 -- Rows at rest over all writes of their threads.
-use Rattle.std.proofs.Common.{◌≡◌, ℕ, ◌-◌, ◌<◌, ◌≤◌, Bool, List, length, take, drop, Some, refl, ap, sym, ◌∙◌, subst, arith, get_or, length-drop}
-use Rattle.std.specs.Prelude.{filter, not, slice_get}
+use Rattle.std.proofs.Common.{◌≡◌, ℕ, ◌-◌, ◌<◌, ◌≤◌, List, length, take, drop, Some, refl, ap, sym, ◌∙◌, subst, arith, get_or, length-drop}
+use Rattle.std.specs.Prelude.{slice_get}
 use Rattle.std.specs.Int.{bit_at}
 use Rattle.std.proofs.lemmas.List.{take-append-drop, get_or-take, length-take}
 use Rattle.std.proofs.lemmas.Option.{slice_get_within, slice_get_read, get_or_from_slice_get}
-use Rattle.std.proofs.lemmas.List.Filters.{length-filter_both}
 use Rattle.ep_defs.specs.declared.event.EventDef.{EventDef}
 use Rattle.ep_defs.specs.declared.session.Config.{Config}
 use Rattle.ep_defs.specs.declared.session.Write.{Write}
 use Rattle.ep_model.specs.History.{admits_write, admitted_from}
+use Rattle.ep_model.proofs.Admitted.{filter-shorter}
 use Rattle.ep_slot.specs.Slot.{SlotState}
 use Rattle.ep_row.specs.declared.row.Opening.{Opening}
 use Rattle.ep_row.specs.Row.{RowState, slot_of}
 use Rattle.ep_row.specs.AtRest.{SlotAtRest, KeepsSlotRest}
 use Rattle.ep_guarded.specs.Resting.{RowOver}
 
-filter-few : {A : Type 0} (p : A → Bool) (xs : List A) → length (filter p xs) ≤ length xs
-filter-few p xs = let both = length-filter_both p (λ x. not (p x)) (λ x. refl) xs in omega arith
-
 -- No more writes are admitted than there are.
 pub admitted-few : (events : List EventDef) (config : Config) (from : ℕ) (writes : List Write) → length (admitted_from events (Some config) from writes) ≤ length writes
 admitted-few events config from writes =
-    let less = filter-few (λ write. admits_write events (Some config) write) (drop from writes) in
+    let less = filter-shorter (λ write. admits_write events (Some config) write) (drop from writes) in
     omega (arith, length-drop from writes)
 
 -- A slot that is due has a number left.

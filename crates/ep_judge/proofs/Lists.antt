@@ -2,7 +2,7 @@
 use Rattle.std.proofs.Common.{◌≡◌, ℕ, zero, suc, ◌+◌, ◌<◌, ◌≤◌, Bool, true, false, List, [], ◌∷◌, map, length, refl, ap, sym, ◌∙◌, subst, arith, if◌then◌else◌}
 use Rattle.std.specs.Prelude.{◌&&◌, ◌||◌, ◌++◌, not, filter, ◌==◌}
 use Rattle.std.specs.List.{range_with_len}
-use Rattle.std.proofs.lemmas.Bool.{eqb-true, eqb-false, eq-eqb, ne_eqb, and_right, or_from, or_left, or_right, false≢true, not_from_false}
+use Rattle.std.proofs.lemmas.Bool.{eqb-true, eq-eqb, ne_eqb, and_right, or_from, or_left, or_right, false≢true, not_from_false}
 use Rattle.std.proofs.Math.Bool.{or_assoc}
 use Rattle.ep_model.proofs.Lists.{has}
 
@@ -108,14 +108,6 @@ has-range n a (suc count) less = or_from (a == n) _ (ne_eqb a n (λ same. omega 
 pub range-distinct : (a count : ℕ) → IsDistinct (range_with_len a count)
 range-distinct a zero = tt
 range-distinct a (suc count) = (has-range a (a + 1) count (omega arith), range-distinct (a + 1) count)
-
-pub has-within : (n a count : ℕ) → a ≤ n → n < a + count → has n (range_with_len a count) ≡ true
-has-within n a zero low high = absurd (omega arith)
-has-within n a (suc count) low high =
-    elim (a == n) as (λ v. (a == n) ≡ v → (v || has n (range_with_len (a + 1) count)) ≡ true) [
-      | true ↦ λ _. refl
-      | false ↦ λ other. let apart = eqb-false a n other in has-within n (a + 1) count (omega arith) (omega arith)
-    ] refl
 
 -- ---- numbers that are mapped
 

@@ -6,7 +6,7 @@ use Rattle.std.specs.List.{All, list_any, AllByRecursion}
 use Rattle.std.specs.BTreeMap.{get}
 use Rattle.std.specs.Ordering.{nat_cmp}
 use Rattle.std.proofs.lemmas.Bool.{eqb-true, eq-eqb, le-leb, leb-true, and_from, and_right, or_left, or_right, or_from, false≢true, false_from_ne_true}
-use Rattle.std.proofs.lemmas.Nat.Bits.{bit_at-lt, bit_at-zero, same_from_bits}
+use Rattle.std.proofs.lemmas.Nat.Bits.{bit_at-zero, same_from_bits}
 use Rattle.std.proofs.lemmas.List.Elements.{All-head, All-tail, All-from_get_or}
 use Rattle.ep_defs.specs.declared.limits.TheConstants.{THREADS}
 use Rattle.ep_defs.specs.declared.event.EventDef.{EventDef}
@@ -14,6 +14,7 @@ use Rattle.ep_model.specs.History.{Past, present, was_there, is_there, has_left,
 use Rattle.ep_model.specs.Lawful.{has_due}
 use Rattle.ep_model.proofs.Lists.{same_bools}
 use Rattle.ep_row.specs.Row.{slot_of}
+use Rattle.ep_row.proofs.Masks.{bit_zero}
 use Rattle.ep_row.specs.declared.row.Opening.{Opening}
 use Rattle.ep_stream.specs.Rows.{IsRow}
 use Rattle.ep_rows.specs.Rows.{told_of}
@@ -43,14 +44,6 @@ any_slot q slot (p ∷ ps) passes is =
     ] refl is
 
 -- ---- what is due
-
-bit_zero : (due slot : ℕ) → (bit_at due slot ≡ 1 → ⊥) → bit_at due slot ≡ 0
-bit_zero due slot not = small (bit_at due slot) (bit_at-lt due slot) not
-  where
-    small : (n : ℕ) → n < 2 → (n ≡ 1 → ⊥) → n ≡ 0
-    small zero less not = refl
-    small (suc zero) less not = absurd (not refl)
-    small (suc (suc n)) less not = absurd (omega (arith, less))
 
 due_any : (due : ℕ) (ps : List Present) → ((slot : ℕ) → bit_at due slot ≡ 1 → has_slot slot ps ≡ true) → not (due == 0) ≡ list_any (λ (p : Present). bit_at due p.slot == 1) ps
 due_any due ps known =

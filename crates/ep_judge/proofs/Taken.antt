@@ -12,10 +12,10 @@ use Rattle.ep_defs.specs.declared.event.EventDef.{EventDef}
 use Rattle.ep_model.specs.declared.step.Step.TheVariants as step
 use Rattle.ep_model.specs.History.{Past, entered, was_there, takes_row, rows}
 use Rattle.ep_model.specs.Lawful.{IsLawful, is_next_thread, objections}
-use Rattle.ep_model.proofs.Lists.{has, same_bools, above_none}
+use Rattle.ep_model.proofs.Lists.{has, same_bools, above_none, has_within}
 use Rattle.ep_model.proofs.Objections.{none_there}
 use Rattle.ep_stream.specs.Rows.{IsRow}
-use Rattle.ep_judge.proofs.Lists.{IsDistinct, has-filter, has-append, has-within, distinct-filter, distinct-map, pigeons, range-distinct, source_of}
+use Rattle.ep_judge.proofs.Lists.{IsDistinct, has-filter, has-append, distinct-filter, distinct-map, pigeons, range-distinct, source_of}
 
 -- ---- the numbers of rows, and of the threads that are there from the start
 
@@ -39,7 +39,7 @@ pub in_range : (n : ℕ) → has n (range_with_len 1 THREADS) ≡ true → IsRow
 in_range n is = let low = range_low n 1 THREADS is in let high = range_high n 1 THREADS is in (omega arith, omega arith)
 
 pub row_has : (n : ℕ) → IsRow THREADS n → has n (range_with_len 1 THREADS) ≡ true
-row_has n is = has-within n 1 THREADS (omega (arith, is.0)) (omega (arith, is.1))
+row_has n is = has_within n 1 THREADS (omega (arith, is.0)) (omega (arith, is.1))
 
 has_in_range : (n : ℕ) → has n (range_with_len 1 THREADS) ≡ is_in_range 1 THREADS n
 has_in_range n = same_bools _ _ (λ is. let at = in_range n is in and_from (nat_le 1 n) (nat_le n THREADS) (le-leb 1 n (omega (arith, at.0))) (le-leb n THREADS at.1)) (λ is. let at = and_parts (nat_le 1 n) (nat_le n THREADS) is in row_has n (omega (arith, leb-true 1 n at.0), leb-true n THREADS at.1))

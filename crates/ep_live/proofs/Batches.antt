@@ -15,7 +15,8 @@ use Rattle.ep_slot.specs.Hand.{HandState}
 use Rattle.ep_row.specs.AtRest.{IsNumbered, write_of}
 use Rattle.ep_guarded.specs.Tied.{AreTaken}
 use Rattle.ep_stream.specs.Rows.{IsBatch, IsDefined}
-use Rattle.ep_live.proofs.Pushing.{none_some, same}
+use Rattle.std.proofs.lemmas.Option.{none-some}
+use Rattle.ep_live.proofs.Pushing.{same}
 
 passed_cons : {A : Type 0} (p : A → Bool) (y : A) (rest : List A) (v : Bool) (k : ℕ) (x : A) → p y ≡ v → ((n : ℕ) → slice_get rest n ≡ Some x → p x ≡ true) → slice_get (cond v (y ∷ rest) rest) k ≡ Some x → p x ≡ true
 passed_cons p y rest true zero x e all is = ap p (sym (same y x is)) ∙ e
@@ -24,7 +25,7 @@ passed_cons p y rest false k x e all is = all k is
 
 -- What passes a filter has passed its test.
 passed : {A : Type 0} (p : A → Bool) (xs : List A) (k : ℕ) (x : A) → slice_get (filter p xs) k ≡ Some x → p x ≡ true
-passed p [] k x is = absurd (none_some x is)
+passed p [] k x is = absurd (none-some x is)
 passed p (y ∷ ys) k x is = passed_cons p y (filter p ys) (p y) k x refl (λ n. passed p ys n x) is
 
 admits-defined : (config : Config) (o : Option EventDef) → option_map_or (λ def. session_admits config def) o false ≡ true → (def : EventDef) × (o ≡ Some def)
@@ -32,7 +33,7 @@ admits-defined config None h = cc
 admits-defined config (Some def) h = (def, refl)
 
 defined_at : (events : List EventDef) (event : ℕ) (def : EventDef) → definition_at events event ≡ Some def → (0 < event) × (event ≤ length events)
-defined_at events zero def is = absurd (none_some def is)
+defined_at events zero def is = absurd (none-some def is)
 defined_at events (suc place) def is = let within = slice_get_within events place def is in (omega arith, omega (arith, within))
 
 is-defined : (events : List EventDef) (config : Config) (writes : List Write) (from : ℕ) (r : Record) → IsNumbered events config writes from r → IsDefined events r

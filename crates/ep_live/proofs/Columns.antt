@@ -10,12 +10,12 @@ use Rattle.ep_guarded.specs.declared.agreed.Agreed.{Agreed}
 use Rattle.ep_guarded.specs.Tied.{hand_in, buffer_number}
 use Rattle.ep_guarded.proofs.Resting.{get-set-same, get-set-other}
 use Rattle.ep_live.specs.Made.{IsHandTie, IsSlotTie}
-use Rattle.ep_live.proofs.Pushing.{none_some}
+use Rattle.std.proofs.lemmas.Option.{none-some}
 
 -- What is among the first of a list is in the list.
 get-take : {A : Type 0} (n : ℕ) (xs : List A) (k : ℕ) (x : A) → slice_get (take n xs) k ≡ Some x → (k < n) × (slice_get xs k ≡ Some x)
-get-take zero xs k x is = absurd (none_some x is)
-get-take (suc n) [] k x is = absurd (none_some x is)
+get-take zero xs k x is = absurd (none-some x is)
+get-take (suc n) [] k x is = absurd (none-some x is)
 get-take (suc n) (first ∷ xs) zero x is = (omega arith, is)
 get-take (suc n) (first ∷ xs) (suc k) x is = let rest = get-take n xs k x is in (omega (arith, rest.0), rest.1)
 

@@ -21,7 +21,8 @@ use Rattle.ep_guarded.specs.Tied.{hand_in, grant_in, stand_in}
 use Rattle.ep_guarded.proofs.Resting.{each-set}
 use Rattle.ep_live.specs.Made.{AreSlotTies}
 use Rattle.ep_live.specs.RowSet.{LiveRowsState, half_at, said_by, expected_in, out_in, stolen_in, hands_in, AreRowsOfOne, IsHandHalf}
-use Rattle.ep_live.proofs.Pushing.{none_some, same}
+use Rattle.std.proofs.lemmas.Option.{none-some}
+use Rattle.ep_live.proofs.Pushing.{same}
 
 -- ---- what is said at a row
 
@@ -42,7 +43,7 @@ pub said-there : {A : Type 0} (says : Option Agreed → Option A) (halves : List
 said-there says halves own row slot y is =
     elim (slot == own) as (λ v. (slot == own) ≡ v → (if v then says (half_at halves row).value else None) ≡ Some y → slot ≡ own) [
       | true ↦ λ e is. eqb-true slot own e
-      | false ↦ λ e is. absurd (none_some y is)
+      | false ↦ λ e is. absurd (none-some y is)
     ]
     refl is
 
@@ -99,26 +100,26 @@ set-same (first ∷ xs) (suc k) x is = ap (λ ys. first ∷ ys) (set-same xs k x
 
 -- A half with a hand tells what its session was granted.
 pub held-grant : (value : Option Agreed) (hand : HandState) → hand_in value ≡ Some hand → (grant : Grant) × (grant_in value ≡ Some grant)
-held-grant None hand is = absurd (none_some hand is)
-held-grant (Some agreed.Nothing) hand is = absurd (none_some hand is)
-held-grant (Some (agreed.Told told)) hand is = absurd (none_some hand is)
+held-grant None hand is = absurd (none-some hand is)
+held-grant (Some agreed.Nothing) hand is = absurd (none-some hand is)
+held-grant (Some (agreed.Told told)) hand is = absurd (none-some hand is)
 held-grant (Some (agreed.Held held)) hand is = (held.grant.now, refl)
-held-grant (Some (agreed.Stand stand)) hand is = absurd (none_some hand is)
+held-grant (Some (agreed.Stand stand)) hand is = absurd (none-some hand is)
 
 -- A half without a hand tells of nothing that was granted.
 no-grant : (value : Option Agreed) → hand_in value ≡ None → grant_in value ≡ None
 no-grant None none = refl
 no-grant (Some agreed.Nothing) none = refl
 no-grant (Some (agreed.Told told)) none = refl
-no-grant (Some (agreed.Held held)) none = absurd (none_some _ (sym none))
+no-grant (Some (agreed.Held held)) none = absurd (none-some _ (sym none))
 no-grant (Some (agreed.Stand stand)) none = refl
 
 -- What a half says of a thread is all that it says.
 pub stand-is : (value : Option Agreed) (stand : Stand) → stand_in value ≡ Some stand → value ≡ Some (agreed.Stand stand)
-stand-is None stand is = absurd (none_some stand is)
-stand-is (Some agreed.Nothing) stand is = absurd (none_some stand is)
-stand-is (Some (agreed.Told told)) stand is = absurd (none_some stand is)
-stand-is (Some (agreed.Held held)) stand is = absurd (none_some stand is)
+stand-is None stand is = absurd (none-some stand is)
+stand-is (Some agreed.Nothing) stand is = absurd (none-some stand is)
+stand-is (Some (agreed.Told told)) stand is = absurd (none-some stand is)
+stand-is (Some (agreed.Held held)) stand is = absurd (none-some stand is)
 stand-is (Some (agreed.Stand other)) stand is = ap (λ (s : Stand). Some (agreed.Stand s)) (same other stand is)
 
 one-each : (half : Tied Agreed) → hands_in half ≤ 1
@@ -138,7 +139,7 @@ few-hands (half ∷ halves) =
 
 -- Where one half has no hand there are fewer hands than halves.
 pub room : (halves : List (Tied Agreed)) (k : ℕ) (half : Tied Agreed) → slice_get halves k ≡ Some half → hands_in half ≡ 0 → sum_by hands_in halves + 1 ≤ length halves
-room [] k half is none = absurd (none_some half is)
+room [] k half is none = absurd (none-some half is)
 room (first ∷ halves) zero half is none =
     let all = sum_by-cons hands_in first halves in
     let zero_is : hands_in first ≡ 0 = ap hands_in (same first half is) ∙ none in
@@ -244,7 +245,7 @@ rows-fresh rows slot grant halves seat small count ties seat_is =
       halves_are = λ k half is.
           record {
             place = (ties k half is).place;
-            granted = λ g told. absurd (none_some g (sym (no-grant half.value (off k half is)) ∙ told));
+            granted = λ g told. absurd (none-some g (sym (no-grant half.value (off k half is)) ∙ told));
             few = omega (arith, counts-none half (off k half is));
           };
       seat_is = (ap (λ (s : SeatState). s.pool) seat_is, ap (λ (s : SeatState). s.total) seat_is);

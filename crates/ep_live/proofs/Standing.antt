@@ -10,7 +10,8 @@ use Rattle.ep_live.specs.Stands.{AreHere}
 use Rattle.ep_slot.specs.Hand.{HandState}
 use Rattle.ep_stream.specs.Rows.{TestsHandsAs}
 use Rattle.ep_live.specs.RowSet.{LiveRowsState, tests_hand_in}
-use Rattle.ep_live.proofs.Pushing.{none_some, same}
+use Rattle.std.proofs.lemmas.Option.{none-some}
+use Rattle.ep_live.proofs.Pushing.{same}
 
 -- A hand that begins here.
 abbrev hand_at : ℕ → HandState
@@ -24,11 +25,11 @@ stands-same old new alike = both old.stands new.stands refl refl
     both : (before after : Option ℕ) → old.stands ≡ before → new.stands ≡ after → new.stands ≡ old.stands
     both None None was is = is ∙ sym was
     both (Some i) None was is =
-        let passes = (alike 0 (hand_at (suc i))).0 (refl, λ index here. absurd (none_some index (sym is ∙ here))) in
+        let passes = (alike 0 (hand_at (suc i))).0 (refl, λ index here. absurd (none-some index (sym is ∙ here))) in
         let from : suc i ≡ i = passes.1 i was in
         absurd (omega (arith, from))
     both None (Some i) was is =
-        let passes = (alike 0 (hand_at (suc i))).1 (refl, λ index here. absurd (none_some index (sym was ∙ here))) in
+        let passes = (alike 0 (hand_at (suc i))).1 (refl, λ index here. absurd (none-some index (sym was ∙ here))) in
         let from : suc i ≡ i = passes.1 i is in
         absurd (omega (arith, from))
     both (Some i) (Some j) was is =
@@ -43,12 +44,12 @@ pub all-here : (rows index : ℕ) (halves : List (Tied Agreed)) → length halve
 all-here rows index halves count stands =
     record {
       here = λ i is. (count, subst (λ (n : ℕ). AreStands n halves) (same index i is) stands);
-      lent = λ e. absurd (none_some index (sym e));
+      lent = λ e. absurd (none-some index (sym e));
     }
 
 -- A half that is here stands at its place.
 pub place-here : (rows : ℕ) (index : Option ℕ) (halves : List (Tied Agreed)) (k : ℕ) (half : Tied Agreed) → AreHere rows index halves → slice_get halves k ≡ Some half → half.place ≡ k
-place-here rows None halves k half are is = absurd (none_some half (sym (ap (λ hs. slice_get hs k) (are.lent refl)) ∙ is))
+place-here rows None halves k half are is = absurd (none-some half (sym (ap (λ hs. slice_get hs k) (are.lent refl)) ∙ is))
 place-here rows (Some i) halves k half are is = ((are.here i refl).1 k half is).place
 
 -- What it tells is the index.

@@ -1,8 +1,8 @@
 -- Tests, and numbers that stand in lists.
-use Rattle.std.proofs.Common.{◌≡◌, ℕ, ◌+◌, Bool, true, false, inl, inr, Option, Some, None, List, ◌∷◌, length, filter, refl, ap, sym, ◌∙◌, subst, arith, []}
+use Rattle.std.proofs.Common.{◌≡◌, ℕ, zero, suc, ◌+◌, ◌<◌, ◌≤◌, Bool, true, false, inl, inr, Option, Some, None, List, ◌∷◌, length, filter, refl, ap, sym, ◌∙◌, subst, arith, []}
 use Rattle.std.specs.Prelude.{◌&&◌, ◌||◌, is_some, nat_lt, nat_le, ◌==◌, if◌then◌else◌}
-use Rattle.std.specs.List.{list_any, list_all}
-use Rattle.std.proofs.lemmas.Bool.{eqb-true, eqb-false, ne_eqb, le-leb, eq-eqb, and_parts, and_from, or_cases, or_parts, or_left, or_right, false_from_ne_true, true≢false}
+use Rattle.std.specs.List.{list_any, list_all, range_with_len}
+use Rattle.std.proofs.lemmas.Bool.{cases_eq, eqb-true, eqb-false, ne_eqb, le-leb, eq-eqb, and_parts, and_from, or_cases, or_parts, or_left, or_right, false_from_ne_true, true≢false}
 use Rattle.ep_model.specs.History.{insert_ascending}
 
 -- ---- tests
@@ -57,6 +57,15 @@ off_pair P s t session thread is none =
 -- The number stands in the list.
 abbrev pub has : ℕ → List ℕ → Bool
 has n xs = list_any (λ x. x == n) xs
+
+-- It stands in a range that it is in.
+pub has_within : (n first count : ℕ) → first ≤ n → n < first + count → has n (range_with_len first count) ≡ true
+has_within n first zero low high = absurd (omega arith)
+has_within n first (suc count) low high =
+    elim (cases_eq first n) [
+      | inl same ↦ or_left (first == n) (has n (range_with_len (first + 1) count)) (eq-eqb first n same)
+      | inr other ↦ or_right (first == n) (has n (range_with_len (first + 1) count)) (has_within n (first + 1) count (omega arith) (omega arith))
+    ]
 
 -- What passes a test passes a weaker one.
 pub any_more : {A : Type 0} (p q : A → Bool) → ((x : A) → p x ≡ true → q x ≡ true) → (xs : List A) → list_any p xs ≡ true → list_any q xs ≡ true

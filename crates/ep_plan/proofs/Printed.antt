@@ -1,9 +1,8 @@
 -- The words of a line that is written.
-use Rattle.std.proofs.Common.{◌≡◌, ℕ, ◌+◌, ◌<◌, ◌≤◌, true, false, codes, List, [], ◌∷◌, ◌++◌, length, map, take, get_or, refl, sym, ap, ◌∙◌, append_assoc, Result, Ok, Err, OnOk}
+use Rattle.std.proofs.Common.{◌≡◌, ℕ, ◌+◌, ◌<◌, true, false, codes, List, [], ◌∷◌, ◌++◌, length, map, take, get_or, refl, sym, ap, ◌∙◌, append_assoc, Result, Ok, Err, OnOk}
 use Rattle.std.specs.List.{join_with_byte}
-use Rattle.std.proofs.lemmas.List.{append-nil, take_more, take_all, map-append}
+use Rattle.std.proofs.lemmas.List.{append-nil, take_more, map-append}
 use Rattle.ep_defs.specs.declared.session.Config.{Config}
-use Rattle.ep_defs.specs.declared.session.Rule.{Rule}
 use Rattle.ep_plan.specs.Words.{space, number_text, rule_text}
 use Rattle.ep_plan.specs.Printing.{spaced, number_words, step_words}
 use Rattle.ep_plan.proofs.Separated.{join-push}
@@ -14,14 +13,6 @@ use Rattle.ep_model.specs.declared.step.Step.TheVariants as step
 pub spaced-append : (xs ys : List (List ℕ)) → spaced (xs ++ ys) ≡ spaced xs ++ spaced ys
 spaced-append [] ys = refl
 spaced-append (x ∷ xs) ys = ap (λ rest. (space ∷ x) ++ rest) (spaced-append xs ys) ∙ sym (append_assoc (space ∷ x) (spaced xs) (spaced ys))
-
--- One word more was written.
-pub word-more : (start line next : List ℕ) (words : List (List ℕ)) (word : List ℕ) → line ≡ start ++ spaced words → next ≡ line ++ space ∷ word → next ≡ start ++ spaced (words ++ word ∷ [])
-word-more start line next words word h more =
-    let one : spaced (words ++ word ∷ []) ≡ spaced words ++ space ∷ word = spaced-append words (word ∷ []) ∙ ap (λ w. spaced words ++ space ∷ w) (append-nil word) in
-    let behind : List ℕ → List ℕ = λ text. text ++ space ∷ word in
-    let whole : List ℕ → List ℕ = λ text. start ++ text in
-    more ∙ ap behind h ∙ append_assoc start (spaced words) (space ∷ word) ∙ ap whole (sym one)
 
 pub no-words : (start : List ℕ) → start ≡ start ++ spaced []
 no-words start = sym (append-nil start)
@@ -60,19 +51,7 @@ number-more start line spaced next name numbers count within h gap more =
     let whole : List ℕ → List ℕ = λ after. start ++ after in
     more ∙ ap behind (gap ∙ ap between h) ∙ append_assoc (start ++ words) (space ∷ []) text ∙ append_assoc start words (space ∷ text) ∙ ap whole (sym (number-push name numbers count within))
 
-pub number-all : (start line name : List ℕ) (numbers : List ℕ) (count : ℕ) → length numbers ≤ count → line ≡ start ++ join_with_byte space (number_words name (take count numbers)) → line ≡ start ++ join_with_byte space (number_words name numbers)
-number-all start line name numbers count all h = h ∙ ap (λ ns. start ++ join_with_byte space (number_words name ns)) (take_all count numbers all)
-
 -- ---- rules
-
-pub rule-more : (start line next : List ℕ) (rules : List Rule) (rule : Rule) (count : ℕ) → count < length rules → rule ≡ get_or rules count rule → line ≡ start ++ spaced (map rule_text (take count rules)) → next ≡ line ++ space ∷ rule_text rule → next ≡ start ++ spaced (map rule_text (take (count + 1) rules))
-rule-more start line next rules rule count within is h more =
-    let item : map rule_text (take (count + 1) rules) ≡ map rule_text (take count rules) ++ rule_text rule ∷ [] =
-    ap (map rule_text) (take_more rules count rule within ∙ ap (λ r. take count rules ++ r ∷ []) (sym is)) ∙ map-append rule_text (take count rules) (rule ∷ []) in
-    word-more start line next (map rule_text (take count rules)) (rule_text rule) h more ∙ ap (λ words. start ++ spaced words) (sym item)
-
-pub word-all : (start line : List ℕ) (rules : List Rule) (count : ℕ) → length rules ≤ count → line ≡ start ++ spaced (map rule_text (take count rules)) → line ≡ start ++ spaced (map rule_text rules)
-word-all start line rules count all h = h ∙ ap (λ rs. start ++ spaced (map rule_text rs)) (take_all count rules all)
 
 -- Words were written after a line, where there was memory.
 pub ok-line : {T E : Type 0} (r : Result T E) (start line next first : List ℕ) (xs ys : List (List ℕ)) → line ≡ start ++ join_with_byte space (first ∷ xs) → OnOk r (next ≡ line ++ spaced ys) → OnOk r (next ≡ start ++ join_with_byte space (first ∷ (xs ++ ys)))

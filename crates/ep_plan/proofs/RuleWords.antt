@@ -1,6 +1,5 @@
 -- The words of rules that were read one after another.
 use Rattle.std.proofs.Common.{◌≡◌, ◌≢◌, ◌⊎◌, inl, inr, ℕ, suc, ◌+◌, ◌-◌, ◌<◌, ◌≤◌, List, [], ◌∷◌, ◌++◌, length, Option, Some, None, option_map, refl, sym, ap, ◌∙◌, arith, length-append, append_assoc}
-use Rattle.std.proofs.lemmas.List.{append-nil}
 use Rattle.ep_defs.specs.declared.session.Rule.{Rule as RuleValue}
 use Rattle.ep_defs.specs.declared.limits.TheConstants.{RULES}
 use Rattle.ep_plan.specs.declared.cursor.Cursor.{Cursor}
@@ -31,14 +30,6 @@ behind-next start words rest before after word rule cut spelled more h =
     let longer : List RuleValue → Option (List RuleValue) = λ rules. behind rules rest in
     h ∙ as_words ∙ as_rule ∙ behind-first before rule (all_in rule_in rest) ∙ ap longer (sym more)
 
--- The first of them.
-pub behind-start : (words rest : List (List ℕ)) (after : List RuleValue) (word : List ℕ) (rule : RuleValue) → words ≡ word ∷ rest → rule_in word ≡ Some rule → after ≡ [] ++ rule ∷ [] → all_in rule_in words ≡ behind after rest
-behind-start words rest after word rule cut spelled more = behind-next (all_in rule_in words) words rest [] after word rule cut spelled more (behind-none (all_in rule_in words))
-
--- The last of them.
-pub behind-end : (start : Option (List RuleValue)) (words : List (List ℕ)) (rules all : List RuleValue) → words ≡ [] → all ≡ rules → start ≡ behind rules words → start ≡ Some all
-behind-end start words rules all none same h = h ∙ ap (behind rules) none ∙ ap Some (append-nil rules ∙ sym same)
-
 -- ---- what is wrong
 
 further : (past column more : ℕ) (words : List (List ℕ)) → words ≢ [] → first_bad past column [] (suc more) words ≡ first_bad past column (Rule ∷ []) more words
@@ -59,12 +50,6 @@ room-next start words next before after word rule took more few h =
     let longer : length after ≡ length before + 1 = ap length more ∙ length-append before (rule ∷ []) in
     let less : more_than_one - length before ≡ RULES - length after = omega arith in
     h ∙ ap (bad_left words []) room ∙ further-rule words (more_than_one - length before) some ∙ took.bad [] (more_than_one - length before) ∙ ap (bad_left next []) less
-
-pub room-first : (start : Option Bad) (next : Cursor) (after : List RuleValue) (rule : RuleValue) → after ≡ [] ++ rule ∷ [] → start ≡ bad_left next [] more_than_one → start ≡ bad_left next [] (RULES - length after)
-room-first start next after rule more h =
-    let one : length after ≡ 1 = ap length more in
-    let room : more_than_one ≡ RULES - length after = omega arith in
-    h ∙ ap (bad_left next []) room
 
 -- A word left over stands behind 1,000 rules.
 pub room-none : (start : Option Bad) (words : Cursor) (rules : List RuleValue) (bad : Bad) → (RULES ≤ length rules) ⊎ (left words ≡ []) → start ≡ bad_left words [] (RULES - length rules) → bad_left words [] 0 ≡ Some bad → start ≡ Some bad

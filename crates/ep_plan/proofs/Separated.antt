@@ -9,7 +9,6 @@ use Rattle.std.proofs.lemmas.List.Sums.{AllPass-from_list_all, fails_before_firs
 use Rattle.std.proofs.lemmas.List.Splits.{slice_split_none, slice_split_at, slice_split_first, slice_split-cons_yes, slice_split-cons_no}
 use Rattle.std.specs.Option.{option_copied, option_map, option_map_or}
 use Rattle.std.proofs.lemmas.List.{take_rest, append-nil, append_assoc, take_more, take_all, map-append}
-use Rattle.std.proofs.lemmas.Iterator.Adapters.{option_map_id}
 use Rattle.hex.specs.Hex.{encode_lower}
 
 -- ---- a word that is `-`, and one that is not
@@ -128,10 +127,6 @@ read_and_rest read items rest = option_map (λ more. items ++ more) (all_in read
 abbrev pub size_of : Option (Bor (List ℕ)) → ℕ
 size_of rest = option_map_or (λ (text : Bor (List ℕ)). length text.now + 1) rest 0
 
-pub read_and_rest-none : {A : Type 0} (read : List ℕ → Option A) (rest : Option (Bor (List ℕ))) (text : Bor (List ℕ)) → rest ≡ Some text → all_in read (parts_at comma text.now) ≡ read_and_rest read [] rest
-read_and_rest-none read rest text some =
-    sym (option_map_id (all_in read (parts_at comma text.now))) ∙ ap (read_and_rest read []) (sym some)
-
 pub read_and_rest-all : {A : Type 0} (read : List ℕ → Option A) (items : List A) (rest : Option (Bor (List ℕ))) → rest ≡ None → read_and_rest read items rest ≡ Some items
 read_and_rest-all read items rest none = ap (read_and_rest read items) none ∙ ap Some (append-nil items)
 
@@ -143,14 +138,6 @@ all_in-parts read text part behind parts = ap (all_in read) parts
 further : {A : Type 0} (items : List A) (x : A) (o : Option (List A)) → option_map (λ more. items ++ more) (with_first (Some x) o) ≡ option_map (λ more. (items ++ x ∷ []) ++ more) o
 further items x None = refl
 further items x (Some more) = ap Some (sym (append_assoc items (x ∷ []) more))
-
--- A part that spells something comes to what was read.
-pub read_and_rest-more : {A : Type 0} (read : List ℕ → Option A) (items : List A) (rest behind : Option (Bor (List ℕ))) (text : Bor (List ℕ)) (part : List ℕ) (x : A) → rest ≡ Some text
-    → parts_at comma text.now ≡ part ∷ parts_behind comma (option_copied behind) → read part ≡ Some x → read_and_rest read items rest ≡ read_and_rest read (items ++ x ∷ []) behind
-read_and_rest-more {A} read items rest behind text part x some parts spells =
-    let tail = all_in read (parts_behind comma (option_copied behind)) in
-    ap (read_and_rest read items) some ∙ ap (λ (o : Option (List A)). option_map (λ more. items ++ more) o) (all_in-parts read text.now part behind parts)
-    ∙ ap (λ (o : Option A). option_map (λ more. items ++ more) (with_first o tail)) spells ∙ further items x tail
 
 -- A part that spells nothing ends the reading.
 pub read_and_rest-bad : {A : Type 0} (read : List ℕ → Option A) (items : List A) (rest behind : Option (Bor (List ℕ))) (text : Bor (List ℕ)) (part : List ℕ) → rest ≡ Some text
@@ -211,9 +198,6 @@ join-push c x (z ∷ zs) y =
 -- The frames that were written, of which the first stands apart.
 abbrev pub frames_so_far : List ℕ → List ℕ → ℕ → List ℕ
 frames_so_far frames others count = join_with_byte comma (map hex_text (get_or frames 0 0 ∷ take count others))
-
-pub frames_so_far-none : (frames others : List ℕ) (first : ℕ) → frames ≡ first ∷ others → frames_so_far frames others 0 ≡ hex_text first
-frames_so_far-none frames others first split = ap (λ (xs : List ℕ). hex_text (get_or xs 0 0)) split
 
 pub frames_so_far-more : (frames others : List ℕ) (count : ℕ) → count < length others → frames_so_far frames others (count + 1) ≡ frames_so_far frames others count ++ comma ∷ hex_text (get_or others count 0)
 frames_so_far-more frames others count within =

@@ -8,6 +8,7 @@ use Rattle.ep_defs.specs.Entry.{EventEntry, PointEntry, Entry, Event, Point}
 use Rattle.ep_defs.specs.declared.event.EventDef.{EventDef}
 use Rattle.nt_write.specs.Value.{framed_with}
 use Rattle.nt_write.specs.Writable.{framed_after, framed}
+use Rattle.nt_write.proofs.Entries.{framed_one}
 use Rattle.ep_model.specs.declared.step.Step.TheVariants as step
 use Rattle.ep_model.specs.Chunks.{is_refused}
 use Rattle.ep_model.specs.Entries.{entries, entry_if, entry_shown, has_stacks, pending, point_entry}
@@ -35,9 +36,6 @@ events_both (entry ∷ es) fs = omega (arith, events_both es fs)
 events_all : (es : List EventEntry) → events_in (map Event es) ≡ length es
 events_all [] = refl
 events_all (e ∷ es) = omega (arith, events_all es)
-
-framed_one : (before : ℕ) (stack : List ℕ) → framed_with before stack ≤ before + 1
-framed_one before stack = elim (length stack == 0) as (λ v. (if v then before else before + 1) ≤ before + 1) [ true ↦ omega arith | false ↦ omega arith ]
 
 -- Of the entries since the last point at most all events have a stack.
 framed_from : (before : ℕ) (es : List Entry) → fold framed_after before es ≤ before + events_in es

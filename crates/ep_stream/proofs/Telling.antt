@@ -157,7 +157,8 @@ ends {S} tells taken before defs info told entries (Err fault) answer writer sin
       spent = λ e. t.telling.spent (long e);
     }
 
-later_risen : (old mid now : ℕ) → mid ≤ now → HasRisen old mid → HasRisen old now
+-- A count that has risen has still risen where it does not fall, and where it began no higher.
+pub later_risen : (old mid now : ℕ) → mid ≤ now → HasRisen old mid → HasRisen old now
 later_risen old mid now later (inl less) = inl (omega (arith, later, less))
 later_risen old mid now later (inr full) = inr (omega (arith, later, full))
 

@@ -2,9 +2,9 @@
 use Rattle.std.proofs.Common.{◌≡◌, ℕ, zero, suc, ◌+◌, ◌<◌, ◌≤◌, true, false, inl, inr, arith}
 use Rattle.std.specs.Prelude.{◌==◌, if◌then◌else◌}
 use Rattle.std.specs.List.{range_with_len}
-use Rattle.std.proofs.lemmas.Bool.{cases_eq, eq-eqb, ne_eqb, eqb-true, eqb-false, or_left, or_right, or_cases, false_from_ne_true}
+use Rattle.std.proofs.lemmas.Bool.{ne_eqb, eqb-true, eqb-false, or_cases, false_from_ne_true}
 use Rattle.ep_model.proofs.Ascending.{AreAbove, IsAscending}
-use Rattle.ep_model.proofs.Lists.{has}
+use Rattle.ep_model.proofs.Lists.{has, has_within}
 use Rattle.ep_stream.specs.Rows.{IsRow}
 use Rattle.ep_traced.specs.Tracing.{Account}
 
@@ -42,15 +42,6 @@ with_point accounts t = let account = accounts t in record account { is_named = 
 
 -- ---- threads
 
--- A number stands among the first ones.
-pub has-range : (t first count : ℕ) → first ≤ t → t < first + count → has t (range_with_len first count) ≡ true
-has-range t first zero low high = absurd (omega arith)
-has-range t first (suc count) low high =
-    elim (cases_eq first t) [
-      | inl same ↦ or_left (first == t) (has t (range_with_len (first + 1) count)) (eq-eqb first t same)
-      | inr other ↦ or_right (first == t) (has t (range_with_len (first + 1) count)) (has-range t (first + 1) count (omega arith) (omega arith))
-    ]
-
 pub range-has : (t first count : ℕ) → has t (range_with_len first count) ≡ true → (first ≤ t) × (t < first + count)
 range-has t first zero is = cc
 range-has t first (suc count) is =
@@ -61,7 +52,7 @@ range-has t first (suc count) is =
 
 -- The threads on which a session was opened are numbered from 1.
 pub row-has : (opened t : ℕ) → IsRow opened t → has t (range_with_len 1 opened) ≡ true
-row-has opened t row = has-range t 1 opened (omega (arith, row.0)) (omega (arith, row.1))
+row-has opened t row = has_within t 1 opened (omega (arith, row.0)) (omega (arith, row.1))
 
 pub has-row : (opened t : ℕ) → has t (range_with_len 1 opened) ≡ true → IsRow opened t
 has-row opened t is = let h = range-has t 1 opened is in (omega (arith, h.0), omega (arith, h.1))

@@ -14,6 +14,7 @@ use Rattle.ep_model.proofs.Lists.{has}
 use Rattle.ep_slot.specs.Hand.{HandState}
 use Rattle.nt_write.specs.Value.{framed_with}
 use Rattle.nt_write.specs.Writable.{framed, framed_after}
+use Rattle.nt_write.proofs.Entries.{framed_one}
 use Rattle.ep_stream.specs.declared.opened.Named.{Named}
 use Rattle.ep_traced.specs.Tracing.{Account, Keeps, TellsPart, marks_by, speaks_of}
 use Rattle.ep_traced.proofs.Accounts.{has-row}
@@ -45,10 +46,6 @@ told-more e told t =
 
 told-own : (e : EventEntry) (told : List Entry) → told_of told e.thread < told_of (Event e ∷ told) e.thread
 told-own e told = rw (eq-eqb e.thread e.thread refl) (omega arith)
-
-framed_one : (before : ℕ) (stack : List ℕ) → framed_with before stack ≤ before + 1
-framed_one before stack =
-    elim (length stack == 0) as (λ v. (if v then before else before + 1) ≤ before + 1) [ true ↦ omega arith | false ↦ omega arith ]
 
 -- Where all events are of some threads, no more of them have a stack than were told of these threads.
 framed-told : (before : ℕ) (threads : List ℕ) (told : List Entry) → AllByRecursion (λ entry. speaks_of threads entry ≡ true) told

@@ -24,10 +24,6 @@ rising-up below most (c ∷ contents) rising =
     let later = rising-up c.number most contents rising.1 in
     omega arith
 
-pub rising-below : (below less most : ℕ) (contents : List Contents) → less ≤ below → AreRising below most contents → AreRising less most contents
-rising-below below less most [] under rising = omega (arith, rising)
-rising-below below less most (c ∷ contents) under rising = (let first = rising.0 in omega arith, rising.1)
-
 pub rising-more : (below most more : ℕ) (contents : List Contents) → most ≤ more → AreRising below most contents → AreRising below more contents
 rising-more below most more [] over rising = omega (arith, rising)
 rising-more below most more (c ∷ contents) over rising = (rising.0, rising-more c.number most more contents over rising.1)

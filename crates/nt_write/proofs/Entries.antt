@@ -3,7 +3,7 @@ use Rattle.std.proofs.Common.{◌≡◌, ℕ, ◌+◌, ◌^◌, ◌<◌, ◌≤�
 use Rattle.std.proofs.lemmas.Bool.{cases_Bool}
 use Rattle.std.proofs.lemmas.List.{append-nil}
 use Rattle.std.proofs.lemmas.List.Sums.{fold-append}
-use Rattle.std.specs.Prelude.{Result, IsTrue, OnOk, OnErr, nat_lt}
+use Rattle.std.specs.Prelude.{Result, IsTrue, OnOk, OnErr, nat_lt, ◌==◌, if◌then◌else◌}
 use Rattle.ep_defs.specs.declared.event.EventDef.{EventDef}
 use Rattle.ep_defs.specs.declared.session.TraceInfo.{TraceInfo}
 use Rattle.ep_defs.specs.Event.{is_same_event}
@@ -18,7 +18,7 @@ use Rattle.nt_write.specs.declared.ids.IdTable.{IdTable}
 use Rattle.nt_write.specs.declared.output.Output.{Output}
 use Rattle.nt_write.specs.declared.pending.Pending.{Pending}
 use Rattle.nt_write.specs.declared.writer.TraceWriter.{TraceWriter}
-use Rattle.nt_write.specs.Value.{StacksSeen, AreFew, no_stacks}
+use Rattle.nt_write.specs.Value.{StacksSeen, AreFew, framed_with, no_stacks}
 use Rattle.nt_write.specs.Layout.{Layout, empty_layout, id_in, with_member, needs_flush, flushed, with_event, with_entry, with_entries}
 use Rattle.nt_write.specs.Writable.{CanTell, StacksFit, framed_after, framed}
 use Rattle.nt_write.specs.Canonical.{encoded, IsCanonical}
@@ -37,6 +37,11 @@ use Rattle.nt_write.proofs.WrittenIsCanonical.{is-canonical, with_entries-more, 
 -- The count with one entry more.
 framed-more : (entries : List Entry) (entry : Entry) → framed (entries ++ entry ∷ []) ≡ framed_after (framed entries) entry
 framed-more entries entry = fold-append framed_after 0 entries (entry ∷ [])
+
+-- An event more is one more at most.
+pub framed_one : (before : ℕ) (stack : List ℕ) → framed_with before stack ≤ before + 1
+framed_one before stack =
+    elim (length stack == 0) as (λ v. (if v then before else before + 1) ≤ before + 1) [ true ↦ omega arith | false ↦ omega arith ]
 
 -- A stack more makes the list longer by one at most.
 one-stack : (stacks : List (List ℕ)) (stack : List ℕ) → length (with_stack stacks stack) ≤ length stacks + 1
