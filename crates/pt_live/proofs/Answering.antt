@@ -1,7 +1,7 @@
 -- What a run answers, by what its session was at its end.
-use Rattle.std.proofs.Common.{◌≡◌, ◌≢◌, ◌∙◌, ℕ, ◌≤◌, ◌++◌, ◌⊎◌, inl, inr, true, false, List, [], ◌∷◌, Option, None, Some, refl, sym, ap, subst, arith}
-use Rattle.std.specs.Prelude.{Bool, IsTrue, Result, Ok, Err, map}
-use Rattle.std.specs.List.{AllByRecursion, range_with_len}
+use Rattle.std.proofs.Common.{◌≡◌, ◌≢◌, ◌∙◌, ℕ, ◌++◌, ◌⊎◌, inl, inr, true, false, List, [], ◌∷◌, None, Some, refl, sym, ap, subst, arith}
+use Rattle.std.specs.Prelude.{Bool, IsTrue, Ok, Err}
+use Rattle.std.specs.List.{AllByRecursion}
 use Rattle.std.proofs.lemmas.List.{append-nil}
 use Rattle.ep_defs.specs.declared.event.EventDef.{EventDef}
 use Rattle.ep_defs.specs.declared.session.Config.{Config}
@@ -84,6 +84,7 @@ module _ {O L E : Type 0} (out : L → O) (tells : O → Bool) (taken : O → Li
         part = λ is. inr (took-part out tells taken old before begins info plan config end.marks lent (e.part is));
         not_asked = well.not_asked;
         link_fault = well.link_fault;
+        too_long = e.too_long;
         memory = record {};
       }
 
@@ -99,6 +100,7 @@ answers-memory tells taken faults info plan config old new error any =
       part = record {};
       not_asked = λ conn. record {};
       link_fault = record {};
+      too_long = record {};
       memory = any;
     }
 
@@ -135,11 +137,15 @@ answers-none tells taken faults info plan config end old new rows none link rise
       part = λ is. subst (λ (ms : List Marks). TookSome tells taken info plan config ms old new) (sym none) (start-some tells taken info plan config old new start);
       not_asked = λ conn is. not-asked conn (sym link ∙ is);
       link_fault = λ is. risen;
+      too_long = λ is. absurd (not-long (sym link ∙ is));
       memory = record {};
     }
   where
     not-ended : fate.LinkFault ≡ fate.ProgramEnd → ⊥
     not-ended e = cc
+
+    not-long : fate.LinkFault ≡ fate.TooLong → ⊥
+    not-long e = cc
 
     not-asked : (conn : ℕ) → fate.LinkFault ≡ fate.Requested conn → ⊥
     not-asked conn e = cc

@@ -1,19 +1,18 @@
 -- What a run's session is once it is closed on all rows, and how it ends.
-use Rattle.std.proofs.Common.{◌≡◌, ◌≢◌, ℕ, ◌<◌, ◌≤◌, ⊎_elim, inl, inr, true, false, List, None, Some, refl, sym, ap, ◌∙◌, subst, arith}
+use Rattle.std.proofs.Common.{◌≡◌, ◌≢◌, ℕ, ◌≤◌, ⊎_elim, true, false, List, None, refl, sym, ap, ◌∙◌}
 use Rattle.std.specs.Prelude.{Bool, ◌==◌, Result, Ok, Err}
 use Rattle.std.proofs.lemmas.Bool.{cases_lt, eqb-true, eqb-false}
 use Rattle.nt_write.specs.declared.fault.Fault.{Fault}
 use Rattle.nt_write.specs.declared.fault.Fault.TheVariants.{WriteFault, TooLong, OutOfMemory}
-use Rattle.pt_io.specs.Faults.{HasRisen}
 use Rattle.ep_stream.specs.declared.session.Fate.{Fate}
 use Rattle.ep_stream.specs.declared.session.Fate.TheVariants as fate
 use Rattle.ep_stream.specs.declared.session.Session.{Session}
 use Rattle.ep_stream.specs.Fates.{fate_after}
-use Rattle.ep_stream.specs.Session.{Ended, fault_of, sink_of, hand_on, rest_of}
+use Rattle.ep_stream.specs.Session.{Ended, sink_of, hand_on}
 use Rattle.ep_live.specs.RowSet.{LiveRowsState, expected_in, out_in}
 use Rattle.pt_live.specs.state.Ended.{EndsWell}
 use Rattle.pt_live.specs.state.Open.{IsOpen, SaysFaults}
-use Rattle.pt_live.proofs.Steps.{risen-more, risen-on}
+use Rattle.ep_stream.proofs.Telling.{later_risen, risen_later}
 
 -- ---- the rows
 
@@ -60,8 +59,8 @@ ends-well tells taken faults was stamp session end sink e up says =
     record {
       link_fault = λ is.
           ⊎_elim
-          (λ before. risen-on was (faults (sink_of session)) (faults sink) up (says.fault before))
-          (λ rose. risen-more was (faults (sink_of session)) (faults sink) says.later rose)
+          (λ before. later_risen was (faults (sink_of session)) (faults sink) up (says.fault before))
+          (λ rose. risen_later was (faults (sink_of session)) (faults sink) says.later rose)
           (e.write_fault (link-answer e.answer (sym e.fate_is ∙ is)));
       not_asked = λ conn is. never-asked e.answer conn (sym e.fate_is ∙ is);
     }

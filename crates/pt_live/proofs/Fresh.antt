@@ -1,9 +1,10 @@
 -- A run's session before it is opened on a row.
-use Rattle.std.proofs.Common.{◌≡◌, ℕ, zero, suc, ◌+◌, ◌-◌, ◌<◌, ◌≤◌, true, false, List, [], ◌∷◌, Option, None, Some, length, refl, sym, ap, ◌∙◌, arith}
-use Rattle.std.specs.Prelude.{Bool, ◌==◌, if◌then◌else◌, slice_get, slice_index_or}
+use Rattle.std.proofs.Common.{◌≡◌, ℕ, zero, suc, ◌+◌, ◌-◌, true, false, List, [], ◌∷◌, Option, None, Some, length, refl, sym, ap, ◌∙◌, arith}
+use Rattle.std.specs.Prelude.{◌==◌, if◌then◌else◌, slice_get, slice_index_or}
 use Rattle.std.specs.List.{sum_by}
 use Rattle.std.specs.Option.{option_map_or}
 use Rattle.std.proofs.lemmas.List.Sums.{sum_by-cons}
+use Rattle.std.proofs.lemmas.Option.{none-some}
 use Rattle.ep_defs.specs.declared.session.Config.{Config}
 use Rattle.ep_slot.specs.Hand.{HandState}
 use Rattle.ep_stream.specs.declared.session.Seat.{Seat}
@@ -15,9 +16,6 @@ use Rattle.ep_guarded.specs.Tied.{hand_in}
 use Rattle.ep_live.specs.Made.{AreSlotTies}
 use Rattle.ep_live.specs.RowSet.{LiveRowsState, expected_in, half_at, out_in, stolen_in}
 use Rattle.pt_live.specs.state.Open.{IsOpen}
-
-none_some : {A : Type 0} (a : A) → None ≡ Some a → ⊥
-none_some a e = cc
 
 off-at : (halves : List (Tied Agreed)) (place : ℕ) → ((k : ℕ) (half : Tied Agreed) → slice_get halves k ≡ Some half → hand_in half.value ≡ None)
     → hand_in (slice_index_or halves place (record { place = 0; value = None })).value ≡ None
@@ -64,12 +62,12 @@ open-fresh rows set session seat config slot none rest count ties taken =
             some = λ row low top. absurd (omega (arith, low, top));
             below = λ row low. none row;
             above = λ row top. none row;
-            from = λ row hand is. absurd (none_some hand (sym (none row) ∙ is));
+            from = λ row hand is. absurd (none-some hand (sym (none row) ∙ is));
           };
       own =
           record {
             hands = λ row. none-expected set row _ off ∙ sym (none row);
-            configs = λ row hand is. absurd (none_some hand (sym (none row) ∙ is));
+            configs = λ row hand is. absurd (none-some hand (sym (none row) ∙ is));
             chunks = none-there set _ off taken ∙ sym empty;
           };
       count = count;

@@ -1,18 +1,14 @@
 -- What a session's hands are after a call.
-use Rattle.std.proofs.Common.{◌≡◌, ◌≢◌, ℕ, zero, suc, ◌+◌, ◌<◌, ◌≤◌, true, false, List, [], ◌∷◌, Option, None, Some, length, ⊎_elim, refl, sym, ap, ◌∙◌, subst, arith}
+use Rattle.std.proofs.Common.{◌≡◌, ◌≢◌, ℕ, suc, ◌+◌, ◌<◌, ◌≤◌, true, false, List, [], ◌∷◌, Option, None, Some, length, ⊎_elim, refl, sym, ap, ◌∙◌, subst, arith}
 use Rattle.std.specs.Prelude.{◌==◌, if◌then◌else◌, IsSome}
-use Rattle.std.specs.List.{All, fold}
+use Rattle.std.specs.List.{All}
 use Rattle.std.proofs.lemmas.Bool.{cases_lt, eqb-true, eqb-false, eq-eqb, ne_eqb}
+use Rattle.std.proofs.lemmas.Option.{none-some}
 use Rattle.ep_slot.specs.Hand.{HandState}
 use Rattle.ep_stream.specs.Sweep.{Taking, with_taking, hands_after}
 use Rattle.ep_stream.specs.Rows.{hand_after}
+use Rattle.ep_live.proofs.Pushing.{same}
 use Rattle.pt_live.specs.state.Open.{AreHands}
-
-none_some : {A : Type 0} (a : A) → None ≡ Some a → ⊥
-none_some a e = cc
-
-same : {A : Type 0} (a b : A) → Some a ≡ Some b → a ≡ b
-same a b e = cc
 
 -- The hands are as others, but for one row.
 Sets : ℕ → Option HandState → (ℕ → Option HandState) → (ℕ → Option HandState) → Type 0
@@ -64,7 +60,7 @@ hands-detached low high old new a sets =
           (λ not. set-other (low + 1) None old new sets row not ∙ a.above row top);
       from = λ row h is.
           by-row (h.from ≡ 0) row (low + 1)
-          (λ here. absurd (none_some h (sym (set-here (low + 1) None old new sets row here) ∙ is)))
+          (λ here. absurd (none-some h (sym (set-here (low + 1) None old new sets row here) ∙ is)))
           (λ not. a.from row h (sym (set-other (low + 1) None old new sets row not) ∙ is));
     }
 
@@ -88,8 +84,8 @@ record IsFine (low high : ℕ) (t : Taking) : Type 0 where
 fine-by : (low high : ℕ) (hands : ℕ → Option HandState) → AreHands low high hands → (t : Taking) → hands t.row ≡ Some t.hand → IsFine low high t
 fine-by low high hands a t is =
     record {
-      above = ⊎_elim (λ over. over) (λ under. absurd (none_some t.hand (sym (a.below t.row under) ∙ is))) (cases_lt low t.row);
-      top = ⊎_elim (λ over. absurd (none_some t.hand (sym (a.above t.row over) ∙ is))) (λ under. under) (cases_lt high t.row);
+      above = ⊎_elim (λ over. over) (λ under. absurd (none-some t.hand (sym (a.below t.row under) ∙ is))) (cases_lt low t.row);
+      top = ⊎_elim (λ over. absurd (none-some t.hand (sym (a.above t.row over) ∙ is))) (λ under. under) (cases_lt high t.row);
       from = a.from t.row t.hand is;
     }
 

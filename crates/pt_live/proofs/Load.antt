@@ -1,11 +1,10 @@
 -- What the threads write, by place.
-use Rattle.std.proofs.Common.{◌≡◌, ℕ, zero, suc, ◌+◌, ◌<◌, [], ◌∷◌, ◌++◌, Some, length, refl, sym, ap, ◌∙◌, subst, arith}
+use Rattle.std.proofs.Common.{◌≡◌, ℕ, zero, suc, ◌+◌, ◌<◌, [], ◌∷◌, ◌++◌, Some, length, ap, ◌∙◌, arith}
 use Rattle.std.specs.Prelude.{option_map, slice_get, map}
 use Rattle.std.specs.List.{range_with_len}
 use Rattle.std.proofs.lemmas.List.FromFn.{get_or-range_with_len, length-range_with_len}
 use Rattle.std.proofs.lemmas.Option.{slice_get-get_or, slice_get-map}
 use Rattle.std.proofs.lemmas.List.{length-map, map-append}
-use Rattle.ep_defs.specs.declared.session.Write.{Write}
 use Rattle.pt_load.specs.Sample.{nth}
 use Rattle.pt_load.specs.declared.plan.Plan.{Plan}
 use Rattle.pt_live.specs.Trace.{writes_of}

@@ -1,7 +1,8 @@
 -- What holds of a run's session and its rows after each call.
-use Rattle.std.proofs.Common.{◌≡◌, ◌≢◌, ℕ, zero, suc, ◌+◌, ◌-◌, ◌^◌, ◌<◌, ◌≤◌, ◌⊎◌, inl, inr, ⊎_elim, true, false, List, [], ◌∷◌, ◌++◌, Option, None, Some, length, refl, sym, ap, ◌∙◌, subst, arith}
+use Rattle.std.proofs.Common.{◌≡◌, ◌≢◌, ℕ, ◌+◌, ◌-◌, ◌<◌, ◌≤◌, ◌⊎◌, ⊎_elim, true, false, List, [], ◌∷◌, ◌++◌, Option, None, Some, length, refl, sym, ap, ◌∙◌, subst, arith}
 use Rattle.std.specs.Prelude.{Bool, ◌==◌, if◌then◌else◌, nat_lt, Result, Ok, Err}
 use Rattle.std.specs.List.{AllByRecursion}
+use Rattle.std.proofs.lemmas.Option.{none-some}
 use Rattle.ep_defs.specs.declared.event.EventDef.{EventDef}
 use Rattle.ep_defs.specs.declared.session.Config.{Config}
 use Rattle.ep_defs.specs.declared.session.Marks.{Marks}
@@ -21,37 +22,23 @@ use Rattle.ep_chunk.specs.Record.{Record}
 use Rattle.ep_stream.specs.Session.{AreRowsOf, Attached, Detached, fault_of, sink_of, hand_on, rest_of, Rest, writer_of}
 use Rattle.ep_stream.specs.Sweep.{Swept, Taking}
 use Rattle.ep_stream.specs.Telling.{IsFaulty}
+use Rattle.ep_stream.proofs.Telling.{later_risen, risen_later}
+use Rattle.ep_live.proofs.Pushing.{same}
 use Rattle.ep_live.specs.RowSet.{LiveRowsState, expected_in, configured_in, out_in}
-use Rattle.pt_live.specs.Trace.{IsWhole}
 use Rattle.ep_traced.specs.Tracing.{IsTracing}
-use Rattle.pt_live.specs.state.Open.{AreHands, Goes, HasTraced, IsOpen, SaysFaults}
+use Rattle.pt_live.specs.state.Open.{AreHands, Goes, IsOpen, SaysFaults}
 use Rattle.pt_live.proofs.Hands.{hands-detached, hands-same, hands-swept}
 
 -- ---- faults
 
--- A count that has risen above a number has risen above any that is not higher, and stays so where it does not fall.
-pub risen-more : (was old new : ℕ) → was ≤ old → HasRisen old new → HasRisen was new
-risen-more was old new low (inl up) = inl (omega (arith, low, up))
-risen-more was old new low (inr top) = inr top
-
-pub risen-on : (was old new : ℕ) → old ≤ new → HasRisen was old → HasRisen was new
-risen-on was old new up (inl is) = inl (omega (arith, up, is))
-risen-on was old new up (inr top) = inr (omega (arith, up, top))
-
-none_some : {A : Type 0} (a : A) → None ≡ Some a → ⊥
-none_some a e = cc
-
-same : {A : Type 0} (a b : A) → Some a ≡ Some b → a ≡ b
-same a b e = cc
-
 faulty-fault : {S A : Type 0} (faults : S → ℕ) (was : ℕ) (old new : Session S) (result : Result A Fault)
     → IsFaulty faults (writer_of old) (writer_of new) result → SaysFaults faults was old → fault_of new ≡ Some WriteFault → HasRisen was (faults (sink_of new))
-faulty-fault faults was old new (Ok x) f s is = absurd (none_some WriteFault (sym f.sound ∙ is))
+faulty-fault faults was old new (Ok x) f s is = absurd (none-some WriteFault (sym f.sound ∙ is))
 faulty-fault faults was old new (Err e) f s is =
     let here : e ≡ WriteFault = same e WriteFault (sym (f.fails e refl) ∙ is) in
     ⊎_elim
-    (λ before. risen-on was (faults (sink_of old)) (faults (sink_of new)) f.later (s.fault before))
-    (λ up. risen-more was (faults (sink_of old)) (faults (sink_of new)) s.later up)
+    (λ before. later_risen was (faults (sink_of old)) (faults (sink_of new)) f.later (s.fault before))
+    (λ up. risen_later was (faults (sink_of old)) (faults (sink_of new)) s.later up)
     (f.write_fault (ap Err here))
 
 pub faults-said : {S A : Type 0} (faults : S → ℕ) (was : ℕ) (old new : Session S) (result : Result A Fault)

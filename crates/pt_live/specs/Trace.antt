@@ -1,6 +1,6 @@
 -- What a run of the sample program comes to (this project's theorem).
 use Rattle.std.specs.Prelude.{◌≡◌, ℕ, ◌⊎◌, Bool, List, [], map, IsTrue}
-use Rattle.std.specs.List.{range_with_len, AllByRecursion}
+use Rattle.std.specs.List.{range_with_len, sum_by, AllByRecursion}
 use Rattle.ep_defs.specs.declared.session.Config.{Config}
 use Rattle.ep_defs.specs.declared.session.Marks.{Marks}
 use Rattle.ep_defs.specs.declared.session.TraceInfo.{TraceInfo}
@@ -40,6 +40,10 @@ pub record AreWhole (plan : Plan) (marks : List Marks) : Type 0 where
 -- So it is, but where the output took no beginning of a stream: then the session was open on no thread.
 abbrev pub HasMarks : Plan → Fate → List Marks → Type 0
 HasMarks plan end marks = AreWhole plan marks ⊎ ((end ≡ fate.LinkFault) × (marks ≡ []))
+
+-- How many events the session took of all threads.
+abbrev pub taken_of : List Marks → ℕ
+taken_of marks = sum_by (λ mark. mark.taken) marks
 
 -- ---- what the output took, where it tells it
 

@@ -106,9 +106,11 @@ pub(crate) fn streamed<
         → IfOk result.1 (λ end. EndsTraced S.tells_taken S.taken before info P.events config P.writes P.rows end.0 end.1 result.0) }
     ensures any { (before : List ℕ) (info : InfoValue) (config : ConfigValue)
         → HasTraced S.tells_taken S.taken before info P.events config P.writes 0 session
-        → (opened : ℕ) × (marks : List MarksValue) × (end : FateValue) × EndsTraced S.tells_taken S.taken before info P.events config P.writes opened marks end result.0 }
+        → (opened : ℕ) × (marks : List MarksValue) × (end : FateValue)
+        × EndsTraced S.tells_taken S.taken before info P.events config P.writes opened marks end result.0 }
     ensures whole { IfOk result.1 (λ end. AllByRecursion (IsWhole P.plan.writes) end.0) }
-    ensures well { (was : ℕ) → SaysFaults S.write_faults was session → IfOk result.1 (λ end. EndsWell S.write_faults was end.1 result.0) }
+    ensures well { (was : ℕ) → SaysFaults S.write_faults was session
+        → IfOk result.1 (λ end. EndsWell S.write_faults was end.1 result.0) }
 {
     let mut rows = rows;
     let mut session = session;
@@ -199,8 +201,10 @@ fn ended<P: Run, R: Wait, S: Sink, C: Clock, G: Gate>(
         → HasTraced S.tells_taken S.taken before info P.events config P.writes opened session
         → EndsTraced S.tells_taken S.taken before info P.events config P.writes opened result.marks result.fate result.sink }
     ensures whole { (to : ℕ) → rows.entry.stands ≡ Some to
-        → AllByRecursion (IsWhole to) (rest_of session).marks → AllByRecursion (IsWhole to) result.marks }
-    ensures well { (was : ℕ) → SaysFaults S.write_faults was session → EndsWell S.write_faults was result.fate result.sink }
+        → AllByRecursion (IsWhole to) (rest_of session).marks
+        → AllByRecursion (IsWhole to) result.marks }
+    ensures well { (was : ℕ) → SaysFaults S.write_faults was session
+        → EndsWell S.write_faults was result.fate result.sink }
 {
     a_session_that_ends_has_traced::<S>();
     let mut rows = rows;

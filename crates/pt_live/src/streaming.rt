@@ -113,7 +113,8 @@ pub(crate) fn close_all<P: Run, R: Wait, S: Sink>(
     requires is_open { IsOpen P.rows 0 opened rows.old session.old }
     ensures is_open { IsOpen P.rows opened opened rows.new session.new }
     ensures marks { (to : ℕ) → rows.old.stands ≡ Some to
-        → AllByRecursion (IsWhole to) (rest_of session.old).marks → AllByRecursion (IsWhole to) (rest_of session.new).marks }
+        → AllByRecursion (IsWhole to) (rest_of session.old).marks
+        → AllByRecursion (IsWhole to) (rest_of session.new).marks }
     ensures goes { Goes S.tells_taken S.taken S.write_faults P.events P.writes opened opened session.old session.new }
 {
     sample_events_are_valid();

@@ -1,8 +1,9 @@
 //! Runs with threads.
 use crate::{TraceEnd, run_trace};
 use ep_defs::limits::{THREADS, WRITES};
-use ep_defs::{Config, Items, Marks, Rule, standard_info};
+use ep_defs::{Config, ItemKind, Items, Marks, Rule, standard_info};
 use ep_stream::Fate;
+use nt_read::TraceReader;
 use pt_io::{Gate, MemSink, Moment, OpenGate, StepClock};
 use pt_load::{JOBS, Plan, STORE, WEB, units};
 use std::alloc::{AllocError, Global};
@@ -201,6 +202,25 @@ fn a_sweep_falls_inside_a_write(rt: HostRuntime) -> Result<(), Fail> {
     Ok(())
 }
 
+// How far the first thread had come at each point of a stream that names it, in order.
+fn numbers_at_points(alloc: Global, stream: &[u8]) -> Result<Vec<u32>, Fail> {
+    let mut reader = TraceReader::new(alloc);
+    let mut items = Vec::new(alloc);
+    reader.feed(stream, &mut items)?;
+    reader.finish()?;
+    let mut numbers = Vec::new(alloc);
+    for item in &items {
+        if let ItemKind::Point { threads, .. } = &item.kind {
+            for (_, number) in threads.as_slice().iter().filter(|named| named.0 == 1) {
+                numbers.push(*number)?;
+            }
+        }
+    }
+    Ok(numbers)
+}
+
+// The gate waits for what the sweeps have answered. A sweep that took records has written its point by then, so the point
+// behind the 51st record stands before the thread goes on, and the stream's last one comes later.
 #[test]
 fn all_is_taken_while_a_thread_rests(rt: HostRuntime) -> Result<(), Fail> {
     let alloc = rt.alloc();
@@ -213,6 +233,9 @@ fn all_is_taken_while_a_thread_rests(rt: HostRuntime) -> Result<(), Fail> {
     let end = run(&rt, alloc, 1, 100, all(alloc, 16)?, &mut output, &gate)?;
     assert!(rt; gate.has_met());
     assert!(rt; is_whole(end.marks.as_slice(), 1, 100, 100));
+    let mut numbers = numbers_at_points(alloc, output.taken())?;
+    assert_eq!(rt; numbers.pop(), Some(100));
+    assert!(rt; numbers.contains(&51));
     Ok(())
 }
 
@@ -250,47 +273,5 @@ fn two_threads_are_inside_their_writes_at_once(rt: HostRuntime) -> Result<(), Fa
     let end = run(&rt, alloc, 2, 10, all(alloc, 16)?, &mut output, &gate)?;
     assert!(rt; !gate.gave_up.load(Ordering::SeqCst));
     assert!(rt; is_whole(end.marks.as_slice(), 2, 10, 10));
-    Ok(())
-}
-
-/// Holds the stream behind its first sweep until the first thread has made its last write.
-#[derive(Drop)]
-struct SlowStream {
-    last: u32,
-    has_ended: AtomicBool,
-}
-
-impl Gate for SlowStream {
-    fn pass(&self, at: Moment) {
-        match at {
-            Moment::Wrote { thread: 1, index } if index == self.last => {
-                self.has_ended.store(true, Ordering::SeqCst);
-            }
-            Moment::Swept { .. } => {
-                for _ in 0..LOOKS {
-                    if self.has_ended.load(Ordering::SeqCst) {
-                        return;
-                    }
-                    thread::yield_now();
-                }
-            }
-            _ => {}
-        }
-    }
-}
-
-#[test]
-fn what_the_budget_has_no_room_for_is_refused_and_counted(rt: HostRuntime) -> Result<(), Fail> {
-    let alloc = rt.alloc();
-    let gate = SlowStream {
-        last: 19_999,
-        has_ended: AtomicBool::new(false),
-    };
-    let mut output = MemSink::new(Vec::new(alloc));
-    let end = run(&rt, alloc, 4, 20_000, all(alloc, 16)?, &mut output, &gate)?;
-    assert_eq!(rt; end.fate, Fate::ProgramEnd);
-    assert!(rt; is_whole(end.marks.as_slice(), 4, 20_000, 20_000));
-    assert!(rt; end.marks.as_slice().iter().any(|mark| mark.refused > 0));
-    assert!(rt; end.marks.as_slice().iter().any(|mark| mark.taken > 0));
     Ok(())
 }

@@ -54,11 +54,16 @@ pub(crate) fn run_both<
         thread::scope_env(),
         around.rt,
         move |scope|
-            requires { IsRunOf P.plan P.rows P.events P.writes × (writes ≡ P.plan.writes) × (vec_len writers ≡ P.rows) × AreReady P.plan 0 writers.items × (events.now ≡ sample) × IsOpen P.rows 0 P.rows rows session }
-            ensures { IsOpen P.rows 0 P.rows result.0 result.1 × ((rest_of result.1).marks ≡ (rest_of session).marks) × Goes S.tells_taken S.taken S.write_faults P.events P.writes P.rows P.rows session result.1 }
+            requires { IsRunOf P.plan P.rows P.events P.writes × (writes ≡ P.plan.writes)
+                × (vec_len writers ≡ P.rows) × AreReady P.plan 0 writers.items × (events.now ≡ sample)
+                × IsOpen P.rows 0 P.rows rows session }
+            ensures { IsOpen P.rows 0 P.rows result.0 result.1
+                × ((rest_of result.1).marks ≡ (rest_of session).marks)
+                × Goes S.tells_taken S.taken S.write_faults P.events P.writes P.rows P.rows session result.1 }
         {
             let work = move ||
-                requires { IsRunOf P.plan P.rows P.events P.writes × (writes ≡ P.plan.writes) × (vec_len writers ≡ P.rows) × AreReady P.plan 0 writers.items }
+                requires { IsRunOf P.plan P.rows P.events P.writes × (writes ≡ P.plan.writes)
+                    × (vec_len writers ≡ P.rows) × AreReady P.plan 0 writers.items }
             {
                 let done = write_all(around, writes, writers);
                 have_ended.store(true, Ordering::SeqCst);

@@ -2,10 +2,11 @@
 ghost use Rattle.std.specs.Prelude.{◌≡◌, ◌≢◌, ℕ, ◌+◌, ◌*◌, ◌<◌, ◌≤◌, true, Some, IfOk, OnErr, IsTrue, vec_len};
 ghost use Rattle.ep_defs.specs.declared.limits.TheConstants.{THREADS as MOST_THREADS, WRITES};
 ghost use Rattle.ep_defs.specs.Session.{is_valid_config};
+ghost use Rattle.nt_write.specs.declared.limits.TheConstants.{FRAMED_EVENTS};
 ghost use Rattle.pt_io.specs.Faults.{HasRisen};
 ghost use Rattle.ep_stream.specs.declared.session.Fate.TheVariants as fate;
 ghost use Rattle.ep_traced.specs.Tracing.{is_fault};
-ghost use Rattle.pt_live.specs.Trace.{HasMarks, TookAny, TookSome, TookTrace, rows_of, writes_of};
+ghost use Rattle.pt_live.specs.Trace.{HasMarks, TookAny, TookSome, TookTrace, rows_of, taken_of, writes_of};
 ghost use Rattle.pt_live.specs.state.Kit.{Answers, IsKit};
 ghost use Rattle.pt_live.specs.state.Writers.{IsRunOf};
 ghost use Rattle.ep_live.specs.Made.{AreSlotTies};
@@ -107,7 +108,12 @@ pub fn run_trace<R: Threads + Wait + Timer + Sync, O: Sink, C: Clock, G: Gate>(
     ensures not_asked { (conn : ℕ) → IfOk result (λ end. end.fate ≢ fate.Requested conn) }
 
     // A fault comes only from the output, in this call.
-    ensures link_fault { IfOk result (λ end. end.fate ≡ fate.LinkFault → HasRisen (O.write_faults output.old) (O.write_faults output.new)) }
+    ensures link_fault { IfOk result (λ end. end.fate ≡ fate.LinkFault
+        → HasRisen (O.write_faults output.old) (O.write_faults output.new)) }
+
+    // A stream is too long only for more events than it has ids for stacks.
+    ensures too_long { IfOk result (λ end. end.fate ≡ fate.TooLong
+        → FRAMED_EVENTS < taken_of end.marks) }
     ensures memory { OnErr result (TookAny O.tells_taken O.taken info.now plan.now config output.old output.new) }
 {
     let (pool, seat) = Pool::new(rt, alloc, config.chunks, plan.threads + 1)?;

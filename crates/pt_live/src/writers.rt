@@ -138,7 +138,8 @@ fn write_each<'w, 'a, P: Run + Send + Sync, R: Threads + Wait + Sync, C: Clock, 
     ensures { AreReady P.plan P.plan.writes writers.new }
 {
     let writing = |number: usize, writer: &mut Writer<'_, '_, P>|
-        requires { IsRunOf P.plan P.rows P.events P.writes × (writes ≡ P.plan.writes) × (number < P.rows) × StandsAt P.plan number 0 writer.now }
+        requires { IsRunOf P.plan P.rows P.events P.writes × (writes ≡ P.plan.writes)
+            × (number < P.rows) × StandsAt P.plan number 0 writer.now }
         ensures { StandsAt P.plan number P.plan.writes writer.exit.now }
     { writer.write_all(around, number, writes) };
     let threads = writers.len();

@@ -1,10 +1,11 @@
 //! The command `trace`.
-ghost use Rattle.std.specs.Prelude.{◌≡◌, ◌≢◌, ℕ, true, IfOk, OnErr};
+ghost use Rattle.std.specs.Prelude.{◌≡◌, ◌≢◌, ◌<◌, ℕ, true, IfOk, OnErr};
 ghost use Rattle.ep_defs.specs.Session.{standard_info_of};
 ghost use Rattle.ep_stream.specs.declared.session.Fate.TheVariants as fates;
 ghost use Rattle.ep_traced.specs.Tracing.{is_fault};
+ghost use Rattle.nt_write.specs.declared.limits.TheConstants.{FRAMED_EVENTS};
 ghost use Rattle.pt_io.specs.Faults.{HasRisen};
-ghost use Rattle.pt_live.specs.Trace.{rows_of, HasMarks, TookAny, TookSome};
+ghost use Rattle.pt_live.specs.Trace.{rows_of, taken_of, HasMarks, TookAny, TookSome};
 ghost use Rattle.pt_trace.specs.Words.{Fits};
 ghost use Rattle.pt_trace.specs.Traced.{TookWhole};
 
@@ -44,6 +45,10 @@ pub fn trace<R: Threads + Wait + time::Clock + Sync, O: Sink, C: Clock, G: Gate>
     ensures write_fault { IfOk result (λ end. end.fate ≡ fates.LinkFault
         → HasRisen (O.write_faults output.old) (O.write_faults output.new)) }
     ensures not_asked { (conn : ℕ) → IfOk result (λ end. end.fate ≢ fates.Requested conn) }
+
+    // A stream is too long only for more events than it has ids for stacks.
+    ensures too_long { IfOk result (λ end. end.fate ≡ fates.TooLong
+        → FRAMED_EVENTS < taken_of end.marks) }
     ensures memory { OnErr result
         (TookAny O.tells_taken O.taken (standard_info_of 1 1) asked.plan asked.config output.old output.new) }
 {

@@ -1,12 +1,11 @@
-use Rattle.std.proofs.Common.{◌≡◌, ◌∙◌, ℕ, ◌≤◌, List, length, refl, sym, ap, subst, arith}
+use Rattle.std.proofs.Common.{◌≡◌, ◌∙◌, ℕ, ◌<◌, ◌≤◌, length, refl, sym, ap, subst, arith}
 use Rattle.std.specs.List.{AllByRecursion}
 use Rattle.ep_defs.specs.declared.limits.TheConstants.{WRITES}
-use Rattle.ep_defs.specs.declared.session.Marks.{Marks}
+use Rattle.nt_write.specs.declared.limits.TheConstants.{FRAMED_EVENTS}
 use Rattle.ep_stream.specs.declared.session.Fate.TheVariants as fate
-use Rattle.ep_stream.specs.Session.{rest_of}
 use Rattle.ep_traced.specs.Traced.{AreMarks}
 use Rattle.ep_traced.specs.Tracing.{TookTraced, TookTracedPart}
-use Rattle.pt_live.specs.Trace.{IsWhole}
+use Rattle.pt_live.specs.Trace.{IsWhole, taken_of}
 use Rattle.pt_live.proofs.Load.{count-writes}
 use Rattle.pt_live.proofs.Ending.{closed-hands, closed-expected, none-out, ends-well}
 use Rattle.pt_live.proofs.session.ended.Goals as goal
@@ -35,7 +34,12 @@ returns-clause-traced g c before info config traced =
           (law.whole g.P.Program.events g.P.Program.writes before info config c.args.opened t.0 session c.now.result fate.ProgramEnd c.finish.result.fate c.finish.result.sink few t.1 none c.finish.ensures.ended is);
       part = λ is. subst (λ m. TookTracedPart g.S.Sink.tells_taken g.S.Sink.taken before info g.P.Program.events config g.P.Program.writes m c.finish.result.sink) marks
           (law.part g.P.Program.events g.P.Program.writes before info config c.args.opened t.0 session c.now.result fate.ProgramEnd c.finish.result.fate c.finish.result.sink t.1 none c.finish.ensures.ended refl is);
+      too_long = λ is. subst (λ m. FRAMED_EVENTS < taken_of m) marks
+          (law.too_long g.P.Program.events g.P.Program.writes before info config c.args.opened t.0 session c.now.result fate.ProgramEnd c.finish.result.fate c.finish.result.sink t.1 none c.finish.ensures.ended not_long is);
     }
+  where
+    not_long : fate.ProgramEnd ≡ fate.TooLong → ⊥
+    not_long e = cc
 
 pub returns-clause-whole : goal.returns-clause-whole
 returns-clause-whole g c to is all = subst (AllByRecursion (IsWhole to)) (sym c.finish.ensures.marks) (c.close_all.ensures.marks to is all)

@@ -1,6 +1,4 @@
-use Rattle.std.proofs.Common.{◌≡◌, ◌∙◌, ℕ, ◌≤◌, List, refl, sym, ap, subst, arith}
-use Rattle.ep_defs.specs.declared.session.Config.{Config}
-use Rattle.ep_defs.specs.declared.session.TraceInfo.{TraceInfo}
+use Rattle.std.proofs.Common.{◌≡◌, ℕ, sym, ap, subst, arith}
 use Rattle.pt_load.specs.declared.plan.Plan.{Plan}
 use Rattle.pt_live.specs.state.Ended.{EndsTraced}
 use Rattle.pt_live.specs.state.Open.{HasTraced}

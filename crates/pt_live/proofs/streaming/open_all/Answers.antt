@@ -1,12 +1,7 @@
-use Rattle.std.proofs.Common.{◌≡◌, ◌∙◌, ◌≢◌, ℕ, ◌+◌, ◌<◌, ◌≤◌, List, None, Some, length, refl, sym, ap, subst, arith, rules}
-use Rattle.std.specs.List.{AllByRecursion}
-use Rattle.ep_defs.specs.declared.event.EventDef.{EventDef}
-use Rattle.ep_slot.specs.Hand.{HandState}
-use Rattle.ep_stream.specs.declared.session.Session.{Session}
-use Rattle.ep_stream.specs.Session.{Attached, SameHands, Rest, hand_on, opened_count, rest_of, writer_of, WasOpened}
-use Rattle.ep_live.specs.RowSet.{LiveRowsState, tests_hand_in}
-use Rattle.pt_live.specs.Trace.{IsWhole}
-use Rattle.pt_live.specs.state.Open.{Goes, IsOpen}
+use Rattle.std.proofs.Common.{◌≡◌, ◌∙◌, ℕ, ◌+◌, refl, ap, subst, arith, rules}
+use Rattle.ep_stream.specs.Session.{Attached, SameHands, Rest, hand_on, opened_count, rest_of, WasOpened}
+use Rattle.ep_live.specs.RowSet.{tests_hand_in}
+use Rattle.pt_live.specs.state.Open.{Goes}
 use Rattle.pt_live.proofs.Hands.{hands-attached, hands-same}
 use Rattle.pt_live.proofs.Steps.{attached-weaker, goes-by, goes-on, open-after}
 use Rattle.pt_live.proofs.streaming.open_all.Goals as goal

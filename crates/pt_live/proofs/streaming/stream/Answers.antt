@@ -1,12 +1,5 @@
-use Rattle.std.proofs.Common.{◌≡◌, ◌∙◌, ◌≢◌, ℕ, ◌+◌, ◌<◌, ◌≤◌, List, None, Some, length, refl, sym, ap, subst, arith, rules}
-use Rattle.std.specs.List.{AllByRecursion}
-use Rattle.ep_defs.specs.declared.event.EventDef.{EventDef}
-use Rattle.ep_slot.specs.Hand.{HandState}
-use Rattle.ep_stream.specs.declared.session.Session.{Session}
-use Rattle.ep_stream.specs.Session.{Attached, SameHands, Rest, hand_on, opened_count, rest_of, writer_of, WasOpened}
-use Rattle.ep_live.specs.RowSet.{LiveRowsState, tests_hand_in}
-use Rattle.pt_live.specs.Trace.{IsWhole}
-use Rattle.pt_live.specs.state.Open.{Goes, IsOpen}
+use Rattle.std.proofs.Common.{◌∙◌, None, refl, sym, ap}
+use Rattle.ep_stream.specs.Session.{Rest}
 use Rattle.pt_live.proofs.Steps.{goes-more, goes-on, open-swept}
 use Rattle.pt_live.proofs.streaming.stream.Goals as goal
 

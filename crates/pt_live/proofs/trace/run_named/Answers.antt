@@ -1,6 +1,3 @@
-use Rattle.std.proofs.Common.{◌≡◌, ◌≤◌, length, refl, sym, ap, subst}
-use Rattle.ep_defs.specs.declared.event.EventDef.{EventDef}
-use Rattle.ep_defs.specs.declared.limits.TheConstants.{EVENTS}
 use Rattle.pt_live.proofs.trace.run_named.Goals as goal
 
 pub new-requires-clause-few : goal.new-requires-clause-few

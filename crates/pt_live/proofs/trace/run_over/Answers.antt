@@ -1,13 +1,7 @@
-use Rattle.std.proofs.Common.{◌≡◌, ◌∙◌, ℕ, inl, List, [], length, refl, sym, ap, subst}
+use Rattle.std.proofs.Common.{◌∙◌, inl, [], length, refl, sym, ap, subst}
 use Rattle.ep_pool.specs.Shared.{SeatState}
 use Rattle.ep_live.specs.Made.{AreSlotTies}
 use Rattle.ep_live.specs.RowSet.{LiveRowsState}
-use Rattle.ep_defs.specs.declared.session.Marks.{Marks}
-use Rattle.ep_defs.specs.declared.session.Write.{Write}
-use Rattle.ep_stream.specs.declared.session.Fate.{Fate}
-use Rattle.pt_load.specs.Sample.{sample}
-use Rattle.pt_live.specs.Trace.{IsWhole}
-use Rattle.pt_live.specs.state.Ended.{EndsTraced, EndsWell}
 use Rattle.pt_live.proofs.Answering.{answers-end, answers-memory, answers-none, of-sample, other-fault, sound-says, start-some, took-any}
 use Rattle.pt_live.proofs.Fresh.{open-fresh}
 use Rattle.pt_live.proofs.trace.run_over.Goals as goal

@@ -1,5 +1,5 @@
 use Rattle.std.proofs.Common.{◌≡◌, ◌∙◌, ℕ, List, ◌++◌, Some, length, take, drop, sym, ap, subst, arith}
-use Rattle.std.specs.Prelude.{slice_get, vec_len}
+use Rattle.std.specs.Prelude.{slice_get}
 use Rattle.std.proofs.Math.Seq.{take-append_seam}
 use Rattle.pt_live.specs.state.Writers.{WriterState}
 use Rattle.pt_live.proofs.writers.write_all.Goals as goal

@@ -1,7 +1,6 @@
-use Rattle.std.proofs.Common.{◌≡◌, ◌∙◌, ℕ, ◌+◌, ◌<◌, Some, length, refl, sym, ap, subst, arith, rules, get_or, of_calls}
-use Rattle.std.specs.Prelude.{slice_get}
+use Rattle.std.proofs.Common.{◌<◌, length, refl, subst, arith, rules, of_calls}
 use Rattle.std.proofs.lemmas.Option.{slice_get_read}
-use Rattle.pt_live.specs.state.Writers.{StandsAt, WriterState}
+use Rattle.pt_live.specs.state.Writers.{StandsAt}
 use Rattle.pt_live.proofs.Lists.{each-within}
 use Rattle.pt_live.proofs.writers.write_each.Goals as goal
 
