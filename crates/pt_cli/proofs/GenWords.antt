@@ -1,5 +1,5 @@
 -- The words that ask for a schedule.
-use Rattle.std.proofs.Common.{◌≡◌, ◌&&◌, not, if◌then◌else◌, ℕ, Bool, true, false, List, [], ◌∷◌, Option, Some, None, codes, get_or, refl, sym, ap, ◌∙◌, inl, inr, arith}
+use Rattle.std.proofs.Common.{◌≡◌, ◌&&◌, not, if◌then◌else◌, ℕ, Bool, true, false, List, [], ◌∷◌, Some, None, codes, get_or, refl, sym, ap, ◌∙◌, inl, inr, arith}
 use Rattle.ep_defs.proofs.Sameness.{text-means}
 use Rattle.ep_defs.specs.Event.{is_same_text}
 use Rattle.pt_words.specs.Words.{has_option}
@@ -28,20 +28,23 @@ gen-asks_nobody words are =
     rw all.2 refl
 
 -- The first byte of the first word.
-first_byte : List (List ℕ) → ℕ
+unfoldable pub first_byte : List (List ℕ) → ℕ
 first_byte words = get_or (get_or words 0 []) 0 0
 
-reading-begins : (words : List (List ℕ)) → AreReading words → first_byte words ≡ 114
+pub reading-begins : (words : List (List ℕ)) → AreReading words → first_byte words ≡ 114
 unfolding first_byte
 reading-begins words (inl (session, inl alone)) = rw alone.0 refl
 reading-begins words (inl (session, inr (inl two))) = rw two.1 refl
 reading-begins words (inl (session, inr (inr one))) = rw one.1 refl
 reading-begins words (inr report) = rw report refl
 
-pub gen-reads_nothing : (words : List (List ℕ)) → AreGen words → AreReading words → ⊥
+pub gen-begins : (words : List (List ℕ)) → AreGen words → first_byte words ≡ 103
 unfolding first_byte
-gen-reads_nothing words are reading =
+gen-begins words are =
     let all = gen_words words (record { seed = are.0; writes = are.1 }) are.2 in
-    let begins : first_byte words ≡ 103 = rw all.2 refl in
-    let same : 103 ≡ 114 = sym begins ∙ reading-begins words reading in
+    rw all.2 refl
+
+pub gen-reads_nothing : (words : List (List ℕ)) → AreGen words → AreReading words → ⊥
+gen-reads_nothing words are reading =
+    let same : 103 ≡ 114 = sym (gen-begins words are) ∙ reading-begins words reading in
     omega (arith, same)

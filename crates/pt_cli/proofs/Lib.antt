@@ -6,3 +6,4 @@ pub mod ReplayWords
 pub mod Standing
 pub mod TextLines
 pub mod GenWords
+pub mod TraceWords

@@ -3,6 +3,8 @@ use Rattle.std.specs.Prelude.{◌≡◌, ℕ, ◌-◌, ◌^◌, ◌<◌, ◌⊎�
 use Rattle.ep_plan.specs.Words.{number_in}
 use Rattle.pt_client.specs.Words.{command_in}
 use Rattle.pt_gen.specs.Words.{asked_in}
+use Rattle.pt_trace.specs.Words as trace
+use Rattle.pt_trace.specs.declared.words.Asked.{Asked}
 
 -- The digits spell the number of a session: from 1 to 4,294,967,295.
 abbrev pub IsSession : List ℕ → ℕ → Type 0
@@ -34,3 +36,11 @@ IsGen words seed writes = asked_in words ≡ Some (record { seed = seed; writes 
 -- The words ask for a schedule that is made from a seed.
 abbrev pub AreGen : List (List ℕ) → Type 0
 AreGen words = (seed : ℕ) × (writes : ℕ) × IsGen words seed writes
+
+-- The words are `trace`, with this plan and this session.
+abbrev pub IsTrace : List (List ℕ) → Asked → Type 0
+IsTrace words asked = trace.asked_in words ≡ Some asked
+
+-- The words ask for a trace of the sample program.
+abbrev pub AreTrace : List (List ℕ) → Type 0
+AreTrace words = (asked : Asked) × IsTrace words asked

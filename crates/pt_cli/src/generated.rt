@@ -14,9 +14,12 @@ use std::alloc::Global;
 /// Makes the schedule and writes what it comes to.
 pub(crate) fn generated<O: Sink>(alloc: Global, asked: Asked, output: &mut O) -> Plain
     requires few { asked.writes ≤ MOST_WRITES }
-    ensures done { result.status ≡ 0 → TookAll O.tells_taken O.taken output.old output.new (gen_text asked.seed asked.writes) }
-    ensures part { result.status ≡ 5 → TookPart O.tells_taken O.taken output.old output.new (gen_text asked.seed asked.writes) }
-    ensures write_fault { result.status ≡ 5 → HasRisen (O.write_faults output.old) (O.write_faults output.new) }
+    ensures done { result.status ≡ 0
+        → TookAll O.tells_taken O.taken output.old output.new (gen_text asked.seed asked.writes) }
+    ensures part { result.status ≡ 5
+        → TookPart O.tells_taken O.taken output.old output.new (gen_text asked.seed asked.writes) }
+    ensures write_fault { result.status ≡ 5
+        → HasRisen (O.write_faults output.old) (O.write_faults output.new) }
     ensures all_written { result.status ≢ 5 → O.write_faults output.new ≡ O.write_faults output.old }
     ensures memory { result.status ≡ 9 → output.new ≡ output.old }
     ensures statuses { (result.status ≡ 0) ⊎ (result.status ≡ 5) ⊎ (result.status ≡ 9) }

@@ -3,7 +3,7 @@ ghost use Rattle.std.specs.Prelude.{◌≡◌, ◌∷◌, ℕ, List, codes};
 ghost use Rattle.ep_plan.specs.declared.line.Line.{Line};
 ghost use Rattle.pt_cli.specs.declared.errors.Refusal.{Refusal};
 ghost use Rattle.pt_cli.specs.Schedule.{IsSchedule, IsRefused};
-ghost use Rattle.pt_cli.specs.Words.{IsReplay, AreGen, AreReading, AsksNobody};
+ghost use Rattle.pt_cli.specs.Words.{IsReplay, AreGen, AreReading, AreTrace, AsksNobody};
 
 use ep_plan::a_line_means_one_thing;
 
@@ -26,4 +26,11 @@ pub fn replay_asks_nobody()
 pub fn gen_asks_nobody()
     ensures nobody { (words : List (List ℕ)) → AreGen words → AsksNobody words }
     ensures nothing { (words : List (List ℕ)) → AreGen words → AreReading words → ⊥ }
+{}
+
+/// Words that ask for a trace ask nobody, and for nothing else: neither for what reads the input nor for a schedule.
+pub fn trace_asks_nobody()
+    ensures nobody { (words : List (List ℕ)) → AreTrace words → AsksNobody words }
+    ensures nothing { (words : List (List ℕ)) → AreTrace words → AreReading words → ⊥ }
+    ensures no_gen { (words : List (List ℕ)) → AreTrace words → AreGen words → ⊥ }
 {}

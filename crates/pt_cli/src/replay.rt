@@ -35,53 +35,72 @@ pub fn plain<I: Source, O: Sink>(
     input: &mut I,
     output: &mut O,
 ) -> Plain
-    ensures done { (session : ℕ) → IsReplay (map string_bytes words.now) session → result.status ≡ 0 → (bytes : List ℕ) × (stream : List ℕ)
+    ensures done { (session : ℕ) → IsReplay (map string_bytes words.now) session → result.status ≡ 0
+        → (bytes : List ℕ) × (stream : List ℕ)
         × ReadWhole I.tells_given I.given I.left I.may_give input.old input.new bytes
         × IsReplayed session bytes stream × TookAll O.tells_taken O.taken output.old output.new stream }
-    ensures reported { IsReport (map string_bytes words.now) → result.status ≡ 0 → (bytes : List ℕ) × (text : List ℕ)
+    ensures reported { IsReport (map string_bytes words.now) → result.status ≡ 0 → (bytes : List ℕ)
+        × (text : List ℕ)
         × ReadWhole I.tells_given I.given I.left I.may_give input.old input.new bytes
         × IsReported bytes text × TookAll O.tells_taken O.taken output.old output.new text }
 
     // Words that are neither.
     ensures words { result.status ≡ 2 → (AreReading (map string_bytes words.now) → ⊥)
         × TookAll O.tells_taken O.taken output.old output.new words_error × (input.new ≡ input.old) }
-    ensures words_refused { (AreReading (map string_bytes words.now) → ⊥) → (result.status ≡ 2) ⊎ (result.status ≡ 5) ⊎ (result.status ≡ 9) }
+    ensures words_refused { (AreReading (map string_bytes words.now) → ⊥) → (result.status ≡ 2)
+        ⊎ (result.status ≡ 5) ⊎ (result.status ≡ 9) }
 
     // An input that is no schedule, or does not finish the session.
-    ensures refused { (session : ℕ) → IsReplay (map string_bytes words.now) session → result.status ≡ 3 → (bytes : List ℕ) × (text : List ℕ)
+    ensures refused { (session : ℕ) → IsReplay (map string_bytes words.now) session → result.status ≡ 3
+        → (bytes : List ℕ) × (text : List ℕ)
         × ReadWhole I.tells_given I.given I.left I.may_give input.old input.new bytes
         × IsError session bytes text × TookAll O.tells_taken O.taken output.old output.new text }
 
     // An input that is no stream, or not whole, or has an item that can't stand where it does.
-    ensures stream_refused { IsReport (map string_bytes words.now) → result.status ≡ 3 → (bytes : List ℕ) × (text : List ℕ)
+    ensures stream_refused { IsReport (map string_bytes words.now) → result.status ≡ 3
+        → (bytes : List ℕ) × (text : List ℕ)
         × ReadWhole I.tells_given I.given I.left I.may_give input.old input.new bytes
-        × reading.IsError bytes result.at text × TookAll O.tells_taken O.taken output.old output.new text }
+        × reading.IsError bytes result.at text
+        × TookAll O.tells_taken O.taken output.old output.new text }
 
     // An input that tells its bytes is judged by them, unless something fails.
-    ensures refused_exactly { (session : ℕ) (refusal : Refusal) → IsReplay (map string_bytes words.now) session → IsTrue (I.tells_given input.old)
-        → IsRefused (I.left input.old) refusal → (result.status ≡ 3) ⊎ (result.status ≡ 4) ⊎ (result.status ≡ 5) ⊎ (result.status ≡ 9) }
-    ensures unfinished { (session : ℕ) → IsReplay (map string_bytes words.now) session → IsTrue (I.tells_given input.old)
-        → IsUnfinished session (I.left input.old) → (result.status ≡ 3) ⊎ (result.status ≡ 4) ⊎ (result.status ≡ 5) ⊎ (result.status ≡ 9) }
-    ensures taken { (session : ℕ) → IsReplay (map string_bytes words.now) session → IsTrue (I.tells_given input.old)
-        → Finishes session (I.left input.old) → (result.status ≡ 0) ⊎ (result.status ≡ 4) ⊎ (result.status ≡ 5) ⊎ (result.status ≡ 9) }
-    ensures whole { IsReport (map string_bytes words.now) → IsTrue (I.tells_given input.old) → IsWhole (I.left input.old) → result.status ≢ 3 }
-    ensures not_whole { IsReport (map string_bytes words.now) → IsTrue (I.tells_given input.old) → (IsWhole (I.left input.old) → ⊥) → result.status ≢ 0 }
+    ensures refused_exactly { (session : ℕ) (refusal : Refusal)
+        → IsReplay (map string_bytes words.now) session → IsTrue (I.tells_given input.old)
+        → IsRefused (I.left input.old) refusal → (result.status ≡ 3) ⊎ (result.status ≡ 4)
+        ⊎ (result.status ≡ 5) ⊎ (result.status ≡ 9) }
+    ensures unfinished { (session : ℕ) → IsReplay (map string_bytes words.now) session
+        → IsTrue (I.tells_given input.old)
+        → IsUnfinished session (I.left input.old) → (result.status ≡ 3) ⊎ (result.status ≡ 4)
+        ⊎ (result.status ≡ 5) ⊎ (result.status ≡ 9) }
+    ensures taken { (session : ℕ) → IsReplay (map string_bytes words.now) session
+        → IsTrue (I.tells_given input.old)
+        → Finishes session (I.left input.old) → (result.status ≡ 0) ⊎ (result.status ≡ 4)
+        ⊎ (result.status ≡ 5) ⊎ (result.status ≡ 9) }
+    ensures whole { IsReport (map string_bytes words.now) → IsTrue (I.tells_given input.old)
+        → IsWhole (I.left input.old) → result.status ≢ 3 }
+    ensures not_whole { IsReport (map string_bytes words.now) → IsTrue (I.tells_given input.old)
+        → (IsWhole (I.left input.old) → ⊥) → result.status ≢ 0 }
 
     // A fault comes only from the object that was handed in, in this call.
     ensures read_fault { result.status ≡ 4 → AreReading (map string_bytes words.now)
         × HasRisen (I.read_faults input.old) (I.read_faults input.new) × (output.new ≡ output.old) }
     ensures all_read { result.status ≢ 4 → I.read_faults input.new ≡ I.read_faults input.old }
-    ensures write_fault { result.status ≡ 5 → HasRisen (O.write_faults output.old) (O.write_faults output.new) }
+    ensures write_fault { result.status ≡ 5
+        → HasRisen (O.write_faults output.old) (O.write_faults output.new) }
     ensures written_part { result.status ≡ 5 → (bytes : List ℕ) × (text : List ℕ)
-        × (AreReading (map string_bytes words.now) → ReadWhole I.tells_given I.given I.left I.may_give input.old input.new bytes)
+        × (AreReading (map string_bytes words.now)
+        → ReadWhole I.tells_given I.given I.left I.may_give input.old input.new bytes)
         × IsAnswer (map string_bytes words.now) bytes text
-        × (IsTrue (O.tells_taken output.old) → TookPartOf text (O.taken output.old) (O.taken output.new)) }
+        × (IsTrue (O.tells_taken output.old)
+        → TookPartOf text (O.taken output.old) (O.taken output.new)) }
     ensures all_written { result.status ≢ 5 → O.write_faults output.new ≡ O.write_faults output.old }
 
     // Out of memory: nothing was written.
     ensures memory { result.status ≡ 9 → output.new ≡ output.old }
-    ensures statuses { (result.status ≡ 0) ⊎ (result.status ≡ 2) ⊎ (result.status ≡ 3) ⊎ (result.status ≡ 4) ⊎ (result.status ≡ 5) ⊎ (result.status ≡ 9) }
-    ensures no_offset { (IsReport (map string_bytes words.now) → ⊥) ⊎ (result.status ≢ 3) → result.at ≡ 0 }
+    ensures statuses { (result.status ≡ 0) ⊎ (result.status ≡ 2) ⊎ (result.status ≡ 3)
+        ⊎ (result.status ≡ 4) ⊎ (result.status ≡ 5) ⊎ (result.status ≡ 9) }
+    ensures no_offset { (IsReport (map string_bytes words.now) → ⊥) ⊎ (result.status ≢ 3)
+        → result.at ≡ 0 }
 {
     a_text_has_one_outcome();
     if is_report(words) {
@@ -114,11 +133,14 @@ fn ended_with(status: u8) -> Plain
 // Writes a text and ends with this status, or with 5 where that fails.
 fn say<O: Sink>(output: &mut O, text: &[u8], status: u8) -> Plain
     requires { status ≢ 5 }
-    ensures end { (result ≡ record { status = status; at = 0 }) ⊎ (result ≡ record { status = 5; at = 0 }) }
+    ensures end { (result ≡ record { status = status; at = 0 })
+        ⊎ (result ≡ record { status = 5; at = 0 }) }
     ensures took { result.status ≢ 5 → TookAll O.tells_taken O.taken output.old output.new text.now }
     ensures same { result.status ≢ 5 → O.write_faults output.new ≡ O.write_faults output.old }
-    ensures part { result.status ≡ 5 → IsTrue (O.tells_taken output.old) → TookPartOf text.now (O.taken output.old) (O.taken output.new) }
-    ensures fault { result.status ≡ 5 → HasRisen (O.write_faults output.old) (O.write_faults output.new) }
+    ensures part { result.status ≡ 5 → IsTrue (O.tells_taken output.old)
+        → TookPartOf text.now (O.taken output.old) (O.taken output.new) }
+    ensures fault { result.status ≡ 5
+        → HasRisen (O.write_faults output.old) (O.write_faults output.new) }
 {
     match output.write(text) {
         Ok(()) => ended_with(status),
@@ -128,17 +150,22 @@ fn say<O: Sink>(output: &mut O, text: &[u8], status: u8) -> Plain
 
 // Writes what the bytes that were read come to for a session.
 fn answer<O: Sink>(alloc: Global, reader: &Reader, session: u32, output: &mut O) -> Plain
-    ensures done { (bytes : List ℕ) → IsJudged bytes reader.now → result.status ≡ 0 → (stream : List ℕ) × IsReplayed session bytes stream
+    ensures done { (bytes : List ℕ) → IsJudged bytes reader.now → result.status ≡ 0 → (stream : List ℕ)
+        × IsReplayed session bytes stream
         × TookAll O.tells_taken O.taken output.old output.new stream }
-    ensures refused { (bytes : List ℕ) → IsJudged bytes reader.now → result.status ≡ 3 → (text : List ℕ) × IsError session bytes text
+    ensures refused { (bytes : List ℕ) → IsJudged bytes reader.now → result.status ≡ 3 → (text : List ℕ)
+        × IsError session bytes text
         × TookAll O.tells_taken O.taken output.old output.new text }
     ensures part { (bytes : List ℕ) → IsJudged bytes reader.now → result.status ≡ 5 → (text : List ℕ)
         × (IsError session bytes text ⊎ IsReplayed session bytes text)
-        × (IsTrue (O.tells_taken output.old) → TookPartOf text (O.taken output.old) (O.taken output.new)) }
-    ensures write_fault { result.status ≡ 5 → HasRisen (O.write_faults output.old) (O.write_faults output.new) }
+        × (IsTrue (O.tells_taken output.old)
+        → TookPartOf text (O.taken output.old) (O.taken output.new)) }
+    ensures write_fault { result.status ≡ 5
+        → HasRisen (O.write_faults output.old) (O.write_faults output.new) }
     ensures all_written { result.status ≢ 5 → O.write_faults output.new ≡ O.write_faults output.old }
     ensures memory { result.status ≡ 9 → output.new ≡ output.old }
-    ensures statuses { (result.status ≡ 0) ⊎ (result.status ≡ 3) ⊎ (result.status ≡ 5) ⊎ (result.status ≡ 9) }
+    ensures statuses { (result.status ≡ 0) ⊎ (result.status ≡ 3) ⊎ (result.status ≡ 5)
+        ⊎ (result.status ≡ 9) }
     ensures no_offset { result.at ≡ 0 }
 {
     match reader.outcome(session) {
@@ -150,10 +177,12 @@ fn answer<O: Sink>(alloc: Global, reader: &Reader, session: u32, output: &mut O)
 
 // Writes an error line, where there was memory for it.
 fn say_error<O: Sink>(output: &mut O, text: Result<String, AllocError>) -> Plain
-    ensures took { result.status ≡ 3 → IsOkAnd text (λ text. TookAll O.tells_taken O.taken output.old output.new (string_bytes text)) }
+    ensures took { result.status ≡ 3
+        → IsOkAnd text (λ text. TookAll O.tells_taken O.taken output.old output.new (string_bytes text)) }
     ensures part { result.status ≡ 5 → IsOkAnd text (λ text. IsTrue (O.tells_taken output.old)
         → TookPartOf (string_bytes text) (O.taken output.old) (O.taken output.new)) }
-    ensures write_fault { result.status ≡ 5 → HasRisen (O.write_faults output.old) (O.write_faults output.new) }
+    ensures write_fault { result.status ≡ 5
+        → HasRisen (O.write_faults output.old) (O.write_faults output.new) }
     ensures all_written { result.status ≢ 5 → O.write_faults output.new ≡ O.write_faults output.old }
     ensures memory { result.status ≡ 9 → output.new ≡ output.old }
     ensures statuses { (result.status ≡ 3) ⊎ (result.status ≡ 5) ⊎ (result.status ≡ 9) }
@@ -183,8 +212,10 @@ fn read_all<I: Source>(alloc: Global, input: &mut I) -> Result<Reader, ReadFault
     ensures all { IfOk result (λ reader. (bytes : List ℕ) × IsJudged bytes reader
         × ReadWhole I.tells_given I.given I.left I.may_give input.old input.new bytes) }
     ensures read { OnOk result (I.read_faults input.new ≡ I.read_faults input.old) }
-    ensures fault { result ≡ Err ReadFault.Failed → HasRisen (I.read_faults input.old) (I.read_faults input.new) }
-    ensures memory { result ≡ Err ReadFault.OutOfMemory → I.read_faults input.new ≡ I.read_faults input.old }
+    ensures fault { result ≡ Err ReadFault.Failed
+        → HasRisen (I.read_faults input.old) (I.read_faults input.new) }
+    ensures memory { result ≡ Err ReadFault.OutOfMemory
+        → I.read_faults input.new ≡ I.read_faults input.old }
 {
     let mut reader = Reader::new(alloc);
     let mut buffer = [0; 4096];

@@ -85,8 +85,10 @@ impl Schedule {
     pub(crate) fn take_line(&mut self, alloc: Global, text: &[u8]) -> Result<(), Fault>
         requires stands { (lines : List Line) × Stands lines self.old }
         requires few { lines_in self.old < 2 ^ 63 }
-        ensures taken { (lines : List Line) → Stands lines self.old → OnOk result ((line : Line) × Takes lines text.now line × Stands (line ∷ lines) self.new) }
-        ensures refused { (lines : List Line) (refusal : Refusal) → Stands lines self.old → result ≡ Err (Refused refusal) → Refuses lines text.now refusal }
+        ensures taken { (lines : List Line) → Stands lines self.old
+            → OnOk result ((line : Line) × Takes lines text.now line × Stands (line ∷ lines) self.new) }
+        ensures refused { (lines : List Line) (refusal : Refusal) → Stands lines self.old
+            → result ≡ Err (Refused refusal) → Refuses lines text.now refusal }
         ensures counted { lines_in self.new ≤ lines_in self.old + 1 }
     {
         let number = self.lines + 1;
@@ -125,8 +127,10 @@ impl Schedule {
     fn take_step(&mut self, alloc: Global, step: Step) -> Result<(), Fault>
         requires stands { (lines : List Line) × Stands lines self.old }
         requires few { lines_in self.old < 2 ^ 63 }
-        ensures taken { (lines : List Line) → Stands lines self.old → OnOk result (CanBeMade lines (StepLine step) × Stands (StepLine step ∷ lines) self.new) }
-        ensures refused { (lines : List Line) (refusal : Refusal) (text : List ℕ) → Stands lines self.old → result ≡ Err (Refused refusal)
+        ensures taken { (lines : List Line) → Stands lines self.old
+            → OnOk result (CanBeMade lines (StepLine step) × Stands (StepLine step ∷ lines) self.new) }
+        ensures refused { (lines : List Line) (refusal : Refusal) (text : List ℕ)
+            → Stands lines self.old → result ≡ Err (Refused refusal)
             → Says lines text (StepLine step) → Refuses lines text refusal }
         ensures counted { lines_in self.new ≤ lines_in self.old + 1 }
     {
@@ -137,9 +141,11 @@ impl Schedule {
 
     /// The stream of a session, if the steps have finished it.
     pub(crate) fn stream(&self, session: u32) -> Option<&[u8]>
-        ensures some { (lines : List Line) → Stands lines self.now → IfSome result (λ stream. (is_finished session (past_of lines) ≡ true)
+        ensures some { (lines : List Line) → Stands lines self.now
+            → IfSome result (λ stream. (is_finished session (past_of lines) ≡ true)
             × IsStreamOf (definitions_of lines) (standard_info_of 1 1) session (past_of lines) stream.now) }
-        ensures none { (lines : List Line) → Stands lines self.now → IfNone result (is_finished session (past_of lines) ≡ false) }
+        ensures none { (lines : List Line) → Stands lines self.now
+            → IfNone result (is_finished session (past_of lines) ≡ false) }
     {
         match &self.machine {
             Some(machine) => machine.stream(session),
@@ -162,8 +168,10 @@ fn make(
     requires valid { IsTrue (list_all is_valid_event events.now) }
     requires distinct { AreDistinct (event_at events.now) }
     ensures made { (past : Past) → IsMachineOf events.now past lines machine.old
-        → OnOk result ((objection_to events.now past step ≡ None) × IsMachineOf events.now (step ∷ past) (lines + 1) machine.new) }
-    ensures refused { (past : Past) (refusal : Refusal) → IsMachineOf events.now past lines machine.old → result ≡ Err (Refused refusal)
+        → OnOk result ((objection_to events.now past step ≡ None)
+        × IsMachineOf events.now (step ∷ past) (lines + 1) machine.new) }
+    ensures refused { (past : Past) (refusal : Refusal) → IsMachineOf events.now past lines machine.old
+        → result ≡ Err (Refused refusal)
         → IsUnlawful events.now past step (lines + 1) refusal }
 {
     if let Some(machine) = machine {
@@ -192,9 +200,12 @@ fn new_machine(alloc: Global, events: &[EventDef]) -> Result<Machine, Fault>
 // Makes a step of the line with this number.
 fn make_on(alloc: Global, machine: &mut Machine, step: Step, number: u64) -> Result<(), Fault>
     requires few { steps_of machine.old < 2 ^ 63 }
-    ensures made { (events : List EventDef) (past : Past) → Follows events (standard_info_of 1 1) past machine.old
-        → OnOk result ((objection_to events past step ≡ None) × Follows events (standard_info_of 1 1) (step ∷ past) machine.new) }
-    ensures refused { (events : List EventDef) (past : Past) (refusal : Refusal) → Follows events (standard_info_of 1 1) past machine.old
+    ensures made { (events : List EventDef) (past : Past)
+        → Follows events (standard_info_of 1 1) past machine.old
+        → OnOk result ((objection_to events past step ≡ None)
+        × Follows events (standard_info_of 1 1) (step ∷ past) machine.new) }
+    ensures refused { (events : List EventDef) (past : Past) (refusal : Refusal)
+        → Follows events (standard_info_of 1 1) past machine.old
         → result ≡ Err (Refused refusal) → IsUnlawful events past step number refusal }
     ensures counted { OnOk result (steps_of machine.new ≡ steps_of machine.old + 1) }
 {

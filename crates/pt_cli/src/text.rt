@@ -49,7 +49,8 @@ impl Reader {
     pub(crate) fn take(&mut self, alloc: Global, piece: &[u8]) -> Result<(), AllocError>
         requires read { (bytes : List ℕ) × HasRead bytes self.old }
         requires few { used self.old + length piece.now < 2 ^ 63 }
-        ensures read { (bytes : List ℕ) → HasRead bytes self.old → OnOk result (HasRead (bytes ++ piece.now) self.new) }
+        ensures read { (bytes : List ℕ) → HasRead bytes self.old
+            → OnOk result (HasRead (bytes ++ piece.now) self.new) }
         ensures counted { OnOk result (used self.new ≤ used self.old + length piece.now) }
     {
         for byte in piece {
@@ -61,7 +62,8 @@ impl Reader {
     fn take_byte(&mut self, alloc: Global, byte: u8) -> Result<(), AllocError>
         requires read { (bytes : List ℕ) × HasRead bytes self.old }
         requires few { used self.old < 2 ^ 63 }
-        ensures read { (bytes : List ℕ) → HasRead bytes self.old → OnOk result (HasRead (bytes ++ byte ∷ []) self.new) }
+        ensures read { (bytes : List ℕ) → HasRead bytes self.old
+            → OnOk result (HasRead (bytes ++ byte ∷ []) self.new) }
         ensures counted { OnOk result (used self.new ≤ used self.old + 1) }
     {
         if self.refusal.is_some() {
@@ -87,8 +89,10 @@ impl Reader {
         requires read { (bytes : List ℕ) × HasRead bytes self.old }
         requires good { self.old.refusal ≡ None }
         requires few { used self.old < 2 ^ 63 }
-        ensures read { (bytes : List ℕ) → HasRead bytes self.old → OnOk result (HasRead (bytes ++ 10 ∷ []) self.new) }
-        ensures last { (bytes : List ℕ) → HasRead bytes self.old → self.old.part.items ≢ [] → OnOk result (IsJudged bytes self.new) }
+        ensures read { (bytes : List ℕ) → HasRead bytes self.old
+            → OnOk result (HasRead (bytes ++ 10 ∷ []) self.new) }
+        ensures last { (bytes : List ℕ) → HasRead bytes self.old → self.old.part.items ≢ []
+            → OnOk result (IsJudged bytes self.new) }
         ensures counted { OnOk result (used self.new ≤ used self.old + 1) }
     {
         match self.schedule.take_line(alloc, &self.part) {

@@ -10,7 +10,8 @@ use std::alloc::{AllocError, Global};
 /// The session whose stream the words ask for, where they are `replay` with a session or without one.
 pub(crate) fn session_of(alloc: Global, words: &[String]) -> Result<Option<u32>, AllocError>
     ensures some { IfOk result (λ answer. IfSome answer (IsReplay (map string_bytes words.now))) }
-    ensures none { IfOk result (λ answer. IfNone answer ((session : ℕ) → IsReplay (map string_bytes words.now) session → ⊥)) }
+    ensures none { IfOk result (λ answer. IfNone answer ((session : ℕ)
+        → IsReplay (map string_bytes words.now) session → ⊥)) }
 {
     let [command, rest @ ..] = words else {
         return Ok(None);
