@@ -1,0 +1,68 @@
+#!/bin/sh
+# Prints what `tracepipe trace` costs, for a session that gets every event and for one that gets none. First the
+# instructions for a write more of one thread, with its making, as callgrind counts them (valgrind, a Debian package) on
+# 10,000 writes and on 30,000: those of the thread that writes alone, and those of the whole run, its stream included.
+# Then 4,000,000 writes of each of 1, 2, 3 and 4 threads into a file: the processor time of a writing thread for a write, as
+# the system counts it, the time from start to end, the events a second that the file has, and how many writes were refused
+# since the budget was spent, as `report` counts them. It needs valgrind and python3.
+here=$(cd "$(dirname "$0")/.." && pwd) || exit 1
+program=$here/crates/tracepipe/out/tracepipe
+writes=${1:-4000000}
+work=$(mktemp -d) || exit 1
+trap 'rm -rf "$work"' EXIT
+all=Sample-Web,Sample-Store,Sample-Jobs
+"$here/tracepipe" trace 1 8 "$all" >"$work/warm" || exit 1
+
+# The instructions of so many writes of one thread, for this text; with a third word, only those in functions of that name.
+instructions() {
+    valgrind --tool=callgrind --callgrind-out-file="$work/counts" ${3:+"--toggle-collect=$3"} "$program" trace 1 "$1" "$2" \
+        >/dev/null 2>"$work/told" || exit 1
+    sed -n 's/^.*Collected : //p' "$work/told"
+}
+
+for text in "$all" None:1:1; do
+    writing=$(($(instructions 30000 "$text" '*chunks_from*') - $(instructions 10000 "$text" '*chunks_from*')))
+    whole=$(($(instructions 30000 "$text") - $(instructions 10000 "$text")))
+    echo "$text: $((writing / 20000)) instructions for a write more in its thread, $((whole / 20000)) in the whole run"
+done
+python3 - "$program" "$work" "$all" "$writes" <<'MEASURE'
+import os, subprocess, sys, time
+
+program, work, all_events, writes = sys.argv[1], sys.argv[2], sys.argv[3], int(sys.argv[4])
+
+
+def spent(process):
+    """The processor time of each of its threads but the first, in nanoseconds, as the system has counted it."""
+    found = {}
+    try:
+        for thread in os.listdir(f"/proc/{process}/task"):
+            if int(thread) != process:
+                with open(f"/proc/{process}/task/{thread}/schedstat") as counts:
+                    found[thread] = int(counts.read().split()[0])
+    except OSError:
+        pass
+    return found
+
+
+for text in (all_events, "None:1:1"):
+    for threads in (1, 2, 3, 4):
+        with open(f"{work}/stream", "wb") as stream:
+            begun = time.monotonic()
+            run = subprocess.Popen([program, "trace", str(threads), str(writes), text], stdout=stream)
+            last = {}
+            while run.poll() is None:
+                last.update(spent(run.pid))
+                time.sleep(0.001)
+            passed = time.monotonic() - begun
+        with open(f"{work}/stream", "rb") as stream:
+            report = subprocess.run([program, "report"], stdin=stream, capture_output=True, text=True, check=True)
+        lines = [line.split() for line in report.stdout.splitlines()]
+        events = sum(int(line[1]) for line in lines if line[0] == "items")
+        refused = sum(int(line[4]) for line in lines if line[0] == "thread")
+        own = sorted(last.values())[-threads:]
+        print(
+            f"{text}, {threads} threads: {sum(own) / max(len(own), 1) / writes:.0f} ns a write in its thread,"
+            f" {passed:.2f} seconds, {events / passed:,.0f} events a second, {events} events"
+            f" in {os.path.getsize(f'{work}/stream')} bytes, {refused} refused"
+        )
+MEASURE
