@@ -18,7 +18,7 @@ use ep_faithful::a_faithful_stream_is_found;
 use ep_judge::objection;
 use ep_model::laws::{finished_sessions_are_faithful, other_sessions_steps_do_not_matter};
 use ep_model::{Step, Unlawful};
-use ep_told::a_finished_session_stays;
+use ep_stream_laws::a_finished_session_stays;
 use std::alloc::{AllocError, Global};
 use std::collections::BTreeMap;
 

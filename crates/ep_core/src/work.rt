@@ -38,7 +38,7 @@ use ep_stands::laws::{
     sessions_stand_at_the_start, stack_ids_suffice, what_is_pending_is_counted,
 };
 use ep_stream::Fate;
-use ep_told::a_finished_session_stays;
+use ep_stream_laws::a_finished_session_stays;
 use nt_write::Fault;
 use std::alloc::{AllocError, Global};
 

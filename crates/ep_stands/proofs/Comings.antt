@@ -25,7 +25,7 @@ use Rattle.ep_judge.specs.declared.tables.Tables.{Tables}
 use Rattle.ep_judge.specs.Tables.{number_of, has_slot}
 use Rattle.ep_judge.proofs.Pasts.{has_present}
 use Rattle.ep_kept.specs.Kept.{PoolFollows}
-use Rattle.ep_told.specs.Kept.{RestFollows}
+use Rattle.ep_stream_laws.specs.Kept.{RestFollows}
 use Rattle.ep_made.specs.Made.{MakesAccept, MakesFinish, IsStart}
 use Rattle.ep_made.proofs.Slots.{free_slot}
 use Rattle.ep_stands.specs.Stands.{SessionStands, SessionsStand, KeepsSlot, StandBefore}

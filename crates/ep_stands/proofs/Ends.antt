@@ -21,7 +21,7 @@ use Rattle.ep_stream.specs.Fates.{fate_after}
 use Rattle.ep_stream.specs.Named.{numbers_of}
 use Rattle.ep_stream.specs.Session.{Rest, rest_of}
 use Rattle.ep_judge.specs.declared.tables.Tables.{Tables}
-use Rattle.ep_told.specs.Kept.{RestFollows}
+use Rattle.ep_stream_laws.specs.Kept.{RestFollows}
 use Rattle.ep_made.specs.Made.{EndsAs}
 use Rattle.ep_stands.specs.Stands.{StandBefore}
 use Rattle.ep_stands.proofs.Sessions.{placed}

@@ -22,7 +22,7 @@ use Rattle.ep_judge.specs.declared.tables.Tables.{Tables}
 use Rattle.ep_judge.specs.Tables.{number_of}
 use Rattle.ep_judge.proofs.Found.{All-at}
 use Rattle.ep_kept.specs.Kept.{SlotFollows, PoolFollows}
-use Rattle.ep_told.specs.Kept.{RestFollows}
+use Rattle.ep_stream_laws.specs.Kept.{RestFollows}
 use Rattle.ep_made.specs.Made.{KeepsSessions, StandsAt, ChangesOne}
 use Rattle.ep_made.specs.Tied.{IsTied}
 use Rattle.ep_made.proofs.Lists.{All-each, All-set, All-one, All-remove, Apart}

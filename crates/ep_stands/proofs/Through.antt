@@ -20,8 +20,8 @@ use Rattle.ep_stream.specs.Telling.{IsTelling}
 use Rattle.ep_judge.specs.declared.tables.Present.{Present}
 use Rattle.ep_kept.specs.Changes.{changes_slot, changes_pool}
 use Rattle.ep_kept.specs.Kept.{SlotFollows, PoolFollows}
-use Rattle.ep_told.specs.Kept.{RestFollows}
-use Rattle.ep_told.specs.Makers.{is_made_by}
+use Rattle.ep_stream_laws.specs.Kept.{RestFollows}
+use Rattle.ep_stream_laws.specs.Makers.{is_made_by}
 use Rattle.ep_stands.specs.Stands.{SessionStands, is_for, KeepsSlot}
 
 -- ---- what is known of the steps below

@@ -37,7 +37,7 @@ use Rattle.ep_judge.specs.declared.tables.Present.{Present}
 use Rattle.ep_judge.specs.declared.tables.Tables.{Tables}
 use Rattle.ep_kept.specs.Changes.{changes_slot}
 use Rattle.ep_kept.specs.Kept.{SlotFollows, PoolFollows}
-use Rattle.ep_told.specs.Kept.{RestFollows}
+use Rattle.ep_stream_laws.specs.Kept.{RestFollows}
 use Rattle.ep_made.specs.Made.{MakesOpen, MakesSteal, MakesClose, MakesGive, MakesPoint, TellsIn}
 use Rattle.ep_made.specs.Tied.{IsTied}
 use Rattle.ep_made.proofs.Follow.{OwnRow, own_row}

@@ -22,8 +22,8 @@ use Rattle.ep_judge.specs.declared.tables.Tables.{Tables}
 use Rattle.ep_judge.specs.Tables.{TablesFollow}
 use Rattle.ep_made.specs.Tied.{AreTied}
 use Rattle.ep_kept.specs.Kept.{SlotFollows, PoolFollows}
-use Rattle.ep_told.specs.Kept.{RestFollows}
-use Rattle.ep_told.specs.Makers.{is_made_by}
+use Rattle.ep_stream_laws.specs.Kept.{RestFollows}
+use Rattle.ep_stream_laws.specs.Makers.{is_made_by}
 
 -- What a session that is present has on the rows, in its pool, in its memory and in its stream is what the steps so far
 -- say.

@@ -34,7 +34,7 @@ use ep_kept::laws::{
     a_slot_has_the_marks_of_its_close,
 };
 use ep_model::laws::{a_budget_can_be_counted, lawful_lists_are_limited};
-use ep_told::{
+use ep_stream_laws::{
     a_closed_thread_is_marked, a_new_session_keeps_nothing, a_point_forgets_closed_threads,
     an_opened_thread_is_named, entries_are_what_was_told, other_steps_change_nothing_kept,
     the_last_marks_are_all, what_is_given_back_is_not_in_hand, what_is_stolen_is_told,

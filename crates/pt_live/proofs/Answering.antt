@@ -15,8 +15,8 @@ use Rattle.ep_stream.specs.Session.{TookStart, fault_of, sink_of}
 use Rattle.ep_stream.specs.declared.session.Session.{Session}
 use Rattle.ep_stream.specs.declared.session.Fate.{Fate}
 use Rattle.ep_stream.specs.declared.session.Fate.TheVariants as fate
-use Rattle.ep_traced.specs.Traced.{AreMarks}
-use Rattle.ep_traced.specs.Tracing.{is_fault, TookTraced, TookTracedPart}
+use Rattle.ep_live_laws.specs.Traced.{AreMarks}
+use Rattle.ep_live_laws.specs.Tracing.{is_fault, TookTraced, TookTracedPart}
 use Rattle.pt_load.specs.Sample.{sample}
 use Rattle.pt_load.specs.declared.plan.Plan.{Plan}
 use Rattle.pt_live.specs.declared.trace.TraceEnd.{TraceEnd}

@@ -25,7 +25,7 @@ use Rattle.ep_stream.specs.Telling.{IsFaulty}
 use Rattle.ep_stream.proofs.Telling.{later_risen, risen_later}
 use Rattle.ep_live.proofs.Pushing.{same}
 use Rattle.ep_live.specs.RowSet.{LiveRowsState, expected_in, configured_in, out_in}
-use Rattle.ep_traced.specs.Tracing.{IsTracing}
+use Rattle.ep_live_laws.specs.Tracing.{IsTracing}
 use Rattle.pt_live.specs.state.Open.{AreHands, Goes, IsOpen, SaysFaults}
 use Rattle.pt_live.proofs.Hands.{hands-detached, hands-same, hands-swept}
 

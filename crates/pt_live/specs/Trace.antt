@@ -7,7 +7,7 @@ use Rattle.ep_defs.specs.declared.session.TraceInfo.{TraceInfo}
 use Rattle.ep_defs.specs.declared.session.Write.{Write}
 use Rattle.ep_stream.specs.declared.session.Fate.{Fate}
 use Rattle.ep_stream.specs.declared.session.Fate.TheVariants as fate
-use Rattle.ep_traced.specs.Tracing.{TookTraced, TookTracedPart}
+use Rattle.ep_live_laws.specs.Tracing.{TookTraced, TookTracedPart}
 use Rattle.pt_load.specs.Sample.{nth, sample}
 use Rattle.pt_load.specs.declared.plan.Plan.{Plan}
 

@@ -10,11 +10,11 @@ ghost use Rattle.pt_live.specs.state.Open.{Goes, HasTracedAny, IsOpen};
 use crate::run::{Around, Run};
 use ep_defs::EventDef;
 use ep_live::{LiveRows, same_tests_have_the_same_stands};
-use ep_stream::Session;
-use ep_traced::{
+use ep_live_laws::{
     a_call_that_takes_nothing_changes_no_trace, a_closed_row_is_traced, a_sweep_is_traced,
     an_opened_row_is_traced,
 };
+use ep_stream::Session;
 use pt_io::{Clock, Gate, Moment, Sink};
 use pt_load::laws::sample_events_are_valid;
 use std::alloc::Global;

@@ -9,8 +9,8 @@ use Rattle.ep_defs.specs.Entry.{Entry}
 use Rattle.ep_defs.specs.Session.{standard_info_of}
 use Rattle.ep_stream.specs.declared.session.Fate.{Fate}
 use Rattle.ep_stream.specs.declared.session.Fate.TheVariants as fates
-use Rattle.ep_traced.specs.Streams.{IsTraceOf}
-use Rattle.ep_traced.specs.Traced.{AreTraced}
+use Rattle.ep_live_laws.specs.Streams.{IsTraceOf}
+use Rattle.ep_live_laws.specs.Traced.{AreTraced}
 use Rattle.nt_write.specs.Canonical.{IsCanonical}
 use Rattle.pt_live.specs.Trace.{writes_of, AreWhole, HasMarks, TookTrace}
 use Rattle.pt_load.specs.Sample.{sample}

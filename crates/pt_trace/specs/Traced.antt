@@ -2,7 +2,7 @@
 use Rattle.std.specs.Prelude.{◌≡◌, ℕ, Bool, List, ◌++◌, IsTrue}
 use Rattle.ep_defs.specs.declared.session.Marks.{Marks}
 use Rattle.ep_defs.specs.Session.{standard_info_of}
-use Rattle.ep_traced.specs.Streams.{IsTraceOf}
+use Rattle.ep_live_laws.specs.Streams.{IsTraceOf}
 use Rattle.pt_load.specs.Sample.{sample}
 use Rattle.pt_live.specs.Trace.{writes_of, AreWhole}
 use Rattle.pt_trace.specs.declared.words.Asked.{Asked}

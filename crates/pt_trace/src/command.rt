@@ -2,7 +2,7 @@
 ghost use Rattle.std.specs.Prelude.{◌≡◌, ◌≢◌, ◌<◌, ℕ, true, IfOk, OnErr};
 ghost use Rattle.ep_defs.specs.Session.{standard_info_of};
 ghost use Rattle.ep_stream.specs.declared.session.Fate.TheVariants as fates;
-ghost use Rattle.ep_traced.specs.Tracing.{is_fault};
+ghost use Rattle.ep_live_laws.specs.Tracing.{is_fault};
 ghost use Rattle.nt_write.specs.declared.limits.TheConstants.{FRAMED_EVENTS};
 ghost use Rattle.pt_io.specs.Faults.{HasRisen};
 ghost use Rattle.pt_live.specs.Trace.{rows_of, taken_of, HasMarks, TookAny, TookSome};
@@ -11,7 +11,7 @@ ghost use Rattle.pt_trace.specs.Traced.{TookWhole};
 
 use crate::words::Asked;
 use ep_defs::standard_info;
-use ep_traced::a_traced_stream_is_found;
+use ep_live_laws::a_traced_stream_is_found;
 use pt_io::{Clock, Gate, Sink};
 use pt_live::{TraceEnd, run_trace};
 use std::alloc::{AllocError, Global};

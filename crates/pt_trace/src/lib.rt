@@ -2,7 +2,7 @@
 //!
 //! `words` reads the command line; `command` runs the sample program with a session over it, whose stream an output takes.
 //! It stands on pt_live, for the run with threads, ep_auto, for the start-up text of a session, ipc_body, for a budget in
-//! megabytes, ep_traced, for what a stream tells of running threads, ep_stream, for how a session ends, pt_load, for the
+//! megabytes, ep_live_laws, for what a stream tells of running threads, ep_stream, for how a session ends, pt_load, for the
 //! sample program, ep_plan and pt_words, for words, pt_io, for outputs, clocks and gates, and ep_defs, for the types. Which
 //! words these are is defined in `specs/Words`, and what the output took for them in `specs/Traced`.
 //!

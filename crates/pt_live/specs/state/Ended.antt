@@ -9,8 +9,8 @@ use Rattle.nt_write.specs.declared.limits.TheConstants.{FRAMED_EVENTS}
 use Rattle.pt_io.specs.Faults.{HasRisen}
 use Rattle.ep_stream.specs.declared.session.Fate.{Fate}
 use Rattle.ep_stream.specs.declared.session.Fate.TheVariants as fate
-use Rattle.ep_traced.specs.Traced.{AreMarks}
-use Rattle.ep_traced.specs.Tracing.{is_fault, TookTraced, TookTracedPart}
+use Rattle.ep_live_laws.specs.Traced.{AreMarks}
+use Rattle.ep_live_laws.specs.Tracing.{is_fault, TookTraced, TookTracedPart}
 use Rattle.pt_live.specs.Trace.{taken_of}
 
 -- A session that was open on so many rows has ended: its marks, its fate, and what its sink took.

@@ -6,7 +6,7 @@ use Rattle.ep_defs.specs.declared.session.TraceInfo.{TraceInfo}
 use Rattle.nt_write.specs.declared.limits.TheConstants.{FRAMED_EVENTS}
 use Rattle.pt_io.specs.Faults.{HasRisen}
 use Rattle.ep_stream.specs.declared.session.Fate.TheVariants as fate
-use Rattle.ep_traced.specs.Tracing.{is_fault}
+use Rattle.ep_live_laws.specs.Tracing.{is_fault}
 use Rattle.pt_load.specs.Sample.{sample}
 use Rattle.pt_load.specs.Shape.{Drafted}
 use Rattle.pt_load.specs.declared.plan.Plan.{Plan}

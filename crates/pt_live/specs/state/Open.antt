@@ -11,7 +11,7 @@ use Rattle.pt_io.specs.Faults.{HasRisen}
 use Rattle.ep_stream.specs.declared.session.Session.{Session}
 use Rattle.ep_stream.specs.Session.{hand_on, rest_of, fault_of, sink_of, AreRowsOf}
 use Rattle.ep_live.specs.RowSet.{LiveRowsState, expected_in, configured_in, out_in}
-use Rattle.ep_traced.specs.Tracing.{IsTracing}
+use Rattle.ep_live_laws.specs.Tracing.{IsTracing}
 
 -- ---- the rows on which it is open
 

@@ -3,8 +3,8 @@ use Rattle.std.specs.List.{AllByRecursion}
 use Rattle.ep_defs.specs.declared.limits.TheConstants.{WRITES}
 use Rattle.nt_write.specs.declared.limits.TheConstants.{FRAMED_EVENTS}
 use Rattle.ep_stream.specs.declared.session.Fate.TheVariants as fate
-use Rattle.ep_traced.specs.Traced.{AreMarks}
-use Rattle.ep_traced.specs.Tracing.{TookTraced, TookTracedPart}
+use Rattle.ep_live_laws.specs.Traced.{AreMarks}
+use Rattle.ep_live_laws.specs.Tracing.{TookTraced, TookTracedPart}
 use Rattle.pt_live.specs.Trace.{IsWhole, taken_of}
 use Rattle.pt_live.proofs.Load.{count-writes}
 use Rattle.pt_live.proofs.Ending.{closed-hands, closed-expected, none-out, ends-well}

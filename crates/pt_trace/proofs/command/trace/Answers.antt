@@ -3,7 +3,7 @@ use Rattle.std.proofs.Common.{◌≡◌, true, Ok, Err, Result}
 use Rattle.std.specs.Prelude.{IfOk, OnErr}
 use Rattle.ep_defs.specs.declared.session.TraceInfo.{TraceInfo}
 use Rattle.ep_stream.specs.declared.session.Fate.TheVariants as fates
-use Rattle.ep_traced.specs.Tracing.{is_fault}
+use Rattle.ep_live_laws.specs.Tracing.{is_fault}
 use Rattle.pt_live.specs.Trace.{HasMarks, TookAny, TookSome, TookTrace}
 use Rattle.pt_live.specs.declared.TraceEnd.{TraceEnd}
 use Rattle.pt_trace.specs.Traced.{TookWhole}

@@ -1,5 +1,0 @@
-use Rattle.ep_told.proofs.Steps.{pointed_follows}
-use Rattle.ep_told.proofs.laws.a_point_forgets_closed_threads.Goals as goal
-
-pub returns : goal.returns
-returns c = pointed_follows

@@ -1,5 +1,0 @@
-use Rattle.ep_told.proofs.Steps.{opened_follows}
-use Rattle.ep_told.proofs.laws.an_opened_thread_is_named.Goals as goal
-
-pub returns : goal.returns
-returns c = opened_follows

@@ -1,5 +1,0 @@
-use Rattle.ep_traced.proofs.Calls.{tracing-started}
-use Rattle.ep_traced.proofs.laws.a_session_starts_with_no_trace.Goals as goal
-
-pub returns : goal.returns
-returns g c = tracing-started g.S.Sink.tells_taken g.S.Sink.taken
