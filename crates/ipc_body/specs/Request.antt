@@ -1,6 +1,6 @@
 -- What the body of a request says, and which bodies are refused (the DOTNET_IPC_V1 protocol document of
 -- dotnet/diagnostics, "Commands"; each refusal but that of a body that is cut is this project's profile).
-use Rattle.std.specs.Prelude.{ℕ, zero, suc, ◌*◌, Bool, true, false, ◌&&◌, List, [], ◌∷◌, length, min, Result, Ok, Err, nat_lt, ◌==◌, if◌then◌else◌}
+use Rattle.std.specs.Prelude.{ℕ, zero, suc, ◌*◌, Bool, true, false, ◌&&◌, ◌||◌, List, [], ◌∷◌, length, min, Result, Ok, Err, nat_lt, ◌==◌, if◌then◌else◌}
 use Rattle.std.specs.List.{list_all}
 use Rattle.std.specs.Int.{w32, w64, is_in_range}
 use Rattle.pt_num.specs.Fields.{Field, fixed_at, text_c_at}
@@ -115,6 +115,12 @@ collect_of has_rundown has_stackwalk body = do
   granted ← hold (can_grant wish.0)
   rules ← whole_providers wish.0.count wish.1
   Ok (request.Collect (config_of wish.0 rules))
+
+-- A session is asked for, in one of three forms: the only command whose body takes memory to read.
+abbrev pub is_collect : ℕ → ℕ → Bool
+is_collect set command =
+    (set == EVENT_PIPE)
+    && ((command == COLLECT_TRACING) || (command == COLLECT_TRACING2) || (command == COLLECT_TRACING3))
 
 -- ---- the other requests
 

@@ -2,9 +2,10 @@
 
 ghost use Rattle.std.specs.Prelude.{◌≡◌, ◌≢◌, ◌≤◌, Ok, Err, length, drop, IfOk, IsTrue};
 ghost use Rattle.ipc_body.specs.declared.request.RequestFault.TheVariants.{BadEncoding, UnknownCommand, OutOfMemory};
+ghost use Rattle.ipc_body.specs.declared.commands.TheConstants.{EVENT_PIPE};
 ghost use Rattle.ipc_body.specs.Read.{Answers, Reads, ReadsAt};
 ghost use Rattle.ipc_body.specs.Request as asked;
-ghost use Rattle.ipc_body.specs.Request.{request_of, is_valid_request};
+ghost use Rattle.ipc_body.specs.Request.{request_of, is_collect, is_valid_request};
 
 use crate::commands::{
     COLLECT_TRACING, COLLECT_TRACING2, COLLECT_TRACING3, EVENT_PIPE, NETTRACE, PROCESS,
@@ -66,7 +67,8 @@ struct Wish {
 
 /// The request that this command of this set makes, with this body.
 ///
-/// A body is read in time that grows with its length alone, whatever counts it claims.
+/// A body is read in time that grows with its length alone, whatever counts it claims. Only a request for a session
+/// takes memory.
 pub fn read_request(
     alloc: Global,
     set: u8,
@@ -75,6 +77,7 @@ pub fn read_request(
 ) -> Result<Request, RequestFault>
     ensures exact { Answers (request_of set command body.now) result }
     ensures valid { IfOk result (λ request. IsTrue (is_valid_request request)) }
+    ensures memory { result ≡ Err OutOfMemory → IsTrue (is_collect set command) }
 {
     if set == EVENT_PIPE {
         read_event_pipe(alloc, command, body)
@@ -88,6 +91,7 @@ pub fn read_request(
 fn read_event_pipe(alloc: Global, command: u8, body: &[u8]) -> Result<Request, RequestFault>
     ensures exact { Answers (asked.event_pipe_of command body.now) result }
     ensures valid { IfOk result (λ request. IsTrue (is_valid_request request)) }
+    ensures memory { result ≡ Err OutOfMemory → IsTrue (is_collect EVENT_PIPE command) }
 {
     if command == STOP_TRACING {
         read_stop(body)
@@ -105,6 +109,7 @@ fn read_event_pipe(alloc: Global, command: u8, body: &[u8]) -> Result<Request, R
 fn read_info(body: &[u8]) -> Result<Request, RequestFault>
     ensures exact { result ≡ asked.info_of body.now }
     ensures valid { IfOk result (λ request. IsTrue (is_valid_request request)) }
+    ensures known { result ≢ Err OutOfMemory }
 {
     if !body.is_empty() {
         return Err(RequestFault::BadEncoding);
@@ -115,6 +120,7 @@ fn read_info(body: &[u8]) -> Result<Request, RequestFault>
 fn read_stop(body: &[u8]) -> Result<Request, RequestFault>
     ensures exact { result ≡ asked.stop_of body.now }
     ensures valid { IfOk result (λ request. IsTrue (is_valid_request request)) }
+    ensures known { result ≢ Err OutOfMemory }
 {
     match take_u64(body) {
         Some(id) if body.len() == 8 => Ok(Request::Stop { id }),

@@ -1,9 +1,9 @@
 -- How what a link gave, and what an output took of it, grows by a read.
-use Rattle.std.proofs.Common.{◌≡◌, ℕ, ◌+◌, ◌-◌, ◌≤◌, ◌⊎◌, inl, inr, Bool, List, [], ◌++◌, length, take, IsTrue, refl, sym, ◌∙◌, ap, append_assoc, arith, length-append}
-use Rattle.std.proofs.lemmas.List.{append-nil, take_all}
-use Rattle.std.proofs.Math.Seq.{take-append_seam}
+use Rattle.std.proofs.Common.{◌≡◌, ℕ, Bool, List, ◌++◌, take, drop, IsTrue, sym, ◌∙◌, ap, append_assoc}
+use Rattle.std.proofs.lemmas.List.{take-append-drop, append_cancel_left}
 use Rattle.pt_io.specs.Taken.{IsPrefix, TookPartOf, TookAll, TookPart}
-use Rattle.ipc_call.specs.Given.{Gave, IsFull}
+use Rattle.ipc_take.specs.Own.{own_size, own_bytes, later_bytes}
+use Rattle.ipc_take.specs.Given.{Gave}
 
 -- What a link gave and what it gave then.
 pub gave-more : {L : Type 0} (tells : L → Bool) (given left : L → List ℕ) (old now new : L) (bytes more : List ℕ) → tells now ≡ tells old
@@ -15,18 +15,6 @@ gave-more tells given left old now new bytes more told gave g l t =
       g u ∙ ap (λ (xs : List ℕ). xs ++ more) (gave t).0 ∙ append_assoc (given old) bytes more,
       (gave t).1 ∙ ap (λ (xs : List ℕ). bytes ++ xs) (l u) ∙ sym (append_assoc bytes more (left new)),
     )
-
--- The front of what a link had, where this many bytes came or all.
-pub front-taken : (bytes rest : List ℕ) (count : ℕ) → length bytes ≤ count → (length bytes ≡ count) ⊎ (rest ≡ []) → take count (bytes ++ rest) ≡ bytes
-front-taken bytes rest count few (inl e) = rw (← e) (take-append_seam bytes rest)
-front-taken bytes rest count few (inr e) = rw (e, append-nil bytes) (take_all count bytes few)
-
--- This many bytes were read and this many are lacking.
-pub record HasRead {L : Type 0} (tells : L → Bool) (given left : L → List ℕ) (old now : L) (before bytes : List ℕ) (count lacking : ℕ) : Type 0 where
-  pub more : List ℕ
-  pub grown : bytes ≡ before ++ more
-  pub counted : length more + lacking ≡ count
-  pub gave : Gave tells given left old now more
 
 -- The output took what the link gave.
 pub record HasCopied {L O : Type 0} (tells : L → Bool) (given left : L → List ℕ) (old now : L) (tells_taken : O → Bool) (taken : O → List ℕ) (out out' : O) : Type 0 where
@@ -44,3 +32,17 @@ took-part-more tells taken old now new bytes piece told all wrote t =
       (p.1.0, append_assoc bytes p.0 p.1.0 ∙ ap (λ (xs : List ℕ). bytes ++ xs) p.1.1),
       p.2 ∙ ap (λ (xs : List ℕ). xs ++ p.0) (all t) ∙ append_assoc (taken old) bytes p.0,
     )
+
+-- What stands after the front is the rest.
+rest-is : (bytes rest : List ℕ) (n : ℕ) → bytes ≡ take n bytes ++ rest → rest ≡ drop n bytes
+rest-is bytes rest n e = append_cancel_left (take n bytes) rest (drop n bytes) (sym e ∙ sym (take-append-drop n bytes))
+
+-- An output that took a part of what the link gave after the reply took a part of all that comes after it.
+pub part-later : {L O : Type 0} (tells : L → Bool) (given left : L → List ℕ) (old mid new : L) (tells_taken : O → Bool) (taken : O → List ℕ) (out out' : O) (more : List ℕ)
+    → Gave tells given left old mid (own_bytes (left old)) → tells mid ≡ tells old → Gave tells given left mid new more
+    → TookPart tells_taken taken out out' more → IsTrue (tells old) → TookPart tells_taken taken out out' (later_bytes (left old))
+part-later tells given left old mid new tells_taken taken out out' more gave told gave' took t s =
+    let u : IsTrue (tells mid) = rw told t in
+    let later : left mid ≡ later_bytes (left old) = rest-is (left old) (left mid) (own_size (left old)) (gave t).1 in
+    let p = took s in
+    (p.0, (p.1.0 ++ left new, sym (append_assoc p.0 p.1.0 (left new)) ∙ ap (λ (xs : List ℕ). xs ++ left new) p.1.1 ∙ sym (gave' u).1 ∙ later), p.2)

@@ -1,4 +1,2 @@
--- What a reader must believe.
-pub mod Own
--- What a call read and answers.
-pub mod Given
+-- Why a call has no result.
+pub mod Fault

@@ -1,18 +1,14 @@
 //! One request, and the reply to it.
-ghost use Rattle.std.specs.Prelude.{◌≡◌, ◌≢◌, ◌+◌, ◌++◌, ◌⊎◌, ℕ, List, length, IsTrue, IfOk, IfErr, OnOk, OnErr, Ok, Err};
-ghost use Rattle.pt_io.specs.Faults.{HasRisen};
+ghost use Rattle.std.specs.Prelude.{◌≡◌, ◌≢◌, ◌++◌, ◌⊎◌, ℕ, IsTrue, IfOk, IfErr, OnOk, Ok, Err};
 ghost use Rattle.pt_io.specs.Taken.{TookAll, TookPart};
-ghost use Rattle.ipc_frame.specs.Message.{found};
 ghost use Rattle.ipc_body.specs.Reply.{reply_of, IsReplyTo};
-ghost use Rattle.ipc_call.specs.Own.{said_size, own_bytes};
-ghost use Rattle.ipc_call.specs.Given.{Gave, HasFailed, IsSound};
+ghost use Rattle.ipc_take.specs.Own.{own_bytes};
+ghost use Rattle.ipc_take.specs.Given.{Gave, HasFailed, IsSound};
 ghost use Rattle.ipc_call.specs.declared.fault.CallFault.TheVariants.{BadReply, LinkFault, OutOfMemory};
 
 use crate::fault::CallFault;
-use crate::pieces::read_more;
 use ipc_body::{Reply, ReplyFault, read_reply};
-use ipc_frame::limits::HEADER_BYTES;
-use ipc_frame::{Framed, take_message};
+use ipc_take::receive;
 use pt_io::{Failed, Link};
 use std::alloc::Global;
 
@@ -54,35 +50,5 @@ pub(crate) fn ask<L: Link>(
         Ok(reply) => Ok(reply),
         Err(ReplyFault::Bad { at }) => Err(CallFault::BadReply { at }),
         Err(ReplyFault::OutOfMemory) => Err(CallFault::OutOfMemory),
-    }
-}
-
-// Reads the bytes of a reply, or as many of them as come before the link ends.
-fn receive<L: Link>(alloc: Global, link: &mut L) -> Result<Vec<u8>, CallFault>
-    ensures own { IsTrue (L.tells_given link.old)
-        → IfOk result (λ bytes. bytes.items ≡ own_bytes (L.left link.old)) }
-    ensures gave { IfOk result (λ bytes. Gave L.tells_given L.given L.left link.old link.new bytes.items) }
-    ensures told { L.tells_given link.new ≡ L.tells_given link.old }
-    ensures whole { IsTrue (L.tells_given link.old)
-        → L.given link.new ++ L.left link.new ≡ L.given link.old ++ L.left link.old }
-    ensures fault { result ≡ Err LinkFault → HasRisen (L.read_faults link.old) (L.read_faults link.new) }
-    ensures sound { result ≢ Err LinkFault → L.read_faults link.new ≡ L.read_faults link.old }
-    ensures only { OnErr result ((result ≡ Err LinkFault) ⊎ (result ≡ Err OutOfMemory)) }
-    ensures writes { L.write_side link.new ≡ L.write_side link.old }
-{
-    let mut bytes = Vec::new(alloc);
-    read_more(link, &mut bytes, HEADER_BYTES)?;
-    let lacking = lacking_bytes(&bytes);
-    read_more(link, &mut bytes, lacking)?;
-    Ok(bytes)
-}
-
-// How many bytes the message of this header has after it.
-fn lacking_bytes(head: &[u8]) -> usize
-    ensures { length head.now + result ≡ said_size head.now (found head.now) }
-{
-    match take_message(head) {
-        Framed::Need(more) => more,
-        Framed::Message { .. } | Framed::BadMagic | Framed::BadSize(_) => 0,
     }
 }

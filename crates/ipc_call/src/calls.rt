@@ -6,13 +6,13 @@ ghost use Rattle.ipc_frame.specs.declared.limits.TheConstants.{MESSAGE_BYTES};
 ghost use Rattle.ipc_body.specs.Asking.{collect_request, stop_request, info_request};
 ghost use Rattle.ipc_body.specs.Reply.{reply_of, IsReplyTo};
 ghost use Rattle.ipc_body.specs.declared.reply.Reply.TheVariants as replies;
-ghost use Rattle.ipc_call.specs.Own.{own_bytes, later_bytes};
-ghost use Rattle.ipc_call.specs.Given.{Gave, HasFailed, IsSound};
+ghost use Rattle.ipc_take.specs.Own.{own_bytes, later_bytes};
+ghost use Rattle.ipc_take.specs.Given.{Gave, HasFailed, IsSound};
 ghost use Rattle.ipc_call.specs.declared.fault.CallFault.TheVariants.{PeerError, BadReply, LinkFault, WriteFault};
 
 use crate::ask::ask;
 use crate::fault::CallFault;
-use crate::pieces::copy;
+use crate::stream::copy;
 use ipc_body::{Asked, ProcessInfo, Reply, put_collect, put_info, put_stop};
 use pt_io::{Link, Sink};
 use std::alloc::Global;

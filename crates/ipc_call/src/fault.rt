@@ -1,7 +1,9 @@
 //! Why a call of a peer has no result.
 ghost use Rattle.std.specs.Prelude.{◌≡◌};
 ghost use Rattle.ipc_call.specs.declared.fault.CallFault.TheVariants.{OutOfMemory};
+ghost use Rattle.ipc_call.specs.Fault.{fault_of};
 
+use ipc_take::Lack;
 use std::alloc::AllocError;
 use thiserror::Error;
 
@@ -30,5 +32,16 @@ impl From<AllocError> for CallFault {
 
     fn from(_error: AllocError) -> CallFault {
         CallFault::OutOfMemory
+    }
+}
+
+impl From<Lack> for CallFault {
+    ghost from_gives = { λ lack fault. fault ≡ fault_of lack };
+
+    fn from(lack: Lack) -> CallFault {
+        match lack {
+            Lack::LinkFault => CallFault::LinkFault,
+            Lack::OutOfMemory => CallFault::OutOfMemory,
+        }
     }
 }

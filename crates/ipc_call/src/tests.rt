@@ -1,8 +1,8 @@
 use crate::{CallFault, collect, info, stop};
 use ep_defs::{Rule, Units};
-use ipc_body::{Asked, collect_size};
+use ipc_body::{Asked, ProcessInfo, collect_size};
 use pt_io::{MemLink, MemSink, MemSource};
-use std::alloc::Global;
+use std::alloc::{AllocError, Global};
 use std::test::Fail;
 
 // The replies and the request of the worked examples, byte by byte.
@@ -18,13 +18,28 @@ const PROGRAM: [u8; 78] =
 
 const STREAM: [u8; 40] = [7; 40];
 
-// A link that gives these bytes, ten at most in a read.
-fn link_of(bytes: Vec<u8>, reads: Vec<u64>, writes: Vec<u64>) -> MemLink {
-    MemLink::new(MemSource::new(bytes, 10, reads), MemSink::new(writes))
+// What a call answered, what its link took, and what the output took.
+#[derive(Drop)]
+struct Told {
+    answer: Result<u64, CallFault>,
+    request: Vec<u8>,
+    output: Vec<u8>,
 }
 
-// Asks for a session of one megabyte with the rule `P:1:4`.
-fn collect_one(alloc: Global, link: &mut MemLink, output: &mut MemSink) -> Result<u64, CallFault> {
+// A link that gives these bytes, this many at most in a read, and fails at these reads and writes.
+fn link_of(
+    alloc: Global,
+    bytes: &[u8],
+    most: usize,
+    reads: &[u64],
+    writes: &[u64],
+) -> Result<MemLink, AllocError> {
+    let source = MemSource::new(bytes.to_vec(alloc)?, most.max(1), reads.to_vec(alloc)?);
+    Ok(MemLink::new(source, MemSink::new(writes.to_vec(alloc)?)))
+}
+
+// Asks for a session of one megabyte with the rule `P:1:4`, over an output that fails at these writes.
+fn collect_one(alloc: Global, mut link: MemLink, fails: &[u64]) -> Result<Told, AllocError> {
     let name = Units::new([80].to_vec(alloc)?);
     let rules = [Rule {
         name,
@@ -35,15 +50,48 @@ fn collect_one(alloc: Global, link: &mut MemLink, output: &mut MemSink) -> Resul
         megabytes: 1,
         rules: &rules,
     };
-    match collect_size(&asked) {
-        Some(_) => collect(alloc, link, &asked, output),
+    let mut output = MemSink::new(fails.to_vec(alloc)?);
+    let answer = match collect_size(&asked) {
+        Some(_) => collect(alloc, &mut link, &asked, &mut output),
         None => Err(CallFault::OutOfMemory),
+    };
+    Ok(Told {
+        answer,
+        request: link.taken().to_vec(alloc)?,
+        output: output.taken().to_vec(alloc)?,
+    })
+}
+
+// Asks for the end of the session of this id.
+fn stop_one(alloc: Global, mut link: MemLink, id: u64) -> Result<Told, AllocError> {
+    let answer = stop(alloc, &mut link, id);
+    Ok(Told {
+        answer,
+        request: link.taken().to_vec(alloc)?,
+        output: Vec::new(alloc),
+    })
+}
+
+// Asks a program that answers with these bytes what it is.
+fn info_of(alloc: Global, bytes: &[u8]) -> Result<Result<ProcessInfo, CallFault>, AllocError> {
+    let mut link = link_of(alloc, bytes, 10, &[], &[])?;
+    let told = info(alloc, &mut link);
+    if told.is_ok() && link.taken() != b"DOTNET_IPC_V1\0\x14\0\x04\0\0\0".as_slice() {
+        return Ok(Err(CallFault::LinkFault));
     }
+    Ok(told)
 }
 
 // Why a program that answers with these bytes says nothing of itself.
-fn info_fault(alloc: Global, bytes: Vec<u8>) -> Option<CallFault> {
-    info(alloc, &mut link_of(bytes, Vec::new(alloc), Vec::new(alloc))).err()
+fn info_fault(alloc: Global, bytes: &[u8]) -> Result<Option<CallFault>, AllocError> {
+    Ok(info_of(alloc, bytes)?.err())
+}
+
+// The reply about session 1, and a stream of 40 bytes.
+fn session_and_stream(alloc: Global) -> Result<Vec<u8>, AllocError> {
+    let mut bytes = SESSION.to_vec(alloc)?;
+    bytes.extend_from_slice(&STREAM)?;
+    Ok(bytes)
 }
 
 // What is wrong with the reply of 78 bytes where its header says this size: below the header's own 20 bytes the size, and else
@@ -61,13 +109,11 @@ fn fault_of_size(size: u8) -> Option<CallFault> {
 #[test]
 fn collect_sends_57_bytes_and_copies_the_stream(rt: HostRuntime) -> Result<(), Fail> {
     let alloc = rt.alloc();
-    let mut bytes = SESSION.to_vec(alloc)?;
-    bytes.extend_from_slice(&STREAM)?;
-    let mut link = link_of(bytes, Vec::new(alloc), Vec::new(alloc));
-    let mut output = MemSink::new(Vec::new(alloc));
-    assert_eq!(rt; collect_one(alloc, &mut link, &mut output), Ok(1));
-    assert_eq!(rt; link.taken(), COLLECT.as_slice());
-    assert_eq!(rt; output.taken(), STREAM.as_slice());
+    let bytes = session_and_stream(alloc)?;
+    let told = collect_one(alloc, link_of(alloc, &bytes, 10, &[], &[])?, &[])?;
+    assert_eq!(rt; told.answer, Ok(1));
+    assert_eq!(rt; told.request.as_slice(), COLLECT.as_slice());
+    assert_eq!(rt; told.output.as_slice(), STREAM.as_slice());
     Ok(())
 }
 
@@ -76,13 +122,8 @@ fn a_stream_of_ten_megabytes_is_copied(rt: HostRuntime) -> Result<(), Fail> {
     let alloc = rt.alloc();
     let mut bytes = SESSION.to_vec(alloc)?;
     bytes.resize(10_000_028, 7)?;
-    let mut link = MemLink::new(
-        MemSource::new(bytes, 65_536, Vec::new(alloc)),
-        MemSink::new(Vec::new(alloc)),
-    );
-    let mut output = MemSink::new(Vec::new(alloc));
-    assert_eq!(rt; collect_one(alloc, &mut link, &mut output), Ok(1));
-    assert_eq!(rt; output.taken().len(), 10_000_000);
+    let told = collect_one(alloc, link_of(alloc, &bytes, 65_536, &[], &[])?, &[])?;
+    assert_eq!(rt; (told.answer, told.output.len()), (Ok(1), 10_000_000));
     Ok(())
 }
 
@@ -90,10 +131,9 @@ fn a_stream_of_ten_megabytes_is_copied(rt: HostRuntime) -> Result<(), Fail> {
 fn a_reply_cut_short_is_bad_at_its_end(rt: HostRuntime) -> Result<(), Fail> {
     let alloc = rt.alloc();
     for count in 0..28 {
-        let cut = SESSION[..count].to_vec(alloc)?;
-        let mut link = link_of(cut, Vec::new(alloc), Vec::new(alloc));
+        let told = stop_one(alloc, link_of(alloc, &SESSION[..count], 10, &[], &[])?, 1)?;
         let at = count as u64;
-        assert_eq!(rt; stop(alloc, &mut link, 1), Err(CallFault::BadReply { at }));
+        assert_eq!(rt; told.answer, Err(CallFault::BadReply { at }));
     }
     Ok(())
 }
@@ -106,11 +146,8 @@ fn a_reply_with_a_byte_over_is_bad_there(rt: HostRuntime) -> Result<(), Fail> {
     if let Some(size) = bytes.get_mut(14) {
         *size = 29;
     }
-    let mut link = link_of(bytes, Vec::new(alloc), Vec::new(alloc));
-    assert_eq!(rt;
-        stop(alloc, &mut link, 1),
-        Err(CallFault::BadReply { at: 28 })
-    );
+    let told = stop_one(alloc, link_of(alloc, &bytes, 10, &[], &[])?, 1)?;
+    assert_eq!(rt; told.answer, Err(CallFault::BadReply { at: 28 }));
     Ok(())
 }
 
@@ -118,22 +155,20 @@ fn a_reply_with_a_byte_over_is_bad_there(rt: HostRuntime) -> Result<(), Fail> {
 fn an_error_reply_is_the_peers_error(rt: HostRuntime) -> Result<(), Fail> {
     let alloc = rt.alloc();
     let refused = CallFault::PeerError { code: 0x8000_4005 };
-    let mut link = link_of(REFUSED.to_vec(alloc)?, Vec::new(alloc), Vec::new(alloc));
-    assert_eq!(rt; stop(alloc, &mut link, 7), Err(refused));
-    let mut link = link_of(REFUSED.to_vec(alloc)?, Vec::new(alloc), Vec::new(alloc));
-    let mut output = MemSink::new(Vec::new(alloc));
-    assert_eq!(rt; collect_one(alloc, &mut link, &mut output), Err(refused));
-    assert_eq!(rt; output.taken(), [].as_slice());
+    let told = stop_one(alloc, link_of(alloc, &REFUSED, 10, &[], &[])?, 7)?;
+    assert_eq!(rt; told.answer, Err(refused));
+    let told = collect_one(alloc, link_of(alloc, &REFUSED, 10, &[], &[])?, &[])?;
+    assert_eq!(rt; (told.answer, told.output.len()), (Err(refused), 0));
     Ok(())
 }
 
 #[test]
 fn a_stop_is_answered_with_the_replys_id(rt: HostRuntime) -> Result<(), Fail> {
     let alloc = rt.alloc();
-    let mut link = link_of(SESSION.to_vec(alloc)?, Vec::new(alloc), Vec::new(alloc));
-    assert_eq!(rt; stop(alloc, &mut link, 7), Ok(1));
+    let told = stop_one(alloc, link_of(alloc, &SESSION, 10, &[], &[])?, 7)?;
+    assert_eq!(rt; told.answer, Ok(1));
     assert_eq!(rt;
-        link.taken(),
+        told.request.as_slice(),
         b"DOTNET_IPC_V1\0\x1c\0\x02\x01\0\0\x07\0\0\0\0\0\0\0".as_slice()
     );
     Ok(())
@@ -142,8 +177,7 @@ fn a_stop_is_answered_with_the_replys_id(rt: HostRuntime) -> Result<(), Fail> {
 #[test]
 fn a_program_says_what_it_is(rt: HostRuntime) -> Result<(), Fail> {
     let alloc = rt.alloc();
-    let mut link = link_of(PROGRAM.to_vec(alloc)?, Vec::new(alloc), Vec::new(alloc));
-    let Ok(program) = info(alloc, &mut link) else {
+    let Ok(program) = info_of(alloc, &PROGRAM)? else {
         panic!(rt; "no answer");
     };
     assert_eq!(rt; program.process_id, 1);
@@ -153,7 +187,6 @@ fn a_program_says_what_it_is(rt: HostRuntime) -> Result<(), Fail> {
     );
     assert_eq!(rt; program.command_line.as_slice(), [].as_slice());
     assert_eq!(rt; program.arch.as_slice(), [120, 54, 52].as_slice());
-    assert_eq!(rt; link.taken(), b"DOTNET_IPC_V1\0\x14\0\x04\0\0\0".as_slice());
     Ok(())
 }
 
@@ -162,8 +195,8 @@ fn a_programs_reply_cut_short_is_bad_at_its_end(rt: HostRuntime) -> Result<(), F
     let alloc = rt.alloc();
     for count in 0..78 {
         let at = count as u64;
-        let cut = PROGRAM[..count].to_vec(alloc)?;
-        assert_eq!(rt; info_fault(alloc, cut), Some(CallFault::BadReply { at }));
+        let fault = info_fault(alloc, &PROGRAM[..count])?;
+        assert_eq!(rt; fault, Some(CallFault::BadReply { at }));
     }
     Ok(())
 }
@@ -172,11 +205,9 @@ fn a_programs_reply_cut_short_is_bad_at_its_end(rt: HostRuntime) -> Result<(), F
 fn a_programs_reply_with_another_size_is_bad_there(rt: HostRuntime) -> Result<(), Fail> {
     let alloc = rt.alloc();
     for size in 0..=255 {
-        let mut bytes = PROGRAM.to_vec(alloc)?;
-        if let Some(low) = bytes.get_mut(14) {
-            *low = size;
-        }
-        assert_eq!(rt; info_fault(alloc, bytes), fault_of_size(size));
+        let mut bytes = PROGRAM;
+        bytes[14] = size;
+        assert_eq!(rt; info_fault(alloc, &bytes)?, fault_of_size(size));
     }
     Ok(())
 }
@@ -184,31 +215,26 @@ fn a_programs_reply_with_another_size_is_bad_there(rt: HostRuntime) -> Result<()
 #[test]
 fn each_read_and_write_fails_in_turn(rt: HostRuntime) -> Result<(), Fail> {
     let alloc = rt.alloc();
+    let bytes = session_and_stream(alloc)?;
     for number in 1..=9 {
-        let mut bytes = SESSION.to_vec(alloc)?;
-        bytes.extend_from_slice(&STREAM)?;
-        let mut link = link_of(bytes, vec![in alloc; number]?, Vec::new(alloc));
-        let mut output = MemSink::new(Vec::new(alloc));
+        let told = collect_one(alloc, link_of(alloc, &bytes, 10, &[number], &[])?, &[])?;
         let want = if number < 9 {
             Err(CallFault::LinkFault)
         } else {
             Ok(1)
         };
-        assert_eq!(rt; collect_one(alloc, &mut link, &mut output), want);
+        assert_eq!(rt; told.answer, want);
     }
     for number in 1..=5 {
-        let mut bytes = SESSION.to_vec(alloc)?;
-        bytes.extend_from_slice(&STREAM)?;
-        let mut link = link_of(bytes, Vec::new(alloc), Vec::new(alloc));
-        let mut output = MemSink::new(vec![in alloc; number]?);
+        let told = collect_one(alloc, link_of(alloc, &bytes, 10, &[], &[])?, &[number])?;
         let want = if number < 5 {
             Err(CallFault::WriteFault)
         } else {
             Ok(1)
         };
-        assert_eq!(rt; collect_one(alloc, &mut link, &mut output), want);
+        assert_eq!(rt; told.answer, want);
     }
-    let mut link = link_of(SESSION.to_vec(alloc)?, Vec::new(alloc), vec![in alloc; 1]?);
-    assert_eq!(rt; stop(alloc, &mut link, 1), Err(CallFault::LinkFault));
+    let told = stop_one(alloc, link_of(alloc, &SESSION, 10, &[], &[1])?, 1)?;
+    assert_eq!(rt; told.answer, Err(CallFault::LinkFault));
     Ok(())
 }

@@ -1,6 +1,6 @@
 -- The answer to the bytes of one connection, and the table of sessions after it (the DOTNET_IPC_V1 protocol document of
 -- dotnet/diagnostics; codes of findings and their order are this project's profile).
-use Rattle.std.specs.Prelude.{◌≡◌, ◌≢◌, ℕ, ◌⊎◌, List, Result, Ok, Err}
+use Rattle.std.specs.Prelude.{◌≡◌, ℕ, Bool, false, ◌⊎◌, List, Result, Ok, Err, IsTrue}
 use Rattle.pt_num.specs.Steps.{◌>>=◌}
 use Rattle.ep_defs.specs.declared.session.Config.{Config}
 use Rattle.ep_defs.specs.declared.session.Facts.{Facts}
@@ -14,7 +14,7 @@ use Rattle.ipc_body.specs.declared.request.Request.{Request}
 use Rattle.ipc_body.specs.declared.request.Request.TheVariants as request
 use Rattle.ipc_body.specs.declared.request.RequestFault.{RequestFault}
 use Rattle.ipc_body.specs.declared.request.RequestFault.TheVariants as fault
-use Rattle.ipc_body.specs.Request.{request_of}
+use Rattle.ipc_body.specs.Request.{request_of, is_collect}
 use Rattle.ipc_body.specs.Answering.{error_reply, session_reply, info_reply}
 use Rattle.ipc_serve.specs.declared.codes.TheConstants.{BAD_ENCODING, UNKNOWN_COMMAND, UNKNOWN_MAGIC, REFUSED, OUT_OF_MEMORY}
 use Rattle.ipc_serve.specs.Info.{info_of}
@@ -47,6 +47,15 @@ asked_by bytes = do
   message ← or_code gap_code (found bytes)
   or_code fault_code (request_of message.set message.command message.body)
 
+-- The message is one that asks for a session.
+abbrev pub asks_collect : Result Message Gap → Bool
+asks_collect (Err gap) = false
+asks_collect (Ok message) = is_collect message.set message.command
+
+-- Memory is needed to read a request for a session, and to describe the program: for nothing else.
+abbrev pub TakesMemory : List ℕ → Type 0
+TakesMemory bytes = IsTrue (asks_collect (found bytes)) ⊎ (asked_by bytes ≡ Ok request.Info)
+
 -- ---- what is answered
 
 -- An error with this code is answered.
@@ -63,6 +72,10 @@ abbrev pub ended : StopAnswer → Action
 ended (stopped.Ticket ticket) = action.Stop ticket (session_reply ticket.id)
 ended (stopped.NotLive id) = refused REFUSED
 
+-- The program describes itself.
+abbrev pub described : Facts → Action
+described facts = action.Info (info_reply (info_of facts))
+
 -- An answer and the table after it.
 pub record Decision : Type 0 where
   pub action : Action
@@ -74,7 +87,7 @@ answer facts table conn (request.Collect config) =
     record { action = started config (accepted_by table); table = after_accept table }
 answer facts table conn (request.Stop id) =
     record { action = ended (stop_answer table id conn); table = after_stop table id }
-answer facts table conn request.Info = record { action = action.Info (info_reply (info_of facts)); table = table }
+answer facts table conn request.Info = record { action = described facts; table = table }
 
 -- A refused request leaves the table as it was.
 abbrev pub answer_or_refuse : Facts → Sessions → ℕ → Result Request ℕ → Decision
@@ -85,11 +98,17 @@ answer_or_refuse facts table conn (Err code) = record { action = refused code; t
 unfoldable pub decision : Facts → Sessions → ℕ → List ℕ → Decision
 decision facts table conn bytes = answer_or_refuse facts table conn (asked_by bytes)
 
--- The answer and the table are those of the decision, unless memory is missing, which may come at any place: it is
--- answered with a code of its own, and the table stays.
+-- The answer and the table are those of the decision, unless memory is missing: it is answered with a code of its own,
+-- and the table stays.
 abbrev pub Decides : Decision → Sessions → Action → Sessions → Type 0
 Decides wanted old done new =
     ((done ≡ wanted.action) × (new ≡ wanted.table)) ⊎ ((done ≡ refused OUT_OF_MEMORY) × (new ≡ old))
+
+-- The same of a request that was read: only the description of the program still takes memory.
+abbrev pub DecidesOn : Request → Decision → Sessions → Action → Sessions → Type 0
+DecidesOn (request.Collect config) wanted old done new = (done ≡ wanted.action) × (new ≡ wanted.table)
+DecidesOn (request.Stop id) wanted old done new = (done ≡ wanted.action) × (new ≡ wanted.table)
+DecidesOn request.Info wanted old done new = Decides wanted old done new
 
 -- What holds after an error.
 abbrev pub OnError : Action → Type 0 → Type 0
@@ -100,4 +119,4 @@ OnError (action.Stop ticket reply) P = Unit {0}
 
 -- The description of the process, unless memory is missing.
 abbrev pub IsDescription : Facts → Action → Type 0
-IsDescription facts done = (done ≡ action.Info (info_reply (info_of facts))) ⊎ (done ≡ refused OUT_OF_MEMORY)
+IsDescription facts done = (done ≡ described facts) ⊎ (done ≡ refused OUT_OF_MEMORY)

@@ -1,18 +1,18 @@
 //! The decision on one connection.
 
-ghost use Rattle.std.specs.Prelude.{◌≡◌, ◌≢◌, ◌<◌, ◌^◌, Ok, Err, IsTrue, IfOk, MatchResult};
+ghost use Rattle.std.specs.Prelude.{◌≡◌, ◌<◌, ◌^◌, IsTrue};
 ghost use Rattle.ep_defs.specs.Session.{is_valid_facts};
 ghost use Rattle.ep_table.specs.Sessions.{accepted_by, after_accept, stop_answer, after_stop};
 ghost use Rattle.ipc_serve.specs.declared.codes.TheConstants.{OUT_OF_MEMORY};
 ghost use Rattle.ipc_serve.specs.Decision as wanted;
-ghost use Rattle.ipc_serve.specs.Decision.{Decides, OnError, IsDescription, asked_by, started, ended};
+ghost use Rattle.ipc_serve.specs.Decision.{Decides, DecidesOn, OnError, IsDescription, TakesMemory, started, ended};
 
-use crate::codes::{BAD_ENCODING, OUT_OF_MEMORY, REFUSED, UNKNOWN_COMMAND, UNKNOWN_MAGIC};
+use crate::asks::asked;
+use crate::codes::{OUT_OF_MEMORY, REFUSED};
 use crate::replies::{ERROR_BYTES, SESSION_BYTES, error_reply, info_reply, session_reply};
 use ep_defs::{Bytes, Config, Facts};
 use ep_table::{Accepted, StopAnswer, StopTicket, Table};
-use ipc_body::{Request, RequestFault, read_request};
-use ipc_frame::{Framed, take_message};
+use ipc_body::Request;
 use std::alloc::Global;
 
 /// What the server does with a connection, and the bytes that it replies.
@@ -43,50 +43,39 @@ pub enum Action {
 
 /// The answer to the bytes of this connection, which are the whole message or what came before the link ended.
 ///
-/// Bytes after the message are not looked at. Out of memory is answered with a code of its own.
+/// Bytes after the message are not looked at. Out of memory is answered with a code of its own, and only to what takes
+/// memory. A server whose table is behind a lock makes the same decision in two steps: `asked` before the lock is taken,
+/// and the table's call under it.
 #[tactic(auto, unfolding(crate::specs::Decision::decision))]
 pub fn decide(alloc: Global, table: &mut Table, facts: &Facts, conn: u32, bytes: &[u8]) -> Action
     requires next { table.old.next < 2 ^ 63 }
     requires valid { IsTrue (is_valid_facts facts.now) }
     ensures decided { Decides (wanted.decision facts.now table.old conn bytes.now) table.old result table.new }
     ensures error { OnError result (table.new ≡ table.old) }
+    ensures memory { result ≡ wanted.refused OUT_OF_MEMORY → TakesMemory bytes.now }
 {
     match asked(alloc, bytes) {
-        Ok(Request::Collect { config }) => start(table, config),
-        Ok(Request::Stop { id }) => stop(table, id, conn),
-        Ok(Request::Info) => describe(alloc, facts),
+        Ok(request) => answer(alloc, table, facts, conn, request),
         Err(code) => refused(code),
     }
 }
 
-// What the connection asks for, or the code with which it is refused.
-fn asked(alloc: Global, bytes: &[u8]) -> Result<Request, u32>
-    ensures { MatchResult result (λ request. asked_by bytes.now ≡ Ok request) (λ code. code ≢ OUT_OF_MEMORY
-        → asked_by bytes.now ≡ Err code) }
+/// The answer to a request of this connection. Only a description takes memory, and it leaves the table alone.
+pub fn answer(
+    alloc: Global,
+    table: &mut Table,
+    facts: &Facts,
+    conn: u32,
+    request: Request,
+) -> Action
+    requires next { table.old.next < 2 ^ 63 }
+    requires valid { IsTrue (is_valid_facts facts.now) }
+    ensures { DecidesOn request (wanted.answer facts.now table.old conn request) table.old result table.new }
 {
-    match take_message(bytes) {
-        Framed::Message {
-            set,
-            command,
-            body,
-            ..
-        } => match read_request(alloc, set, command, body) {
-            Ok(request) => Ok(request),
-            Err(fault) => Err(fault_code(fault)),
-        },
-        Framed::BadMagic => Err(UNKNOWN_MAGIC),
-        Framed::Need(_) => Err(BAD_ENCODING),
-        Framed::BadSize(_) => Err(BAD_ENCODING),
-    }
-}
-
-fn fault_code(fault: RequestFault) -> u32
-    ensures { result ≡ wanted.fault_code fault }
-{
-    match fault {
-        RequestFault::BadEncoding => BAD_ENCODING,
-        RequestFault::UnknownCommand => UNKNOWN_COMMAND,
-        RequestFault::OutOfMemory => OUT_OF_MEMORY,
+    match request {
+        Request::Collect { config } => start(table, config),
+        Request::Stop { id } => stop(table, id, conn),
+        Request::Info => describe(alloc, facts),
     }
 }
 

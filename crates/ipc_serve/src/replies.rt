@@ -19,6 +19,7 @@ pub const ERROR_BYTES: usize = HEADER_BYTES + 4;
 /// The bytes of a reply with a session's id.
 pub const SESSION_BYTES: usize = HEADER_BYTES + 8;
 
+/// The reply that a request is refused with this code.
 pub fn error_reply(code: u32) -> [u8; ERROR_BYTES]
     ensures { result ≡ answering.error_reply code }
 {
@@ -28,6 +29,7 @@ pub fn error_reply(code: u32) -> [u8; ERROR_BYTES]
     reply
 }
 
+/// The reply that the session of this id begins, or is to end.
 pub fn session_reply(id: u64) -> [u8; SESSION_BYTES]
     ensures { result ≡ answering.session_reply id }
 {
@@ -37,6 +39,7 @@ pub fn session_reply(id: u64) -> [u8; SESSION_BYTES]
     reply
 }
 
+/// The reply that describes the program.
 pub fn info_reply(alloc: Global, facts: &Facts) -> Result<Bytes, AllocError>
     requires { IsTrue (is_valid_facts facts.now) }
     ensures { IfOk result (λ reply. reply ≡ answering.info_reply (info_of facts.now)) }

@@ -7,7 +7,7 @@ use Rattle.ipc_body.specs.Asking.{collect_request, stop_request, info_request}
 use Rattle.ipc_body.specs.Reply.{reply_of}
 use Rattle.ipc_body.specs.declared.reply.Reply.{Reply}
 use Rattle.ipc_body.specs.declared.reply.Reply.TheVariants as reply
-use Rattle.ipc_call.specs.Own.{own_bytes, later_bytes}
+use Rattle.ipc_take.specs.Own.{own_bytes, later_bytes}
 use Rattle.pt_client.specs.declared.words.Command.{Command}
 use Rattle.pt_client.specs.declared.words.Command.TheVariants as command
 use Rattle.pt_client.specs.declared.calling.End.{End}

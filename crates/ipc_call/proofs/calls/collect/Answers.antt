@@ -1,4 +1,4 @@
-use Rattle.ipc_call.proofs.Replies.{part-later}
+use Rattle.ipc_call.proofs.Reading.{part-later}
 use Rattle.ipc_call.proofs.calls.collect.Goals as goal
 
 pub returns-in_err-copy-clause-part : goal.returns-in_err-copy-clause-part

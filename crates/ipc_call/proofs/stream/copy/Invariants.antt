@@ -1,6 +1,6 @@
 use Rattle.std.proofs.Common.{◌≡◌, ◌++◌, IsTrue}
 use Rattle.ipc_call.proofs.Reading.{HasCopied}
-use Rattle.ipc_call.proofs.pieces.copy.Given as goal
+use Rattle.ipc_call.proofs.stream.copy.Given as goal
 
 abbrev pub invariant-loop-read : goal.invariant-loop-read
 invariant-loop-read g l = record {

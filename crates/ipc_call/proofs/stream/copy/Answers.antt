@@ -1,6 +1,6 @@
 use Rattle.std.proofs.Common.{◌≡◌, ℕ, List, ◌++◌, ◌∙◌, ap}
 use Rattle.ipc_call.proofs.Reading.{gave-more, took-part-more}
-use Rattle.ipc_call.proofs.pieces.copy.Goals as goal
+use Rattle.ipc_call.proofs.stream.copy.Goals as goal
 
 pub returns-in-Err-write-clause-gave : goal.returns-in-Err-write-clause-gave
 returns-in-Err-write-clause-gave g c =

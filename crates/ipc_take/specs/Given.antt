@@ -1,11 +1,17 @@
--- What a link gave and an output took in a call (this project's profile).
+-- What a link gave in a call (this project's profile).
 use Rattle.std.specs.Prelude.{◌≡◌, ℕ, ◌≤◌, Bool, List, [], ◌++◌, ◌⊎◌, length, IsTrue}
 use Rattle.pt_io.specs.Faults.{HasRisen}
+use Rattle.pt_io.specs.Taken.{IsPrefix}
 
 -- The link gave these bytes, where it tells what it gives.
 abbrev pub Gave : {L : Type 0} → (L → Bool) → (L → List ℕ) → (L → List ℕ) → L → L → List ℕ → Type 0
 Gave tells given left old new bytes =
     IsTrue (tells old) → (given new ≡ given old ++ bytes) × (left old ≡ bytes ++ left new)
+
+-- The link gave a first part of these bytes and no other, where it tells what it gives.
+abbrev pub GavePart : {L : Type 0} → (L → Bool) → (L → List ℕ) → (L → List ℕ) → L → L → List ℕ → Type 0
+GavePart tells given left old new bytes =
+    IsTrue (tells old) → (part : List ℕ) × IsPrefix part bytes × (given new ≡ given old ++ part) × (left old ≡ part ++ left new)
 
 -- There are this many bytes, or fewer where the link has ended.
 abbrev pub IsFull : {L : Type 0} → (L → Bool) → (L → List ℕ) → L → L → List ℕ → ℕ → Type 0

@@ -1,6 +1,6 @@
 use Rattle.std.proofs.Common.{◌≡◌, ◌++◌, IsTrue}
-use Rattle.ipc_call.proofs.Reading.{HasRead}
-use Rattle.ipc_call.proofs.pieces.read_more.Given as goal
+use Rattle.ipc_take.proofs.Reading.{HasRead}
+use Rattle.ipc_take.proofs.pieces.read_more.Given as goal
 
 abbrev pub invariant-loop-lacking : goal.invariant-loop-lacking
 invariant-loop-lacking g l = record {

@@ -1,48 +1,13 @@
-//! Reading some bytes of a link, and copying all that it has left.
+//! The stream that comes after a reply.
 ghost use Rattle.std.specs.Prelude.{◌≡◌, ◌≢◌, ◌++◌, ◌⊎◌, ℕ, List, [], IsTrue, OnOk, OnErr, Err};
 ghost use Rattle.pt_io.specs.Faults.{HasRisen};
 ghost use Rattle.pt_io.specs.Taken.{TookAll, TookPart};
-ghost use Rattle.ipc_call.specs.Given.{Gave, IsFull};
-ghost use Rattle.ipc_call.specs.declared.fault.CallFault.TheVariants.{LinkFault, WriteFault, OutOfMemory};
+ghost use Rattle.ipc_take.specs.Given.{Gave};
+ghost use Rattle.ipc_call.specs.declared.fault.CallFault.TheVariants.{LinkFault, WriteFault};
 
 use crate::fault::CallFault;
+use ipc_take::PIECE_BYTES;
 use pt_io::{Failed, Link, Sink};
-
-/// How many bytes are read at once.
-const PIECE_BYTES: usize = 4_096;
-
-/// Appends this many bytes of the link, or as many as come before it ends.
-pub(crate) fn read_more<L: Link>(
-    link: &mut L,
-    bytes: &mut Vec<u8>,
-    count: usize,
-) -> Result<(), CallFault>
-    ensures gave { (more : List ℕ) × Gave L.tells_given L.given L.left link.old link.new more
-        × OnOk result ((bytes.new.items ≡ bytes.old.items ++ more)
-        × IsFull L.tells_given L.left link.old link.new more count) }
-    ensures told { L.tells_given link.new ≡ L.tells_given link.old }
-    ensures whole { IsTrue (L.tells_given link.old)
-        → L.given link.new ++ L.left link.new ≡ L.given link.old ++ L.left link.old }
-    ensures fault { result ≡ Err LinkFault → HasRisen (L.read_faults link.old) (L.read_faults link.new) }
-    ensures sound { result ≢ Err LinkFault → L.read_faults link.new ≡ L.read_faults link.old }
-    ensures only { OnErr result ((result ≡ Err LinkFault) ⊎ (result ≡ Err OutOfMemory)) }
-    ensures writes { L.write_side link.new ≡ L.write_side link.old }
-{
-    let mut lacking = count;
-    let mut piece = [0; PIECE_BYTES];
-    while lacking > 0 {
-        let most = lacking.min(PIECE_BYTES);
-        match link.read(&mut piece[..most]) {
-            Ok(0) => return Ok(()),
-            Ok(read) => {
-                bytes.extend_from_slice(&piece[..read])?;
-                lacking -= read;
-            }
-            Err(Failed) => return Err(CallFault::LinkFault),
-        }
-    }
-    Ok(())
-}
 
 /// Copies all that the link has left to the output, piece by piece.
 pub(crate) fn copy<L: Link, O: Sink>(link: &mut L, output: &mut O) -> Result<(), CallFault>

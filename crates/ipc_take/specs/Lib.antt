@@ -1,0 +1,4 @@
+-- Which bytes are a message's own.
+pub mod Own
+-- What a link gave.
+pub mod Given
