@@ -1,7 +1,6 @@
 -- What a session had of the threads, and what each call makes of it.
 use Rattle.std.proofs.Common.{◌≡◌, ℕ, ◌+◌, ◌<◌, ◌≤◌, true, false, inl, inr, List, [], ◌∷◌, refl, sym, ◌∙◌, subst, arith}
 use Rattle.std.specs.Prelude.{◌==◌, if◌then◌else◌, nat_lt}
-use Rattle.std.specs.List.{AllByRecursion}
 use Rattle.std.proofs.lemmas.Bool.{cases_eq, eq-eqb, ne_eqb, eqb-true, eqb-false, ltb-true, ltb-false, or_cases, or_left, or_right}
 use Rattle.ep_model.specs.History.{insert_ascending}
 use Rattle.ep_model.proofs.Ascending.{AreAbove, IsAscending, above_less}

@@ -1,5 +1,5 @@
 -- What a session keeps of its threads, once it was closed on one.
-use Rattle.std.proofs.Common.{◌≡◌, ℕ, ◌+◌, ◌-◌, true, false, inl, inr, List, map, filter, Option, Some, None, refl, ap, sym, ◌∙◌, subst, arith}
+use Rattle.std.proofs.Common.{◌≡◌, ℕ, ◌+◌, ◌-◌, true, false, inl, inr, List, map, filter, Option, None, refl, ap, sym, ◌∙◌, subst, arith}
 use Rattle.std.specs.Prelude.{Bool, not, ◌&&◌, ◌==◌, if◌then◌else◌}
 use Rattle.std.proofs.lemmas.Bool.{cases_Bool, cases_eq, eq-eqb, ne_eqb, eqb-false}
 use Rattle.ep_defs.specs.declared.session.Marks.{Marks}
@@ -37,7 +37,7 @@ shut-there home opened accounts count last to row hand by t is at =
       | inl same ↦ rw (eq-eqb t hand.thread same) refl
       | inr other ↦
           rw (ne_eqb t hand.thread other)
-          (elim (cases_Bool (accounts t).is_open) [ inl open ↦ absurd (other (by.alone t is at open)) | inr off ↦ off ])
+          (elim (cases_Bool (accounts t).is_open) [ inl shown ↦ absurd (other (by.alone t is at shown)) | inr off ↦ off ])
     ]
 
 -- The session is closed on a row on which it is open.

@@ -72,7 +72,7 @@ held-same home opened now_opened accounts now row (Some hand) more less same hel
       is_opened = more hand.thread held.is_opened;
       row_is = held.row_is;
       is_open = ap (λ (account : Account). account.is_open) (sym here) ∙ held.is_open;
-      alone = λ t is at open. held.alone t (less t is at) at (ap (λ (account : Account). account.is_open) (sym (same t at)) ∙ open);
+      alone = λ t is at shown. held.alone t (less t is at) at (ap (λ (account : Account). account.is_open) (sym (same t at)) ∙ shown);
       from = held.from ∙ ap (λ (account : Account). account.from) here;
       taken = held.taken ∙ ap (λ (account : Account). account.taken) here;
       last = held.last ∙ ap (λ (account : Account). account.last) here;
@@ -94,13 +94,13 @@ hand-fresh home opened accounts thread from hand thread_is from_is taken last sh
       is_opened = subst (IsOneOf (insert_ascending thread opened)) (sym thread_is) (one-here thread opened);
       row_is = ap home thread_is;
       is_open = ap (λ (account : Account). account.is_open) here;
-      alone = λ t is at open.
+      alone = λ t is at shown.
           elim (cases_eq t thread) [
             | inl same ↦ same ∙ sym thread_is
             | inr other ↦
                 let off = ne_eqb t thread other in
                 let closed = ap (λ (account : Account). account.is_open) (opened-other accounts thread from t off) ∙ shut t (one-before thread t opened is off) at in
-                absurd (true≢false (sym open ∙ closed))
+                absurd (true≢false (sym shown ∙ closed))
           ];
       from = from_is ∙ ap (λ (account : Account). account.from) (sym here);
       taken = taken ∙ ap (λ (account : Account). account.taken) (sym here);
