@@ -8,7 +8,7 @@ ghost use Rattle.ep_live_laws.specs.TwoThreads.{two_threads, two_marks, two_told
 /// Of two threads what one session got is told with its numbers, less a write that was refused. Without one of the
 /// events it is not.
 pub fn two_threads_are_traced()
-    ensures marks { AreMarks two_levels (config_p 1) two_threads 2 two_marks }
+    ensures marks { AreMarks two_levels (config_p 1) two_threads (1 ∷ 2 ∷ []) two_marks }
     ensures refused { map (refused_by two_levels (config_p 1) two_threads two_told) two_marks ≡ (2 ∷ []) ∷ [] ∷ [] }
     ensures traced { AreTraced two_levels (config_p 1) two_threads two_marks two_told }
     ensures lost { AreTraced two_levels (config_p 1) two_threads two_marks two_lost → ⊥ }
