@@ -104,7 +104,8 @@ pub record EndsOver {S : Type 0} (tells : S → Bool) (taken : S → List ℕ) (
 pub record IsOutcome {S : Type 0} (tells : S → Bool) (taken : S → List ℕ) (watch : Watch) (opened : List ℕ) (handed : Fate) (marks : List Marks) (fate : Fate) (sink : S) : Type 0 where
   -- its marks are those of the threads
   pub marks_are : AreMarks watch.events watch.config watch.writes opened marks
-  -- where it ended well its sink took the stream of all that the threads wrote and it got, less what was refused
+  -- where it ended well its sink took the stream of all that the threads wrote and it got, less what its marks count as
+  -- refused
   pub whole : is_fault fate ≡ false → ((thread : ℕ) → length (watch.writes thread) ≤ WRITES) → TookTraced tells taken watch.before watch.info watch.events watch.config watch.writes marks sink
   -- whatever its fate is, it took what begins the stream of a part of that
   pub part : TookTracedPart tells taken watch.before watch.info watch.events watch.config watch.writes marks sink

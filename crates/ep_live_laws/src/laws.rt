@@ -56,9 +56,10 @@ pub fn a_closed_row_is_traced<S: Sink>()
 {}
 
 /// A session that was closed on each of its rows and ended has the marks of the threads on which it was opened. Where
-/// its fate is no fault its sink took the stream of all that the threads wrote and it got, less what was refused, of
-/// threads that make no more writes than they can; and whatever its fate is, what begins the stream of a part of that.
-/// Where it ran out of stack ids, more events were taken of the threads than there are ids.
+/// its fate is no fault, and the threads make no more writes than they can, its sink took the stream of all that they
+/// wrote and it got, less the writes whose numbers are missing, as many as its marks count as refused; and whatever its
+/// fate is, what begins the stream of a part of that. Where it ran out of stack ids, more events were taken of the
+/// threads than there are ids.
 pub fn a_session_that_ends_has_traced<S: Sink>()
     ensures { (watch : Watch) (opened : List ℕ) (handed fate : Fate) (old : Session S) (sink : S)
         → EndsOver S.tells_taken S.taken S.write_faults watch opened handed old fate sink
@@ -66,7 +67,7 @@ pub fn a_session_that_ends_has_traced<S: Sink>()
 {}
 
 /// The stream of entries that trace the threads is found whole, and its items tell of each thread what it wrote and
-/// the session got, less what was refused.
+/// the session got, less the writes whose numbers are missing.
 pub fn a_traced_stream_is_found()
     ensures { (events : List EventDef) (config : Config) (writes : ℕ → List Write)
         → TracesAreFound events config writes }
