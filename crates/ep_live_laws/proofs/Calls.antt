@@ -12,8 +12,10 @@ use Rattle.ep_defs.specs.Entry.{Entry}
 use Rattle.ep_model.specs.History.{insert_ascending}
 use Rattle.ep_model.proofs.Ascending.{IsAscending}
 use Rattle.ep_model.proofs.Lists.{has}
+use Rattle.ep_chunk.specs.Record.{Record}
 use Rattle.ep_slot.specs.Hand.{HandState}
 use Rattle.ep_guarded.specs.Tied.{AreCounted}
+use Rattle.pt_io.specs.declared.sink.Sink.{Ghosts as Sink}
 use Rattle.nt_write.specs.declared.fault.Fault.{Fault}
 use Rattle.nt_write.specs.declared.writer.TraceWriter.{TraceWriter}
 use Rattle.nt_write.specs.Writer.{fault_of as writer_fault}
@@ -23,7 +25,7 @@ use Rattle.ep_stream.specs.Named.{first_named, insert_by}
 use Rattle.ep_stream.specs.Rows.{first_hand}
 use Rattle.ep_stream.specs.Session.{Rest, Detached, Writes, WasOpened, fault_of, hand_on, rest_of, writer_of}
 use Rattle.ep_stream.specs.Steps.{TellsStep, Closes}
-use Rattle.ep_stream.specs.Sweep.{Swept, TellsTakings, entries_in, hands_after, named_after, named_behind, point_after, records_in, rows_of, sweep_entries}
+use Rattle.ep_stream.specs.Sweep.{Swept, Taking, TellsTakings, entries_in, hands_after, named_after, named_behind, point_after, records_in, rows_of, sweep_entries}
 use Rattle.ep_stream.specs.Telling.{IsFaulty, IsFront, IsTelling, entries_of}
 use Rattle.ep_live_laws.specs.Calls.{ClosedIn, IsNew, OpensOn, SweptIn, TakesNothing, TellsMore, TellsSame}
 use Rattle.ep_live_laws.specs.Tracing.{Account, IsAdmittedAs, IsHandBy, IsHeld, IsOneOf, IsTracing, TellsAll, TellsPart, Traces, Watch, marks_by}
@@ -78,11 +80,11 @@ traces-none watch Sound hands none =
     }
 
 -- A session that was just started.
-pub tracing-started : {S : Type 0} (tells : S → Bool) (taken : S → List ℕ) (watch : Watch) (session : Session S) → IsNew tells taken watch session → IsTracing tells taken watch [] [] session
-tracing-started tells taken watch session new =
+pub tracing-started : {S : Type 0} (side : Sink S) (watch : Watch) (session : Session S) → IsNew side watch session → IsTracing side watch [] [] session
+tracing-started side watch session new =
     record {
       config_is = ap (λ (r : Rest). r.config) new.rest;
-      telling = subst (λ bytes. IsTelling tells taken bytes (definition_at watch.events) watch.info [] (writer_of session)) new.before (new.started.telling watch.events);
+      telling = subst (λ bytes. IsTelling side.tells_taken side.taken bytes (definition_at watch.events) watch.info [] (writer_of session)) new.before (new.started.telling watch.events);
       traces = traces-same watch [] (fault_of session ≡ None) (fault_of session ≡ None) (hand_on session) (hand_on session) [] (rest_of session).named [] (rest_of session).marks []
           (λ sound. sound) (λ row. refl) (ap (λ (r : Rest). r.named) new.rest) (ap (λ (r : Rest). r.marks) new.rest)
           (traces-none watch (fault_of session ≡ None) (hand_on session) new.shut);
@@ -93,12 +95,12 @@ fault-same : {S : Type 0} (old new : Session S) → writer_of new ≡ writer_of 
 fault-same old new same none = sym (ap writer_fault same) ∙ none
 
 -- A session that has the same hands, names and marks, and the same writer.
-pub tracing-same : {S : Type 0} (tells : S → Bool) (taken : S → List ℕ) (watch : Watch) (opened : List ℕ) (old new : Session S)
-    → TakesNothing old new → TellsSame tells taken watch opened opened old new
-tracing-same {S} tells taken watch opened old new call told h =
+pub tracing-same : {S : Type 0} (side : Sink S) (watch : Watch) (opened : List ℕ) (old new : Session S)
+    → TakesNothing old new → TellsSame side watch opened opened old new
+tracing-same {S} side watch opened old new call told h =
     record {
       config_is = ap (λ (r : Rest). r.config) call.rest ∙ h.config_is;
-      telling = subst (λ (w : TraceWriter S). IsTelling tells taken watch.before (definition_at watch.events) watch.info told w) (sym call.writer) h.telling;
+      telling = subst (λ (w : TraceWriter S). IsTelling side.tells_taken side.taken watch.before (definition_at watch.events) watch.info told w) (sym call.writer) h.telling;
       traces = traces-same watch opened (fault_of old ≡ None) (fault_of new ≡ None) (hand_on old) (hand_on new) (rest_of old).named (rest_of new).named (rest_of old).marks (rest_of new).marks told
           (fault-same old new call.writer) call.hands (ap (λ (r : Rest). r.named) call.rest) (ap (λ (r : Rest). r.marks) call.rest) h.traces;
     }
@@ -130,15 +132,15 @@ traces-opened watch opened thread Sound Still old new named marks told id hand s
     }
 
 -- A session that was opened on a thread.
-pub tracing-opened : {S : Type 0} (tells : S → Bool) (taken : S → List ℕ) (watch : Watch) (opened : List ℕ) (thread : ℕ) (old new : Session S)
-    → OpensOn watch opened thread old new → TellsSame tells taken watch opened (insert_ascending thread opened) old new
-tracing-opened {S} tells taken watch opened thread old new call told h =
+pub tracing-opened : {S : Type 0} (side : Sink S) (watch : Watch) (opened : List ℕ) (thread : ℕ) (old new : Session S)
+    → OpensOn watch opened thread old new → TellsSame side watch opened (insert_ascending thread opened) old new
+tracing-opened {S} side watch opened thread old new call told h =
     let a = call.attached in
     let names : (rest_of new).named ≡ insert_by (λ n. n.thread) (first_named thread) (rest_of old).named =
     ap (λ (r : Rest). r.named) a.rest ∙ ap (λ t. insert_by (λ (n : Named). n.thread) (first_named t) (rest_of old).named) a.tested in
     record {
       config_is = ap (λ (r : Rest). r.config) a.rest ∙ h.config_is;
-      telling = subst (λ (w : TraceWriter S). IsTelling tells taken watch.before (definition_at watch.events) watch.info told w) (sym call.writer) h.telling;
+      telling = subst (λ (w : TraceWriter S). IsTelling side.tells_taken side.taken watch.before (definition_at watch.events) watch.info told w) (sym call.writer) h.telling;
       traces = traces-same watch (insert_ascending thread opened) (fault_of new ≡ None) (fault_of new ≡ None) (hand_on new) (hand_on new)
           (insert_by (λ n. n.thread) (first_named thread) (rest_of old).named) (rest_of new).named (rest_of old).marks (rest_of new).marks told
           (λ sound. sound) (λ row. refl) names (ap (λ (r : Rest). r.marks) a.rest)
@@ -156,13 +158,13 @@ marks-within accounts opened (suc place) mark (t ∷ threads) within is =
     marks-within accounts opened place mark threads (λ x later. within x (or_right (t == x) (has x threads) later)) is
 
 -- The session was opened on each thread on which it is open or was.
-pub tracing-fresh : {S : Type 0} (tells : S → Bool) (taken : S → List ℕ) (watch : Watch) (opened : List ℕ) (told : List Entry) (thread : ℕ) (session : Session S)
-    → IsTracing tells taken watch opened told session → WasOpened session thread → IsOneOf opened thread
-tracing-fresh tells taken watch opened told thread session h (inl held) =
+pub tracing-fresh : {S : Type 0} (side : Sink S) (watch : Watch) (opened : List ℕ) (told : List Entry) (thread : ℕ) (session : Session S)
+    → IsTracing side watch opened told session → WasOpened session thread → IsOneOf opened thread
+tracing-fresh side watch opened told thread session h (inl held) =
     let row = held.0 in
     let by : IsHandBy watch.home opened h.traces.accounts row held.1 = subst (IsHeld watch.home opened h.traces.accounts row) held.2 (h.traces.keeps.held row) in
     subst (IsOneOf opened) held.3 by.is_opened
-tracing-fresh tells taken watch opened told thread session h (inr marked) =
+tracing-fresh side watch opened told thread session h (inr marked) =
     let accounts = h.traces.accounts in
     let is : slice_get (map (marks_by accounts) (filter (λ t. not (accounts t).is_open) opened)) marked.0 ≡ Some marked.1 = ap (λ ms. slice_get ms marked.0) (sym h.traces.keeps.marks_are) ∙ marked.2 in
     subst (IsOneOf opened) marked.3 (marks-within accounts opened marked.0 marked.1 _ (λ t there. any_filtered (λ x. not (accounts x).is_open) t opened there) is)
@@ -211,24 +213,22 @@ traces-cut watch opened Sound hands named marks told done entries front all h =
 
 -- ---- a row that is closed
 
-pub tracing-closed : {S : Type 0} (tells : S → Bool) (taken : S → List ℕ) (faults : S → ℕ) (watch : Watch) (old new : Session S)
-    → ClosedIn tells taken faults watch old new → TellsMore tells taken watch old new
-tracing-closed {S} tells taken faults watch old new call opened told h =
-    let result = call.result in
-    let At : List EventDef → Config → Type 0 = λ those config.
-    Detached
-    (IsAdmittedAs watch.events watch.writes config)
-    (AreCounted watch.events watch.writes config)
-    (λ records last chunks marks. TellsStep (Closes call.row (rest_of old).seat.slot records last chunks marks) call.told_old call.told_new)
-    (λ records. Writes tells taken those (entries_of those config.stackwalk records) old new result)
-    those call.row old new in
-    let d : At watch.events watch.config = subst (λ those. At those watch.config) call.events (subst (At call.given) h.config_is call.detached) in
+closed-by : {S : Type 0} (side : Sink S) (watch : Watch) (opened : List ℕ) (told : List Entry) (old new : Session S) (row : ℕ) (Told : List Record → ℕ → ℕ → Marks → Type 0) (result : Result (Unit {0}) Fault)
+    → Detached
+    (IsAdmittedAs watch.events watch.writes watch.config)
+    (AreCounted watch.events watch.writes watch.config)
+    Told
+    (λ records. Writes side.tells_taken side.taken watch.events (entries_of watch.events watch.config.stackwalk records) old new result)
+    watch.events row old new
+    → IsFaulty side.write_faults (writer_of old) (writer_of new) result
+    → IsTracing side watch opened told old → (more : List Entry) × IsTracing side watch opened (told ++ more) new
+closed-by side watch opened told old new row Told result d faulty h =
     let entries = entries_of watch.events watch.config.stackwalk d.records in
     let w = d.writes watch.before watch.info told h.telling in
     let start = traces-same watch opened (fault_of old ≡ None) (fault_of new ≡ None) (hand_on old) (hand_on old) (rest_of old).named (rest_of old).named (rest_of old).marks (rest_of old).marks told
-    (sound-before faults (writer_of old) (writer_of new) result call.faulty) (λ r. refl) refl refl h.traces in
-    let all = closed-traces watch opened (fault_of new ≡ None) (hand_on old) (hand_on new) (rest_of old).named (rest_of old).marks told call.row d.last d.hand d.records d.marks d.was d.batched d.marked d.tested_marks d.hands start in
-    let some = traces-cut watch opened (fault_of new ≡ None) (hand_on new) _ _ told w.done entries w.front (told-all faults (writer_of old) (writer_of new) result w.done entries call.faulty w.all) all in (
+    (sound-before side.write_faults (writer_of old) (writer_of new) result faulty) (λ r. refl) refl refl h.traces in
+    let all = closed-traces watch opened (fault_of new ≡ None) (hand_on old) (hand_on new) (rest_of old).named (rest_of old).marks told row d.last d.hand d.records d.marks d.was d.batched d.marked d.tested_marks d.hands start in
+    let some = traces-cut watch opened (fault_of new ≡ None) (hand_on new) _ _ told w.done entries w.front (told-all side.write_faults (writer_of old) (writer_of new) result w.done entries faulty w.all) all in (
       w.done,
       record {
         config_is = ap (λ (r : Rest). r.config) d.rest ∙ h.config_is;
@@ -237,6 +237,21 @@ tracing-closed {S} tells taken faults watch old new call opened told h =
             (λ sound. sound) (λ r. refl) (ap (λ (r : Rest). r.named) d.rest) (ap (λ (r : Rest). r.marks) d.rest) some;
       },
     )
+
+-- The definitions are the program's, and the configuration is the session's own.
+pub tracing-closed : {S : Type 0} (side : Sink S) (watch : Watch) (old new : Session S)
+    → ClosedIn side watch old new → TellsMore side watch old new
+tracing-closed {S} side watch old new call opened told h =
+    let Told : List Record → ℕ → ℕ → Marks → Type 0 = λ records last chunks marks. TellsStep (Closes call.row (rest_of old).seat.slot records last chunks marks) call.told_old call.told_new in
+    let At : List EventDef → Config → Type 0 = λ those config.
+    Detached
+    (IsAdmittedAs watch.events watch.writes config)
+    (AreCounted watch.events watch.writes config)
+    Told
+    (λ records. Writes side.tells_taken side.taken those (entries_of those config.stackwalk records) old new call.result)
+    those call.row old new in
+    closed-by side watch opened told old new call.row Told call.result
+    (subst (λ those. At those watch.config) call.events (subst (At call.given) h.config_is call.detached)) call.faulty h
 
 -- ---- a sweep
 
@@ -272,29 +287,27 @@ swept-named watch opened hands names now marks told stamp count faults old new (
     subst (λ ns. Traces watch opened (writer_fault new ≡ None) hands ns marks (told ++ point_after count stamp names)) (sym unnamed)
     (traces-failed watch opened (writer_fault new ≡ None) hands names marks told stamp count (λ none. none-some fault (sym none ∙ faulty.fails fault refl)) h)
 
-pub tracing-swept : {S : Type 0} (tells : S → Bool) (taken : S → List ℕ) (faults : S → ℕ) (watch : Watch) (old new : Session S)
-    → SweptIn tells taken faults watch old new → TellsMore tells taken watch old new
-tracing-swept {S} tells taken faults watch old new call opened told h =
-    let result = call.result in
-    let At : List EventDef → Config → Type 0 = λ those config.
-    Swept
-    (IsAdmittedAs watch.events watch.writes config)
-    (λ takings. TellsTakings (rest_of old).seat.slot takings call.told_old call.told_new)
-    (λ takings. Writes tells taken those (sweep_entries those config.stackwalk call.stamp (rest_of old).named takings) old new result)
-    those call.count old new result in
-    let s : At watch.events watch.config = subst (λ those. At those watch.config) call.events (subst (At call.given) h.config_is call.swept) in
+swept-by : {S : Type 0} (side : Sink S) (watch : Watch) (opened : List ℕ) (told : List Entry) (old new : Session S) (stamp count : ℕ) (Told : List Taking → Type 0) (result : Result ℕ Fault)
+    → Swept
+    (IsAdmittedAs watch.events watch.writes watch.config)
+    Told
+    (λ takings. Writes side.tells_taken side.taken watch.events (sweep_entries watch.events watch.config.stackwalk stamp (rest_of old).named takings) old new result)
+    watch.events count old new result
+    → IsFaulty side.write_faults (writer_of old) (writer_of new) result
+    → IsTracing side watch opened told old → (more : List Entry) × IsTracing side watch opened (told ++ more) new
+swept-by side watch opened told old new stamp count Told result s faulty h =
     let batches = entries_in watch.events watch.config.stackwalk s.takings in
     let names = named_after (rest_of old).named s.takings in
-    let last = point_after (records_in s.takings) call.stamp names in
+    let last = point_after (records_in s.takings) stamp names in
     let w = s.writes watch.before watch.info told h.telling in
     let start = traces-same watch opened (fault_of old ≡ None) (fault_of new ≡ None) (hand_on old) (hand_on old) (rest_of old).named (rest_of old).named (rest_of old).marks (rest_of old).marks told
-    (sound-before faults (writer_of old) (writer_of new) result call.faulty) (λ r. refl) refl refl h.traces in
-    let up : IsAscending (rows_of s.takings) = ascending-front (rows_of s.takings) s.front.0 (subst IsAscending (sym s.front.1) (rows-ascending (hand_on old) call.count)) in
+    (sound-before side.write_faults (writer_of old) (writer_of new) result faulty) (λ r. refl) refl refl h.traces in
+    let up : IsAscending (rows_of s.takings) = ascending-front (rows_of s.takings) s.front.0 (subst IsAscending (sym s.front.1) (rows-ascending (hand_on old) count)) in
     let taken_all = swept-traces watch opened (fault_of new ≡ None) (hand_on old) (rest_of old).named (rest_of old).marks told s.takings up s.were s.batched start in
-    let behind = swept-named watch opened (hands_after (hand_on old) s.takings) names (rest_of new).named (rest_of old).marks (told ++ batches) call.stamp (records_in s.takings) faults (writer_of old) (writer_of new) result call.faulty s.named s.unnamed taken_all in
+    let behind = swept-named watch opened (hands_after (hand_on old) s.takings) names (rest_of new).named (rest_of old).marks (told ++ batches) stamp (records_in s.takings) side.write_faults (writer_of old) (writer_of new) result faulty s.named s.unnamed taken_all in
     let whole : Traces watch opened (fault_of new ≡ None) (hands_after (hand_on old) s.takings) (rest_of new).named (rest_of old).marks (told ++ (batches ++ last)) =
     subst (Traces watch opened (fault_of new ≡ None) (hands_after (hand_on old) s.takings) (rest_of new).named (rest_of old).marks) (append_assoc told batches last) behind in
-    let some = traces-cut watch opened (fault_of new ≡ None) _ _ _ told w.done (batches ++ last) w.front (told-all faults (writer_of old) (writer_of new) result w.done (batches ++ last) call.faulty w.all) whole in (
+    let some = traces-cut watch opened (fault_of new ≡ None) _ _ _ told w.done (batches ++ last) w.front (told-all side.write_faults (writer_of old) (writer_of new) result w.done (batches ++ last) faulty w.all) whole in (
       w.done,
       record {
         config_is = ap (λ (r : Rest). r.config) s.rest ∙ h.config_is;
@@ -303,3 +316,17 @@ tracing-swept {S} tells taken faults watch old new call opened told h =
             (λ sound. sound) s.hands refl (ap (λ (r : Rest). r.marks) s.rest) some;
       },
     )
+
+-- The definitions are the program's, and the configuration is the session's own.
+pub tracing-swept : {S : Type 0} (side : Sink S) (watch : Watch) (old new : Session S)
+    → SweptIn side watch old new → TellsMore side watch old new
+tracing-swept {S} side watch old new call opened told h =
+    let Told : List Taking → Type 0 = λ takings. TellsTakings (rest_of old).seat.slot takings call.told_old call.told_new in
+    let At : List EventDef → Config → Type 0 = λ those config.
+    Swept
+    (IsAdmittedAs watch.events watch.writes config)
+    Told
+    (λ takings. Writes side.tells_taken side.taken those (sweep_entries those config.stackwalk call.stamp (rest_of old).named takings) old new call.result)
+    those call.count old new call.result in
+    swept-by side watch opened told old new call.stamp call.count Told call.result
+    (subst (λ those. At those watch.config) call.events (subst (At call.given) h.config_is call.swept)) call.faulty h

@@ -1,5 +1,5 @@
 -- What a session's sink took once the session was ended.
-use Rattle.std.proofs.Common.{◌≡◌, ℕ, ◌<◌, ◌≤◌, Bool, false, List, [], ◌∷◌, ◌++◌, length, Option, Some, None, refl, ap, sym, ◌∙◌, subst, arith, append_assoc}
+use Rattle.std.proofs.Common.{◌≡◌, ℕ, ◌<◌, ◌≤◌, false, List, [], ◌∷◌, ◌++◌, length, Option, Some, None, refl, ap, sym, ◌∙◌, subst, arith, append_assoc}
 use Rattle.std.specs.Prelude.{Result, Ok, Err, OnOk, OnErr}
 use Rattle.std.specs.List.{sum_by}
 use Rattle.std.proofs.lemmas.List.{append-nil}
@@ -7,6 +7,7 @@ use Rattle.ep_defs.specs.declared.limits.TheConstants.{WRITES}
 use Rattle.ep_defs.specs.declared.session.Marks.{Marks}
 use Rattle.ep_defs.specs.declared.session.TraceInfo.{TraceInfo}
 use Rattle.ep_defs.specs.Entry.{Entry, Point}
+use Rattle.pt_io.specs.declared.sink.Sink.{Ghosts as Sink}
 use Rattle.nt_write.specs.declared.fault.Fault.{Fault}
 use Rattle.nt_write.specs.declared.fault.Fault.TheVariants.{WriteFault, TooLong, OutOfMemory}
 use Rattle.nt_write.specs.declared.limits.TheConstants.{FRAMED_EVENTS}
@@ -53,19 +54,19 @@ ended-too-long (Err OutOfMemory) handed other is = absurd (cc)
 -- ---- a session that ends
 
 -- The whole of a stream is a part of it.
-whole-part : {S : Type 0} (tells : S → Bool) (taken : S → List ℕ) (before : List ℕ) (info : TraceInfo) (entries : List Entry) (sink : S)
-    → TookStream tells taken before info entries sink → TookPart tells taken before info entries sink
-whole-part tells taken before info entries sink took told =
+whole-part : {S : Type 0} (side : Sink S) (before : List ℕ) (info : TraceInfo) (entries : List Entry) (sink : S)
+    → TookStream side.tells_taken side.taken before info entries sink → TookPart side.tells_taken side.taken before info entries sink
+whole-part side before info entries sink took told =
     let (bytes, canonical, is) = took told in (bytes, bytes, canonical, ([], append-nil bytes), is)
 
-module _ {S : Type 0} (tells : S → Bool) (taken : S → List ℕ) (faults : S → ℕ) (watch : Watch) (opened : List ℕ) (handed : Fate) (session : Session S) (fate : Fate) (sink : S) (h : EndsOver tells taken faults watch opened handed session fate sink) where
+module _ {S : Type 0} (side : Sink S) (watch : Watch) (opened : List ℕ) (handed : Fate) (session : Session S) (fate : Fate) (sink : S) (h : EndsOver side watch opened handed session fate sink) where
   ended-marks : AreMarks watch.events watch.config watch.writes opened (rest_of session).marks
   ended-marks =
       let traces = h.tracing.traces in
       are-marks watch opened traces.accounts (hand_on session) (rest_of session).named (rest_of session).marks traces.keeps h.shut
 
   ended-whole : is_fault fate ≡ false → ((thread : ℕ) → length (watch.writes thread) ≤ WRITES)
-      → TookTraced tells taken watch.before watch.info watch.events watch.config watch.writes (rest_of session).marks sink
+      → TookTraced side watch.before watch.info watch.events watch.config watch.writes (rest_of session).marks sink
   ended-whole sound few =
       let e = h.ended in
       let traces = h.tracing.traces in
@@ -77,7 +78,7 @@ module _ {S : Type 0} (tells : S → Bool) (taken : S → List ℕ) (faults : S 
       let shut = all-shut watch opened last.0.accounts (hand_on session) _ (rest_of session).marks last.0.keeps h.shut in
       record {
         entries = h.told ++ Point point ∷ [];
-        stream = ended-ok e.answer handed (TookStream tells taken watch.before watch.info (h.told ++ Point point ∷ []) sink) no_fault ends.whole;
+        stream = ended-ok e.answer handed (TookStream side.tells_taken side.taken watch.before watch.info (h.told ++ Point point ∷ []) sink) no_fault ends.whole;
         traced = are-traced watch opened last.0.accounts (hand_on session) _ (rest_of session).marks h.told point few last.0.keeps h.shut (λ t is. last.1 t ∙ shut t is) last.0.part (last.0.all not_failed);
       }
 
@@ -95,8 +96,8 @@ module _ {S : Type 0} (tells : S → Bool) (taken : S → List ℕ) (faults : S 
       part-front watch opened accounts (h.told ++ ends.done) ends.front.0 (subst (TellsPart watch opened accounts) parts told-whole)
 
   -- What the sink took of such entries.
-  part-of : (entries : List Entry) → TookPart tells taken watch.before watch.info entries sink → TellsPart watch opened h.tracing.traces.accounts entries
-      → TookTracedPart tells taken watch.before watch.info watch.events watch.config watch.writes (rest_of session).marks sink
+  part-of : (entries : List Entry) → TookPart side.tells_taken side.taken watch.before watch.info entries sink → TellsPart watch opened h.tracing.traces.accounts entries
+      → TookTracedPart side watch.before watch.info watch.events watch.config watch.writes (rest_of session).marks sink
   part-of entries took part =
       let traces = h.tracing.traces in
       record {
@@ -107,14 +108,14 @@ module _ {S : Type 0} (tells : S → Bool) (taken : S → List ℕ) (faults : S 
 
   -- After its last point, or a fault before it.
   part-by : (answer : Result (Unit {0}) Fault) (done : List Entry)
-      → OnOk answer (TookStream tells taken watch.before watch.info (h.told ++ Point (point_of h.stamp (numbers_of (rest_of session).named)) ∷ []) sink)
-      → OnErr answer (TookPart tells taken watch.before watch.info (h.told ++ done) sink)
+      → OnOk answer (TookStream side.tells_taken side.taken watch.before watch.info (h.told ++ Point (point_of h.stamp (numbers_of (rest_of session).named)) ∷ []) sink)
+      → OnErr answer (TookPart side.tells_taken side.taken watch.before watch.info (h.told ++ done) sink)
       → TellsPart watch opened h.tracing.traces.accounts (h.told ++ done)
-      → TookTracedPart tells taken watch.before watch.info watch.events watch.config watch.writes (rest_of session).marks sink
-  part-by (Ok u) done whole part told = part-of _ (whole-part tells taken watch.before watch.info _ sink whole) told-whole
+      → TookTracedPart side watch.before watch.info watch.events watch.config watch.writes (rest_of session).marks sink
+  part-by (Ok u) done whole part told = part-of _ (whole-part side watch.before watch.info _ sink whole) told-whole
   part-by (Err fault) done whole part told = part-of (h.told ++ done) part told
 
-  ended-part : TookTracedPart tells taken watch.before watch.info watch.events watch.config watch.writes (rest_of session).marks sink
+  ended-part : TookTracedPart side watch.before watch.info watch.events watch.config watch.writes (rest_of session).marks sink
   ended-part =
       let ends = h.ended.stream watch.before watch.events watch.info h.told h.tracing.telling in
       part-by h.ended.answer ends.done ends.whole ends.part told-part
@@ -127,5 +128,5 @@ module _ {S : Type 0} (tells : S → Bool) (taken : S → List ℕ) (faults : S 
       let spent = ends.spent (ended-too-long e.answer handed other (sym e.fate_is ∙ is)) in
       omega (arith, spent, framed-taken watch opened traces.accounts (hand_on session) (rest_of session).named (rest_of session).marks (h.told ++ ends.done) traces.keeps h.shut told-part)
 
-  pub ended-outcome : IsOutcome tells taken watch opened handed (rest_of session).marks fate sink
+  pub ended-outcome : IsOutcome side watch opened handed (rest_of session).marks fate sink
   ended-outcome = record { marks_are = ended-marks; whole = ended-whole; part = ended-part; too_long = ended-spent }

@@ -14,6 +14,7 @@ use Rattle.ep_model.specs.Faithful.{events_of, last_sighting}
 use Rattle.ep_model.specs.History.{admitted_from}
 use Rattle.ep_slot.specs.Hand.{HandState}
 use Rattle.ep_guarded.specs.Tied.{AreCounted}
+use Rattle.pt_io.specs.declared.sink.Sink.{Ghosts as Sink}
 use Rattle.nt_write.specs.Writer.{TookPart, TookStream}
 use Rattle.ep_stream.specs.declared.opened.Named.{Named}
 use Rattle.ep_stream.specs.declared.session.Fate.{Fate}
@@ -150,9 +151,9 @@ pub record Traces (watch : Watch) (opened : List ℕ) (Sound : Type 0) (hands : 
 -- ---- a session and what it told
 
 -- The session was opened on these threads, ascending, and its writer has told these entries of them.
-pub record IsTracing {S : Type 0} (tells : S → Bool) (taken : S → List ℕ) (watch : Watch) (opened : List ℕ) (told : List Entry) (session : Session S) : Type 0 where
+pub record IsTracing {S : Type 0} (side : Sink S) (watch : Watch) (opened : List ℕ) (told : List Entry) (session : Session S) : Type 0 where
   pub config_is : (rest_of session).config ≡ watch.config
-  pub telling : IsTelling tells taken watch.before (definition_at watch.events) watch.info told (writer_of session)
+  pub telling : IsTelling side.tells_taken side.taken watch.before (definition_at watch.events) watch.info told (writer_of session)
   pub traces : Traces watch opened (fault_of session ≡ None) (hand_on session) (rest_of session).named (rest_of session).marks told
 
 -- ---- the end
@@ -166,14 +167,14 @@ is_fault fate.TooLong = true
 is_fault fate.OutOfMemory = true
 
 -- The sink took, behind what it had taken before, the one stream of entries that trace the threads.
-pub record TookTraced {S : Type 0} (tells : S → Bool) (taken : S → List ℕ) (before : List ℕ) (info : TraceInfo) (events : List EventDef) (config : Config) (writes : ℕ → List Write) (marks : List Marks) (sink : S) : Type 0 where
+pub record TookTraced {S : Type 0} (side : Sink S) (before : List ℕ) (info : TraceInfo) (events : List EventDef) (config : Config) (writes : ℕ → List Write) (marks : List Marks) (sink : S) : Type 0 where
   pub entries : List Entry
-  pub stream : TookStream tells taken before info entries sink
+  pub stream : TookStream side.tells_taken side.taken before info entries sink
   pub traced : AreTraced events config writes marks entries
 
 -- The sink took, behind what it had taken before, what begins the stream of entries that trace a part of what the
 -- threads wrote, or all of it.
-pub record TookTracedPart {S : Type 0} (tells : S → Bool) (taken : S → List ℕ) (before : List ℕ) (info : TraceInfo) (events : List EventDef) (config : Config) (writes : ℕ → List Write) (marks : List Marks) (sink : S) : Type 0 where
+pub record TookTracedPart {S : Type 0} (side : Sink S) (before : List ℕ) (info : TraceInfo) (events : List EventDef) (config : Config) (writes : ℕ → List Write) (marks : List Marks) (sink : S) : Type 0 where
   pub entries : List Entry
-  pub stream : TookPart tells taken before info entries sink
+  pub stream : TookPart side.tells_taken side.taken before info entries sink
   pub part : ArePart events config writes marks entries

@@ -17,8 +17,8 @@ use pt_io::Sink;
 
 /// A session that was just started was opened on no thread and has told nothing.
 pub fn a_session_starts_with_no_trace<S: Sink>()
-    ensures { (watch : Watch) (session : Session S) → IsNew S.tells_taken S.taken watch session
-        → IsTracing S.tells_taken S.taken watch [] [] session }
+    ensures { (watch : Watch) (session : Session S) → IsNew S.Sink watch session
+        → IsTracing S.Sink watch [] [] session }
 {}
 
 /// A session that is opened on one thread more, in a row on which it was not open, has told the same (`traced`). Where
@@ -26,9 +26,9 @@ pub fn a_session_starts_with_no_trace<S: Sink>()
 pub fn an_opened_row_is_traced<S: Sink>()
     ensures traced { (watch : Watch) (opened : List ℕ) (thread : ℕ) (old new : Session S)
         → OpensOn watch opened thread old new
-        → TellsSame S.tells_taken S.taken watch opened (insert_ascending thread opened) old new }
+        → TellsSame S.Sink watch opened (insert_ascending thread opened) old new }
     ensures fresh { (watch : Watch) (opened : List ℕ) (told : List Entry) (thread : ℕ) (session : Session S)
-        → IsTracing S.tells_taken S.taken watch opened told session
+        → IsTracing S.Sink watch opened told session
         → WasOpened session thread → IsOneOf opened thread }
 {}
 
@@ -36,37 +36,38 @@ pub fn an_opened_row_is_traced<S: Sink>()
 /// it is after a Give, and where it could not be opened on a row.
 pub fn a_call_that_takes_nothing_changes_no_trace<S: Sink>()
     ensures { (watch : Watch) (opened : List ℕ) (old new : Session S) → TakesNothing old new
-        → TellsSame S.tells_taken S.taken watch opened opened old new }
+        → TellsSame S.Sink watch opened opened old new }
 {}
 
 /// A session that was swept with the definitions of the program's events, also one that a fault stopped, has told
 /// some entries more.
 pub fn a_sweep_is_traced<S: Sink>()
     ensures { (watch : Watch) (old new : Session S)
-        → SweptIn S.tells_taken S.taken S.write_faults watch old new
-        → TellsMore S.tells_taken S.taken watch old new }
+        → SweptIn S.Sink watch old new
+        → TellsMore S.Sink watch old new }
 {}
 
 /// A session that was closed on a row with these definitions, also one that a fault stopped, has told some entries
 /// more.
 pub fn a_closed_row_is_traced<S: Sink>()
     ensures { (watch : Watch) (old new : Session S)
-        → ClosedIn S.tells_taken S.taken S.write_faults watch old new
-        → TellsMore S.tells_taken S.taken watch old new }
+        → ClosedIn S.Sink watch old new
+        → TellsMore S.Sink watch old new }
 {}
 
 /// A session that was closed on each of its rows and ended has the marks of the threads on which it was opened. Where
-/// its fate is no fault its sink took the stream of all that the threads wrote and it got, less what was refused, of
-/// threads that make no more writes than they can; and whatever its fate is, what begins the stream of a part of that.
-/// Where it ran out of stack ids, more events were taken of the threads than there are ids.
+/// its fate is no fault, and the threads make no more writes than they can, its sink took the stream of all that they
+/// wrote and it got, less the writes whose numbers are missing, as many as its marks count as refused; and whatever its
+/// fate is, what begins the stream of a part of that. Where it ran out of stack ids, more events were taken of the
+/// threads than there are ids.
 pub fn a_session_that_ends_has_traced<S: Sink>()
     ensures { (watch : Watch) (opened : List ℕ) (handed fate : Fate) (old : Session S) (sink : S)
-        → EndsOver S.tells_taken S.taken S.write_faults watch opened handed old fate sink
-        → IsOutcome S.tells_taken S.taken watch opened handed (rest_of old).marks fate sink }
+        → EndsOver S.Sink watch opened handed old fate sink
+        → IsOutcome S.Sink watch opened handed (rest_of old).marks fate sink }
 {}
 
 /// The stream of entries that trace the threads is found whole, and its items tell of each thread what it wrote and
-/// the session got, less what was refused.
+/// the session got, less the writes whose numbers are missing.
 pub fn a_traced_stream_is_found()
     ensures { (events : List EventDef) (config : Config) (writes : ℕ → List Write)
         → TracesAreFound events config writes }
