@@ -72,7 +72,8 @@ impl<'a, P: Program> Column<'a, P> {
         requires { IsSlotTie P.rows self.old.slot self.old.count half }
         ensures { OnOk result (self.new ≡ record self.old { count = self.old.count + 1 }) }
     {
-        self.halves.push(half)
+        self.halves.push(half)?;
+        Ok(())
     }
 
     // All rows have their half.

@@ -68,7 +68,7 @@ impl<'r, 'a, P: Program, R: Wait> LiveRows<'r, 'a, P, R> {
     ) -> LiveRows<'r, 'a, P, R>
         requires seat { seat ≡ record { pool = grant.now.pool.pool; total = grant.now.pool.total; seats = P.rows + 1; share = P.rows + 1; taken = 0; given = 0 } }
         requires lives { vec_len lives ≡ P.rows }
-        ensures { AreFresh P.rows free.entry grant.now seat stands.entry lives.entry.items result }
+        ensures { AreFresh P.rows free.entry grant.now seat stands.entry lives.items result }
     {
         let Free { slot, halves } = free;
         LiveRows {
@@ -97,7 +97,9 @@ impl<'r, 'a, P: Program, R: Wait> LiveRows<'r, 'a, P, R> {
             openings,
             stands,
             lives,
-            ..
+            rt: _,
+            live: _,
+            missed: _,
         } = self;
         Parked {
             slot,
