@@ -5,7 +5,7 @@ ghost use Rattle.ep_defs.specs.Session as valid;
 ghost use Rattle.ep_model.specs.Budget.{needs_chunk, record_size};
 ghost use Rattle.ep_slot.specs.Chain.{records_of, HasRecords};
 ghost use Rattle.ep_slot.specs.Asked.{IsAsked};
-ghost use Rattle.ep_slot.specs.Slot.{IsKept, opened, with_record, with_refusal, with_steal, marks_of, number_of, is_refused};
+ghost use Rattle.ep_slot.specs.Slot.{IsKept, opened, shown_slot, with_steal, marks_of, number_of, is_refused};
 ghost use Rattle.ep_slot.specs.Hand.{Agrees};
 ghost use Rattle.ep_row.specs.Bits.{SetsBits, ClearsBit};
 ghost use Rattle.ep_row.specs.Row.{shown_once, gets};
@@ -187,10 +187,7 @@ impl Row {
         requires total { P.total pool.old ≡ buffer.old.chunks }
         requires can_take { P.can_take pool.old }
         ensures number { number_of result ≡ buffer.old.used + 1 }
-        ensures slot { buffer.new
-            ≡ (if is_refused result
-            then with_refusal buffer.old
-            else with_record buffer.old self.old.stamp write.now) }
+        ensures slot { buffer.new ≡ shown_slot (is_refused result) buffer.old self.old.stamp write.now }
         ensures refused { IsTrue (is_refused result)
             ↔ (IsTrue (needs_chunk buffer.old.pending (record_size write.now)) × P.dry pool.old pool.new) }
         ensures purse { IsAsked P.got P.dry (needs_chunk buffer.old.pending (record_size write.now)) (is_refused result) pool.old pool.new }

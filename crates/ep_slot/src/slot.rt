@@ -4,7 +4,7 @@ ghost use Rattle.ep_defs.specs.Session as valid;
 ghost use Rattle.ep_model.specs.Budget.{needs_chunk, record_size};
 ghost use Rattle.ep_slot.specs.Chain.{records_of, HasRecords};
 ghost use Rattle.ep_slot.specs.Asked.{IsAsked};
-ghost use Rattle.ep_slot.specs.Slot.{IsKept, opened, with_record, with_refusal, with_steal, marks_of, counts_of, number_of, is_refused};
+ghost use Rattle.ep_slot.specs.Slot.{IsKept, opened, shown_slot, with_steal, marks_of, counts_of, number_of, is_refused};
 ghost use Rattle.ep_slot.specs.Hand.{Agrees, hand_of};
 
 use crate::hand::Hand;
@@ -92,8 +92,7 @@ impl Slot {
         ensures number { number_of result ≡ self.old.used + 1 }
         ensures used { self.new.used ≡ self.old.used + 1 }
         ensures hand { hand_of self.new ≡ hand_of self.old }
-        ensures slot { self.new
-            ≡ (if is_refused result then with_refusal self.old else with_record self.old stamp write.now) }
+        ensures slot { self.new ≡ shown_slot (is_refused result) self.old stamp write.now }
         ensures refused { IsTrue (is_refused result)
             ↔ (IsTrue (needs_chunk self.old.pending (record_size write.now)) × P.dry pool.old pool.new) }
         ensures purse { IsAsked P.got P.dry (needs_chunk self.old.pending (record_size write.now)) (is_refused result) pool.old pool.new }
