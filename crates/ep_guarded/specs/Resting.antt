@@ -17,12 +17,12 @@ use Rattle.ep_guarded.specs.declared.agreed.Stand.{Stand}
 use Rattle.ep_guarded.specs.declared.agreed.Agreed.{Agreed}
 use Rattle.ep_guarded.specs.declared.agreed.Agreed.TheVariants as agreed
 use Rattle.ep_guarded.specs.declared.kept.Kept.{Kept}
-use Rattle.ep_guarded.specs.Tied.{told_in, thread_of, buffer_number, buffer_place}
+use Rattle.ep_guarded.specs.Tied.{KeptState, told_in, thread_of, buffer_number, buffer_place}
 
 -- ---- a buffer
 
 -- What is open in a buffer is at rest: what its row knows of it is so, its records are numbered among all writes of its
--- thread, and its seat has taken what the slot has, and given nothing.
+-- thread, and its seat has taken what the slot has, given nothing, and was found dry as often as the slot refused a write.
 pub record KeptRests (events : List EventDef) (writes : ℕ → List Write) (kept : Kept) : Type 0 where
   pub opening : kept.told.opening ≡ opening_of kept.slot
   pub thread : kept.told.thread ≡ kept.slot.thread
@@ -32,9 +32,14 @@ pub record KeptRests (events : List EventDef) (writes : ℕ → List Write) (kep
   pub seat_is : IsSeatOf kept.told.grant.now.pool kept.seat
   pub share : kept.seat.share ≡ 1
   pub given : kept.seat.given ≡ 0
+  pub dry : kept.seat.dry ≡ kept.slot.refused
   pub taken : kept.seat.taken ≡ kept.slot.stolen + kept.slot.pending.chunks
   pub chunks : kept.slot.stolen + kept.slot.pending.chunks ≤ kept.slot.used
   pub few : kept.slot.used ≤ WRITES
+
+-- What contracts see of what is open.
+abbrev pub state_of : Kept → KeptState
+state_of kept = record { slot = kept.slot; seat = kept.seat }
 
 -- What a buffer and its row agree on.
 abbrev pub told_as : Option Told → Agreed

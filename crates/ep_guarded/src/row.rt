@@ -11,7 +11,7 @@ ghost use Rattle.ep_tie.specs.Tied.{Tied};
 ghost use Rattle.ep_guarded.specs.declared.agreed.Agreed.{Agreed as AgreedValue};
 ghost use Rattle.ep_guarded.specs.declared.agreed.Agreed.TheVariants as agreed;
 ghost use Rattle.ep_guarded.specs.declared.row.NotOpened.TheVariants as not_opened;
-ghost use Rattle.ep_guarded.specs.Tied.{stand_in, left_in, hand_in, grant_in, next_stand, thread_of, buffer_number, buffer_place, IsAway, IsDone};
+ghost use Rattle.ep_guarded.specs.Tied.{stand_in, left_in, hand_in, grant_in, next_stand, thread_of, buffer_number, buffer_place, AnswersShow, IsAway, IsDone};
 ghost use Rattle.ep_guarded.specs.Sessions.{Opens, Closes};
 
 use crate::agreed::{Agreed, Stand};
@@ -138,8 +138,9 @@ impl<'a, P: Program> TiedRow<'a, P> {
         self.row.next_due()
     }
 
-    /// Shows the write that was begun to a session that is due, whose buffer is lent. It takes no memory, and may wait for
-    /// the session's pool.
+    /// Shows the write that was begun to a session that is due, whose buffer is lent. Its record has the next number and
+    /// the stamp of the begin. It is refused exactly where it needs a chunk and the session's pool was found dry, which the
+    /// buffer's seat counts. It takes no memory, and may wait for the session's pool.
     pub fn show<R: Wait>(
         &mut self,
         rt: &R,
@@ -154,6 +155,7 @@ impl<'a, P: Program> TiedRow<'a, P> {
         requires last { slice_get (P.writes self.old.row.thread) (self.old.row.index - 1) ≡ Some write.now }
         requires place { buffer.old.place ≡ buffer_place P.rows (buffer_number self.old.number slot) }
         requires fits { IsTrue (valid.fits write.now) }
+        ensures answer { AnswersShow self.old.row.stamp write.now result buffer.old.kept buffer.new.kept }
         ensures due { ClearsBit slot self.old.row.due self.new.row.due }
         ensures bounded { self.new.row.due < 2 ^ 64 }
         ensures others { self.new.row ≡ record self.old.row { due = self.new.row.due; slots = self.new.row.slots } }
@@ -335,8 +337,8 @@ impl<'a, P: Program> TiedRow<'a, P> {
     }
 
     /// Closes the session of a hand, whose half is lent, and gives what was pending and what the session had of the row's
-    /// thread. The seat of the session's pool gets the buffer's share back, with what was taken through it. It takes no
-    /// memory.
+    /// thread. The seat of the session's pool gets the buffer's share back, with what was taken through it and how often it
+    /// was found dry, which is how many writes the marks tell as refused. It takes no memory.
     pub fn close(
         &mut self,
         ties: &Ties<P, Agreed<'a>>,

@@ -227,7 +227,7 @@ no_hands f (half ∷ halves) none =
 -- The rows of a session that is open nowhere.
 pub rows-fresh : (rows slot : ℕ) (grant : Grant) (halves : List (Tied Agreed)) (seat : SeatState) (lives : List ℕ)
     → IsFree rows slot halves → length lives ≡ rows
-    → seat ≡ record { pool = grant.pool.pool; total = grant.pool.total; seats = rows + 1; share = rows + 1; taken = 0; given = 0 }
+    → seat ≡ record { pool = grant.pool.pool; total = grant.pool.total; seats = rows + 1; share = rows + 1; taken = 0; given = 0; dry = 0 }
     → AreRowsOfOne rows slot grant halves seat 0 lives
 rows-fresh rows slot grant halves seat lives free lives_are seat_is =
     let off : (k : ℕ) (half : Tied Agreed) → slice_get halves k ≡ Some half → hand_in half.value ≡ None = λ k half is. (free.halves_are k half is).off in

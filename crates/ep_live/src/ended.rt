@@ -5,6 +5,7 @@ use crate::free::Free;
 use ep_guarded::{Grant, Program};
 use ep_pool::PoolSeat;
 use std::marker::Model;
+use std::sync::Wait;
 
 /// What the rows of a session leave that is closed everywhere and has given each chunk back: its slot, and the seat of its
 /// pool with all shares. Contracts see its slot, what it was granted, and the seat.
@@ -31,5 +32,18 @@ impl<'a, P: Program> Ended<'a, P> {
         ensures { result.now ≡ self.now.seat }
     {
         &self.seat
+    }
+
+    /// Takes all chunks out of the session's pool, and lets them go. Gives the slot, for another session, and how many
+    /// chunks there were: as many as the session was granted, since each has come back. It may wait for the pool.
+    pub fn retire<R: Wait>(self, rt: &R) -> (Free<'a, P>, u32)
+        ensures slot { result.0 ≡ self.entry.slot }
+        ensures chunks { result.1 ≡ self.entry.grant.config.chunks }
+    {
+        let Ended { free, grant, seat } = self;
+        let chunks = grant.pool.total();
+        let drained = grant.pool.drain(rt, seat);
+        prove!(drained == chunks);
+        (free, drained)
     }
 }

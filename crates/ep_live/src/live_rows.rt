@@ -66,7 +66,7 @@ impl<'r, 'a, P: Program, R: Wait> LiveRows<'r, 'a, P, R> {
         stands: Stands<'a, P>,
         lives: Vec<u32>,
     ) -> LiveRows<'r, 'a, P, R>
-        requires seat { seat ≡ record { pool = grant.now.pool.pool; total = grant.now.pool.total; seats = P.rows + 1; share = P.rows + 1; taken = 0; given = 0 } }
+        requires seat { seat ≡ record { pool = grant.now.pool.pool; total = grant.now.pool.total; seats = P.rows + 1; share = P.rows + 1; taken = 0; given = 0; dry = 0 } }
         requires lives { vec_len lives ≡ P.rows }
         ensures { AreFresh P.rows free.entry grant.now seat stands.entry lives.items result }
     {

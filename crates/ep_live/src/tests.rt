@@ -28,6 +28,8 @@ use std::test::Fail;
 use std::thread;
 use std::thread::Threads;
 
+mod lives;
+
 /// How often each of two threads writes.
 const TURNS: u32 = 300;
 
@@ -434,7 +436,7 @@ fn run<'a, P: Program + Send + Sync, R: Threads + Wait + Sync>(
     requires writes { (t : ℕ) → P.writes t ≡ replicate TURNS write.now }
     requires event { write.now.event ≡ 1 }
     requires fits { IsTrue (valid.fits write.now) }
-    requires seat { seat ≡ record { pool = grant.now.pool.pool; total = grant.now.pool.total; seats = 3; share = 3; taken = 0; given = 0 } }
+    requires seat { seat ≡ record { pool = grant.now.pool.pool; total = grant.now.pool.total; seats = 3; share = 3; taken = 0; given = 0; dry = 0 } }
     ensures taken { IfOk result (λ ended. (ended.2.share ≡ 3) × (ended.2.taken ≡ ended.2.given)) }
 {
     let (live, threads, hands) = Live::<P>::new(alloc, blank, 2, events)?;
