@@ -1,7 +1,7 @@
 -- What contracts see of rows and buffers with their halves of ties. All of it is this project's own.
 use Rattle.std.specs.Prelude.{ℕ, ◌+◌, ◌*◌, ◌≤◌, List, length, take, Option, None, Some}
 use Rattle.std.specs.List.{All}
-use Rattle.std.specs.Prelude.{◌≡◌, IsTrue, ◌↔◌}
+use Rattle.std.specs.Prelude.{◌≡◌, ◌≢◌, ◌⊎◌, ◌↔◌, true, IsTrue}
 use Rattle.ep_defs.specs.declared.limits.TheConstants.{SESSIONS}
 use Rattle.ep_defs.specs.declared.event.EventDef.{EventDef}
 use Rattle.ep_defs.specs.declared.session.Config.{Config}
@@ -46,6 +46,21 @@ abbrev pub stand_in : Option Agreed → Option Stand
 stand_in (Some (agreed.Stand stand)) = Some stand
 stand_in _ = None
 
+-- How far the thread had come that has left its row.
+abbrev pub left_in : Option Agreed → Option Stand
+left_in (Some (agreed.Left stand)) = Some stand
+left_in _ = None
+
+-- ---- threads and their rows
+
+-- The thread that a row serves in a life, both from 0: the threads of the first lives come first, by row.
+unfoldable pub thread_of : ℕ → ℕ → ℕ → ℕ
+thread_of rows number life = number + 1 + life * rows
+
+-- The next thread of a row, which has made no write.
+abbrev pub next_stand : ℕ → Stand → Stand
+next_stand rows stand = record { thread = stand.thread + rows; index = 0 }
+
 -- ---- numbers and places
 
 -- The number of a buffer, by its row, from 0, and its slot.
@@ -56,10 +71,19 @@ buffer_number row slot = row * SESSIONS + slot
 abbrev pub buffer_place : ℕ → ℕ → ℕ
 buffer_place rows number = rows + 2 * number
 
--- A row: its number, from 0, and itself.
+-- A row: its number, from 0, its life, from 0, and itself.
 pub record TiedRowState : Type 0 where
   pub number : ℕ
+  pub life : ℕ
   pub row : RowState
+
+-- A session that is to be opened on the row in this life finds that it has left, or serves another life.
+abbrev pub IsAway : ℕ → TiedRowState → Type 0
+IsAway life state = (state.row.left ≡ true) ⊎ (state.life ≢ life)
+
+-- The row serves this life, and its thread has begun so many writes.
+abbrev pub IsDone : ℕ → ℕ → TiedRowState → Type 0
+IsDone life writes state = (state.life ≡ life) × (state.row.index ≡ writes)
 
 -- What is open in a buffer: the session's slot on the row's thread, and a seat of the session's pool.
 pub record KeptState : Type 0 where
