@@ -25,7 +25,7 @@ pub record Opens (session thread : ℕ) (grant : Grant) (hand : HandState) (half
 
 -- The session of a hand, whose half told this, was closed: what was pending is taken with the hand, the marks count all that
 -- the session gets of the thread from its opening up to its closing, and the seat of its pool has the buffer's share back,
--- with all chunks that were taken through it, and was found dry once for each write that was refused.
+-- with all chunks that were taken through it, and was found dry once for each write that the marks tell as refused.
 pub record Closes (events : List EventDef) (writes : ℕ → List Write) (half : Option Agreed) (hand : HandState) (chain : List (List Record)) (last : ℕ) (marks : Marks) (old new : SeatState) : Type 0 where
   pub taken : AreTaken hand (records_of chain) last
   pub numbered : ForSome (grant_in half) (λ grant. All (IsNumbered events grant.config (writes hand.thread) hand.from) (records_of chain))
