@@ -437,7 +437,7 @@ program-kept r id e k there serves ticket ended = by_place (position (is_live_as
 -- ---- answers of the table
 
 -- A place that is found free is free.
-free-at : (seats : List (Option Seat)) (slot : ℕ) → position is_free seats ≡ Some slot → slice_get seats slot ≡ Some None
+pub free-at : (seats : List (Option Seat)) (slot : ℕ) → position is_free seats ≡ Some slot → slice_get seats slot ≡ Some None
 free-at seats slot h =
     let found = position-Some is_free seats slot None h in
     slice_get-get_or seats slot None found.0 ∙ ap Some (nothing (get_or seats slot None) found.1)

@@ -41,7 +41,7 @@ id-in : (id : ℕ) (e : Entry) (place : Option (Option Seat)) → is_on e ≡ tr
 id-in id e place on there = let p : place ≡ Some (Some (record { id = id; live = can_stop e })) = there ∙ ap Some (seat-on id e on) in rw p refl
 
 -- A slot is held by one session.
-one-seat : (seats : List (Option Seat)) (n id : ℕ) (g e : Entry) → is_on g ≡ true → is_on e ≡ true → slice_get seats g.slot ≡ Some (seat_of n g) →
+pub one-seat : (seats : List (Option Seat)) (n id : ℕ) (g e : Entry) → is_on g ≡ true → is_on e ≡ true → slice_get seats g.slot ≡ Some (seat_of n g) →
     slice_get seats e.slot ≡ Some (seat_of id e) → g.slot ≡ e.slot → n ≡ id
 one-seat seats n id g e on on' there there' same =
     sym (id-in n g (slice_get seats g.slot) on there) ∙ ap (λ k. id_in (slice_get seats k)) same ∙ id-in id e (slice_get seats e.slot) on' there'

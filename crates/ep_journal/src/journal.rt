@@ -101,7 +101,8 @@ impl Journal {
     pub fn fail(&mut self, id: u64)
         requires last { IsTrue (is_last self.old.decisions id) }
         requires serves { IsTrue (passes is_serving_entry (item self.old.sessions id)) }
-        ensures { self.new ≡ after_failing self.old id }
+        ensures after { self.new ≡ after_failing self.old id }
+        ensures kept { IsKept self.old }
     {
         let count = self.decisions.len();
         let entry = self.sessions.at(id);
@@ -150,7 +151,8 @@ impl Journal {
     /// The session of this id has ended so, and its slot is free.
     pub fn end(&mut self, id: u64, fate: Fate)
         requires { IsTrue (passes (λ entry. may_end fate entry.stage) (item self.old.sessions id)) }
-        ensures { self.new ≡ after_end self.old id fate }
+        ensures after { self.new ≡ after_end self.old id fate }
+        ensures kept { IsKept self.old }
     {
         let count = self.decisions.len();
         let entry = self.sessions.at(id);
