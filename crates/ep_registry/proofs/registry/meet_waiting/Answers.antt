@@ -1,7 +1,9 @@
-use Rattle.std.proofs.Common.{rules, tests, ◌≡◌, List, Option, Some, ◌-◌, slice_get, subst, sym}
+use Rattle.std.proofs.Common.{rules, tests, ◌≡◌, List, Option, Some, ◌-◌, slice_get, sym, ◌∙◌}
+use Rattle.std.proofs.lemmas.Iterator.Adapters.{YieldsList-from_vec}
+use Rattle.std.proofs.lemmas.Iterator.Consumers.{YieldsList-end}
+use Rattle.std.proofs.lemmas.List.{map-id}
 use Rattle.ep_journal.specs.declared.limits.TheConstants.{CONNECTIONS}
 use Rattle.ep_registry.specs.declared.hold.Hold.{Hold}
-use Rattle.ep_registry.specs.Held.{NoneWaits}
 use Rattle.ep_registry.proofs.Tied.{shown-known}
 use Rattle.ep_registry.proofs.Things.{nobody-has, none-more}
 use Rattle.ep_registry.proofs.registry.meet_waiting.Goals as goal
@@ -18,4 +20,8 @@ loop-place-preserved g c = (c.loop-place.invariant.0, none-more c.loop-place.yie
 
 pub returns : goal.returns
 returns g c =
-    let all : NoneWaits c.into_places-place-items.result.items = search (rules, tests) in rw (← c.into_places-place-items.ensures) all
+    let gives = c.into_iter-place-iterator.ensures.into_iter_gives in
+    let items = c.into_places-place-items.result in
+    let ends = YieldsList-end (YieldsList-from_vec {s = c.into_iter-place-iterator.result} items.items gives.0 (gives.1 ∙ items.ok.0)) c.loop-place.yielded c.loop-place.place-iterator c.loop-place.yielded_by c.next.result c.next.new.self c.in-None.is c.next.ensures.steps in
+    let whole : c.loop-place.yielded ≡ c.args.waiting = sym (map-id c.loop-place.yielded) ∙ ends.0 ∙ c.into_places-place-items.ensures in
+    rw (← whole) c.loop-place.invariant.1
