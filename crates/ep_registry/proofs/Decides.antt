@@ -3,10 +3,10 @@ use Rattle.std.proofs.Common.{◌≡◌, ℕ, List, [], ◌∷◌, ◌++◌, ref
 use Rattle.ep_table.specs.declared.table.Accepted.TheVariants as accepted
 use Rattle.ep_table.specs.declared.table.StopAnswer.{StopAnswer}
 use Rattle.ep_table.specs.declared.table.StopAnswer.TheVariants as answer
-use Rattle.ep_registry.specs.declared.decision.Decision.{Decision}
-use Rattle.ep_registry.specs.declared.decision.Decision.TheVariants as decision
+use Rattle.ep_journal.specs.declared.decision.Decision.{Decision}
+use Rattle.ep_journal.specs.declared.decision.Decision.TheVariants as decision
 use Rattle.ep_registry.specs.Registered.{ServerHalf}
-use Rattle.ep_registry.specs.Recorded.{Recorded, stopped_as, answer_to, after_stopping}
+use Rattle.ep_journal.specs.Recorded.{Recorded, stopped_as, answer_to, after_stopping}
 use Rattle.ep_registry.specs.Held.{stop_decides}
 
 stopped-as-decides : (r : Recorded) (a : StopAnswer) → (stopped_as r a).decisions ≡ r.decisions ++ stop_decides a ∷ []

@@ -7,75 +7,98 @@ use Rattle.std.proofs.lemmas.List.Sums.{count_by-le-length}
 use Rattle.std.proofs.lemmas.Option.{slice_get_within, get_or_from_slice_get}
 use Rattle.ep_table.specs.declared.limits.TheConstants.{SLOTS}
 use Rattle.ep_table.proofs.Places.{counts_one, get-set, get-set_other}
-use Rattle.ep_registry.specs.declared.limits.TheConstants.{CONNECTIONS}
-use Rattle.ep_registry.specs.declared.session.Entry.{Entry}
+use Rattle.ep_journal.specs.declared.limits.TheConstants.{CONNECTIONS}
+use Rattle.ep_journal.specs.declared.session.Entry.{Entry}
 use Rattle.ep_registry.specs.declared.server.Mark.{Mark}
-use Rattle.ep_registry.specs.Kept.{is_on}
-use Rattle.ep_registry.specs.Registered.{Desk, IsTied, IsMarked, RoleHalf, ServerHalf, mark_of, AreLeft, AreMarked, is_of, is_early}
-use Rattle.ep_registry.proofs.Methods.{count-first}
+use Rattle.ep_registry.specs.declared.server.Mark.TheVariants as mark
+use Rattle.ep_journal.specs.Kept.{is_on, is_of, is_early, is_late}
+use Rattle.ep_registry.specs.Registered.{Desk, IsTied, IsMarked, RoleHalf, ServerHalf, mark_of, AreLeft, AreMarked}
+use Rattle.ep_journal.proofs.Methods.{count-first}
 use Rattle.ep_registry.proofs.Tied.{marked-keeps}
 
 -- ---- marks
 
 abbrev mark_there : Option (Option Mark) → Mark
-mark_there None = record { count = 0; left = false }
-mark_there (Some None) = record { count = 0; left = false }
+mark_there None = mark.Server 0 0 false
+mark_there (Some None) = mark.Server 0 0 false
 mark_there (Some (Some mark)) = mark
 
 pub mark-known : (marks : List (Option Mark)) (place : ℕ) (a b : Mark) → slice_get marks place ≡ Some (Some a) → slice_get marks place ≡ Some (Some b) → a ≡ b
 mark-known marks place a b h g = let q : Some (Some a) ≡ Some (Some b) = sym h ∙ g in ap mark_there q
 
+-- What a server's mark shows.
+pub server-shows : (early late : ℕ) (left : Bool) (early' late' : ℕ) (left' : Bool) → mark.Server early late left ≡ mark.Server early' late' left' →
+    (early ≡ early') × (late ≡ late') × (left ≡ left')
+server-shows early late left early' late' left' h = (cc, cc, cc)
+
 -- The registry is not closed while the server's half says that it has not ended.
-pub unclosed-by : (marks : List (Option Mark)) (s t : ServerHalf) (early : ℕ) (closed : Bool) → slice_get marks SLOTS ≡ Some (Some (mark_of s)) →
-    slice_get marks SLOTS ≡ Some (Some (record { count = early; left = closed })) → s ≡ t → t.left ≡ false → closed ≡ false
-unclosed-by marks s t early closed h g same left =
-    let m = mark-known marks SLOTS (mark_of s) (record { count = early; left = closed }) h g in
-    let a : s.left ≡ closed = ap (λ (k : Mark). k.left) m in
+pub unclosed-by : (marks : List (Option Mark)) (s t : ServerHalf) (early late : ℕ) (closed : Bool) → slice_get marks SLOTS ≡ Some (Some (mark_of s)) →
+    slice_get marks SLOTS ≡ Some (Some (mark.Server early late closed)) → s ≡ t → t.left ≡ false → closed ≡ false
+unclosed-by marks s t early late closed h g same left =
+    let m = mark-known marks SLOTS (mark_of s) (mark.Server early late closed) h g in
+    let a : s.left ≡ closed = (server-shows s.early s.late s.left early late closed m).2 in
     let b : s.left ≡ t.left = ap (λ (k : ServerHalf). k.left) same in
     sym a ∙ b ∙ left
 
-pub role-known : (d : Desk) (number roles : ℕ) (left : Bool) → IsTied d → number < SLOTS → slice_get d.marks number ≡ Some (Some (record { count = roles; left = left })) →
-    IsMarked d number (Some (Some (record { count = roles; left = left })))
+-- What the server's half counts is what the registry counts.
+pub counted-by : (d : Desk) (s t : ServerHalf) → IsTied d → slice_get d.marks SLOTS ≡ Some (Some (mark_of s)) → s ≡ t →
+    (t.early ≡ count_by is_early d.recorded.sessions) × (t.late ≡ count_by is_late d.recorded.sessions)
+counted-by d s t tied h same =
+    let m = mark-known d.marks SLOTS (mark_of s) (mark.Server d.early d.late d.closed) h tied.server in
+    let shows = server-shows s.early s.late s.left d.early d.late d.closed m in
+    let a : t.early ≡ d.early = ap (λ (k : ServerHalf). k.early) (sym same) ∙ shows.0 in
+    let b : t.late ≡ d.late = ap (λ (k : ServerHalf). k.late) (sym same) ∙ shows.1 in
+    (a ∙ tied.early, b ∙ tied.late)
+
+pub role-known : (d : Desk) (number roles : ℕ) (left : Bool) → IsTied d → number < SLOTS → slice_get d.marks number ≡ Some (Some (mark.Role roles left)) →
+    IsMarked d number (Some (Some (mark.Role roles left)))
 role-known d number roles left t l shown = let m : IsMarked d number (slice_get d.marks number) = t.role number l in subst (IsMarked d number) shown m
 
 pub left-tied : (d : Desk) (number roles : ℕ) → IsTied d → number < SLOTS → roles ≡ d.roles → d.closed ≡ true → count_by (is_of d.roles number) d.recorded.sessions ≡ 0 →
-    IsTied (record d { marks = set d.marks number (Some (record { count = roles; left = true })) })
+    IsTied (record d { marks = set d.marks number (Some (mark.Role roles true)) })
 left-tied d number roles t l same closed none = record {
   book = t.book;
   places = t.places;
   holds = t.holds;
   spare = t.spare;
   few = t.few;
-  marks = length-set d.marks number mark ∙ t.marks;
-  server = get-set_other d.marks number SLOTS mark (λ q. absurd (omega (arith, q, l))) ∙ t.server;
+  marks = length-set d.marks number shown ∙ t.marks;
+  server = get-set_other d.marks number SLOTS shown (λ q. absurd (omega (arith, q, l))) ∙ t.server;
   early = t.early;
+  late = t.late;
   role = λ role within. by_test role within (eqb_tells role number);
   some = t.some;
 }
   where
-    mark : Option Mark
-    mark = Some (record { count = roles; left = true })
+    shown : Option Mark
+    shown = Some (mark.Role roles true)
 
     desk : Desk
-    desk = record d { marks = set d.marks number mark }
+    desk = record d { marks = set d.marks number shown }
 
     by_test : (role : ℕ) → role < SLOTS → ((eqb role number ≡ true) × (role ≡ number)) ⊎ ((eqb role number ≡ false) × (role ≢ number)) →
-        IsMarked desk role (slice_get (set d.marks number mark) role)
+        IsMarked desk role (slice_get (set d.marks number shown) role)
     by_test role within (inl h) =
-        let put : slice_get (set d.marks number mark) number ≡ Some mark = get-set d.marks number mark (let m : length d.marks ≡ SLOTS + 1 = t.marks in omega (arith, m, l)) in
-        let own : IsMarked desk number (Some mark) = (same, λ _. (closed, none)) in
+        let put : slice_get (set d.marks number shown) number ≡ Some shown = get-set d.marks number shown (let m : length d.marks ≡ SLOTS + 1 = t.marks in omega (arith, m, l)) in
+        let own : IsMarked desk number (Some shown) = (same, λ _. (closed, none)) in
         rw h.1 (subst (IsMarked desk number) (sym put) own)
     by_test role within (inr h) =
-        let m : slice_get (set d.marks number mark) role ≡ slice_get d.marks role = get-set_other d.marks number role mark h.1 in
+        let m : slice_get (set d.marks number shown) role ≡ slice_get d.marks role = get-set_other d.marks number role shown h.1 in
         rw m (marked-keeps d desk role (slice_get d.marks role) refl (λ q. q) (λ q n. n) (t.role role within))
 
 -- ---- counts
 
-pub early-small : (d : Desk) → IsTied d → d.early ≤ CONNECTIONS
-early-small d t =
-    let a : d.early ≡ count_by is_early d.recorded.sessions = t.early in
-    let b = count_by-le-length is_early d.recorded.sessions in
+-- A registry counts no more sessions than there can be connections.
+counted-few : (d : Desk) (p : Entry → Bool) (n : ℕ) → IsTied d → n ≡ count_by p d.recorded.sessions → n ≤ CONNECTIONS
+counted-few d p n t a =
+    let b = count_by-le-length p d.recorded.sessions in
     let c : length d.recorded.sessions ≤ CONNECTIONS = t.few in omega (arith, a, b, c)
+
+pub early-small : (d : Desk) → IsTied d → d.early ≤ CONNECTIONS
+early-small d t = counted-few d is_early d.early t t.early
+
+pub late-small : (d : Desk) → IsTied d → d.late ≤ CONNECTIONS
+late-small d t = counted-few d is_late d.late t t.late
 
 count-none : (p : Entry → Bool) (xs : List Entry) → ((place : ℕ) (x : Entry) → slice_get xs place ≡ Some x → p x ≡ false) → count_by p xs ≡ 0
 count-none p [] h = refl
@@ -86,7 +109,7 @@ count-none p (x ∷ xs) h =
     one : Bool → ℕ
     one t = cond t 1 0
 
-one-there : (p : Entry → Bool) (xs : List Entry) (place : ℕ) (x : Entry) → slice_get xs place ≡ Some x → count_by p xs ≡ 0 → p x ≡ false
+pub one-there : (p : Entry → Bool) (xs : List Entry) (place : ℕ) (x : Entry) → slice_get xs place ≡ Some x → count_by p xs ≡ 0 → p x ≡ false
 one-there p xs place x there none = by_case (p x) refl
   where
     by_case : (b : Bool) → p x ≡ b → p x ≡ false
@@ -100,13 +123,13 @@ one-there p xs place x there none = by_case (p x) refl
 pub none-on : (d : Desk) (roles : List RoleHalf) → IsTied d → AreLeft roles → AreMarked d.marks roles → count_by is_on d.recorded.sessions ≡ 0
 none-on d roles t left marked = count-none is_on d.recorded.sessions off
   where
-    shown : (number : ℕ) → number < length roles → slice_get d.marks number ≡ Some (Some (record { count = length roles; left = true }))
+    shown : (number : ℕ) → number < length roles → slice_get d.marks number ≡ Some (Some (mark.Role (length roles) true))
     shown number l = marked number (record { number = number; roles = length roles; left = true }) (left.each number l)
 
     known : (number : ℕ) → number < length roles → (length roles ≡ d.roles) × (count_by (is_of d.roles number) d.recorded.sessions ≡ 0)
     known number l =
         let few : length roles ≤ SLOTS = left.few in
-        let m : IsMarked d number (Some (Some (record { count = length roles; left = true }))) = role-known d number (length roles) true t (omega (arith, few, l)) (shown number l) in
+        let m : IsMarked d number (Some (Some (mark.Role (length roles) true))) = role-known d number (length roles) true t (omega (arith, few, l)) (shown number l) in
         (m.0, (m.1 refl).1)
 
     all : length roles ≡ d.roles

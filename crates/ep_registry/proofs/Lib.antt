@@ -1,11 +1,8 @@
-pub mod Items
-pub mod Borne
-pub mod Steps
-pub mod Methods
-pub mod Finish
 pub mod Numbered
 pub mod Tied
 pub mod Calls
 pub mod Leaves
-pub mod Written
 pub mod Decides
+pub mod Things
+pub mod Slots
+pub mod Fills

@@ -9,7 +9,7 @@ use Rattle.ep_tie.specs.Tied.{Tied}
 use Rattle.ep_registry.specs.declared.hold.Hold.{Hold}
 use Rattle.ep_registry.specs.Held.{AreInSlots}
 use Rattle.ep_registry.specs.Places.{AreInPlace, value_of, values_of, numbered}
-use Rattle.ep_registry.proofs.Items.{get-snoc-is}
+use Rattle.ep_journal.proofs.Items.{get-snoc-is}
 
 pub in-place-snoc : {V : Type 0} (halves : List (Tied V)) (half : Tied V) → AreInPlace halves → half.place ≡ length halves → AreInPlace (halves ++ half ∷ [])
 in-place-snoc halves half h p place x at = elim (get-snoc-is halves place x half at) [ inl t ↦ rw (t.0, t.1) p | inr t ↦ h place x t ]

@@ -6,18 +6,19 @@ use Rattle.std.proofs.lemmas.List.{length-set}
 use Rattle.std.proofs.lemmas.Bool.{and_parts}
 use Rattle.ep_table.proofs.Places.{get-set, get-set_other}
 use Rattle.ep_table.specs.Sessions.{Sessions}
-use Rattle.ep_registry.specs.declared.limits.TheConstants.{CONNECTIONS}
-use Rattle.ep_registry.specs.declared.decision.Decision.{Decision}
-use Rattle.ep_registry.specs.declared.session.Entry.{Entry}
+use Rattle.ep_journal.specs.declared.limits.TheConstants.{CONNECTIONS}
+use Rattle.ep_journal.specs.declared.decision.Decision.{Decision}
+use Rattle.ep_journal.specs.declared.session.Entry.{Entry}
 use Rattle.ep_registry.specs.declared.hold.Hold.{Hold}
 use Rattle.ep_registry.specs.declared.server.Mark.{Mark}
-use Rattle.ep_registry.specs.Items.{item, with_item}
+use Rattle.ep_registry.specs.declared.server.Mark.TheVariants as mark
+use Rattle.ep_journal.specs.Items.{item, with_item}
 use Rattle.ep_registry.specs.Places.{numbered}
-use Rattle.ep_registry.specs.Recorded.{begun}
-use Rattle.ep_registry.specs.Kept.{is_on}
+use Rattle.ep_journal.specs.Recorded.{begun}
+use Rattle.ep_journal.specs.Kept.{is_on, is_of, is_early, is_late}
 use Rattle.ep_registry.specs.Held.{hold_of, hold_at, AreHeld}
-use Rattle.ep_registry.specs.Registered.{Desk, IsTied, IsMarked, is_of, is_early}
-use Rattle.ep_registry.proofs.Items.{item-within, item-set, item-set-other, item-last, count-item, count-snoc}
+use Rattle.ep_registry.specs.Registered.{Desk, IsTied, IsMarked}
+use Rattle.ep_journal.proofs.Items.{item-within, item-set, item-set-other, item-last, count-item, count-snoc}
 
 -- ---- what a meeting shows
 
@@ -33,6 +34,11 @@ abbrev hold_there : Option (Option (Option Hold)) → Option Hold
 hold_there None = None
 hold_there (Some None) = None
 hold_there (Some (Some hold)) = hold
+
+-- Whoever shows what the registry's half shows knows what the registry knows.
+pub shown-known : (holds : List (Option (Option Hold))) (sessions : List Entry) (hold : Hold) → AreHeld holds sessions → 0 < hold.id → hold.id ≤ CONNECTIONS →
+    slice_get holds (CONNECTIONS - hold.id) ≡ Some (Some (Some hold)) → hold_at sessions hold.id ≡ Some hold
+shown-known holds sessions hold held first last h = ap hold_there (sym (held hold.id first last) ∙ h)
 
 pub held-known : (d : Desk) (hold : Hold) → IsTied d → 0 < hold.id → hold.id ≤ CONNECTIONS → slice_get d.holds (CONNECTIONS - hold.id) ≡ Some (Some (Some hold)) →
     hold_at d.recorded.sessions hold.id ≡ Some hold
@@ -79,7 +85,7 @@ get-snoc-other [] (suc k) y n = refl
 get-snoc-other (x ∷ xs) zero y n = refl
 get-snoc-other (x ∷ xs) (suc k) y n = get-snoc-other xs k y (λ e. n (ap suc e))
 
-item-snoc-other : {A : Type 0} (xs : List A) (n : ℕ) (y : A) → n ≢ length xs + 1 → item (xs ++ y ∷ []) n ≡ item xs n
+pub item-snoc-other : {A : Type 0} (xs : List A) (n : ℕ) (y : A) → n ≢ length xs + 1 → item (xs ++ y ∷ []) n ≡ item xs n
 item-snoc-other xs zero y d = refl
 item-snoc-other xs (suc k) y d = get-snoc-other xs k y (λ e. d (omega (arith, e)))
 
@@ -104,7 +110,8 @@ pub marked-keeps : (d d' : Desk) (role : ℕ) (o : Option (Option Mark)) → d'.
     (d.closed ≡ true → count_by (is_of d.roles role) d.recorded.sessions ≡ 0 → count_by (is_of d'.roles role) d'.recorded.sessions ≡ 0) → IsMarked d role o → IsMarked d' role o
 marked-keeps d d' role None same stays none h = h
 marked-keeps d d' role (Some None) same stays none h = h
-marked-keeps d d' role (Some (Some mark)) same stays none h = (h.0 ∙ sym same, λ l. let g = h.1 l in (stays g.0, none g.0 g.1))
+marked-keeps d d' role (Some (Some (mark.Server early late left))) same stays none h = h
+marked-keeps d d' role (Some (Some (mark.Role roles left))) same stays none h = (h.0 ∙ sym same, λ l. let g = h.1 l in (stays g.0, none g.0 g.1))
 
 count-off : (p : Entry → Bool) (sessions : List Entry) (id : ℕ) (e f : Entry) → item sessions id ≡ Some e → (p f ≡ true → p e ≡ true) → count_by p sessions ≡ 0 →
     count_by p (with_item sessions id f) ≡ 0
@@ -146,7 +153,25 @@ told-tied d table decisions ended t = record {
   marks = t.marks;
   server = t.server;
   early = t.early;
+  late = t.late;
   role = λ role l. marked-keeps d (record d { recorded = record { table = table; decisions = decisions; sessions = d.recorded.sessions; ended = ended }; book = Some decisions ∷ [] }) role (slice_get d.marks role) refl (λ c. c) (λ c n. n) (t.role role l);
+  some = t.some;
+}
+
+-- ---- all writers have ended
+
+pub writers-tied : (d : Desk) → IsTied d → IsTied (record d { recorded = record d.recorded { ended = true } })
+writers-tied d t = record {
+  book = t.book;
+  places = t.places;
+  holds = t.holds;
+  spare = t.spare;
+  few = t.few;
+  marks = t.marks;
+  server = t.server;
+  early = t.early;
+  late = t.late;
+  role = λ role l. marked-keeps d (record d { recorded = record d.recorded { ended = true } }) role (slice_get d.marks role) refl (λ c. c) (λ c n. n) (t.role role l);
   some = t.some;
 }
 
@@ -157,6 +182,7 @@ pub record Changes (d : Desk) (id : ℕ) (e f : Entry) (shown : List (Option (Op
   pub slot : f.slot ≡ e.slot
   pub on : is_on f ≡ true → is_on e ≡ true
   pub early : is_early f ≡ is_early e
+  pub late : is_late f ≡ is_late e
   pub places : length shown ≡ CONNECTIONS
   pub holds : AreHeld shown (with_item d.recorded.sessions id f)
 
@@ -171,6 +197,7 @@ changed-tied d table decisions ended id e f holds t c = record {
   marks = t.marks;
   server = t.server;
   early = t.early ∙ sym (same-count is_early d.recorded.sessions id e f c.there c.early);
+  late = t.late ∙ sym (same-count is_late d.recorded.sessions id e f c.there c.late);
   role =
       λ role l.
       marked-keeps d (record d { recorded = record { table = table; decisions = decisions; sessions = with_item d.recorded.sessions id f; ended = ended }; book = Some decisions ∷ []; holds = holds })
@@ -182,12 +209,13 @@ changed-tied d table decisions ended id e f holds t c = record {
 
 -- What changes with the half of whoever has the session.
 pub put-changes : (d : Desk) (id : ℕ) (e f : Entry) → IsTied d → id ≤ CONNECTIONS → item d.recorded.sessions id ≡ Some e → f.slot ≡ e.slot → (is_on f ≡ true → is_on e ≡ true) →
-    is_early f ≡ is_early e → Changes d id e f (set d.holds (CONNECTIONS - id) (Some (Some (hold_of id f))))
-put-changes d id e f t last there slot on early = record {
+    is_early f ≡ is_early e → is_late f ≡ is_late e → Changes d id e f (set d.holds (CONNECTIONS - id) (Some (Some (hold_of id f))))
+put-changes d id e f t last there slot on early late = record {
   there = there;
   slot = slot;
   on = on;
   early = early;
+  late = late;
   places = length-set d.holds (CONNECTIONS - id) (Some (Some (hold_of id f))) ∙ t.places;
   holds = held-set d.holds d.recorded.sessions id e f t.places last t.holds there;
 }
@@ -210,6 +238,7 @@ begun-tied d table decisions ended conn slot t room unclosed = record {
   marks = t.marks;
   server = t.server;
   early = let a = count-snoc is_early d.recorded.sessions f in let b : d.early ≡ count_by is_early d.recorded.sessions = t.early in omega (arith, a, b);
+  late = let a = count-snoc is_late d.recorded.sessions f in let b : d.late ≡ count_by is_late d.recorded.sessions = t.late in omega (arith, a, b);
   role = λ role l. marked-keeps d desk role (slice_get d.marks role) refl (λ q. q) (λ q n. absurd (let no : false ≡ true = sym unclosed ∙ q in cc)) (t.role role l);
   some = t.some;
 }

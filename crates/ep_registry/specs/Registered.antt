@@ -1,25 +1,25 @@
 -- A registry with its halves of the ties, and the halves of the server and of the roles.
-use Rattle.std.specs.Prelude.{◌≡◌, ℕ, ◌+◌, ◌-◌, ◌<◌, ◌≤◌, ◌%◌, Bool, true, false, ◌&&◌, Option, Some, None, List, [], ◌∷◌, length, count_by, slice_get, slice_set, ◌==◌}
+use Rattle.std.specs.Prelude.{◌≡◌, ℕ, ◌+◌, ◌-◌, ◌<◌, ◌≤◌, Bool, true, false, Option, Some, None, List, [], ◌∷◌, length, count_by, map, slice_get}
 use Rattle.ep_tie.specs.Tied.{Tied}
 use Rattle.ep_table.specs.declared.limits.TheConstants.{SLOTS}
-use Rattle.ep_registry.specs.declared.decision.Decision.{Decision}
-use Rattle.ep_registry.specs.declared.session.Entry.{Entry}
+use Rattle.ep_table.specs.Sessions.{is_free}
+use Rattle.ep_journal.specs.declared.decision.Decision.{Decision}
+use Rattle.ep_journal.specs.declared.session.Entry.{Entry}
+use Rattle.ep_journal.specs.declared.limits.TheConstants.{CONNECTIONS}
+use Rattle.ep_journal.specs.Recorded.{Recorded}
+use Rattle.ep_journal.specs.Kept.{is_of, is_early, is_late}
 use Rattle.ep_registry.specs.declared.hold.Hold.{Hold}
 use Rattle.ep_registry.specs.declared.server.Mark.{Mark}
-use Rattle.ep_registry.specs.declared.limits.TheConstants.{CONNECTIONS}
-use Rattle.ep_registry.specs.Recorded.{Recorded}
-use Rattle.ep_registry.specs.Kept.{is_on, is_session}
+use Rattle.ep_registry.specs.declared.server.Mark.TheVariants as mark
 use Rattle.ep_registry.specs.Places.{numbered}
-use Rattle.ep_registry.specs.Held.{AreHeld}
-use Rattle.ep_registry.specs.Written.{all_there}
+use Rattle.ep_registry.specs.Held.{AreHeld, AreOver}
 
--- What a registry is to its callers: what was decided, whether the server has ended, how many roles there are, which
--- writers have ended by thread, and which sessions wait for their roles by slot.
+-- What a registry is to its callers: what was decided, whether the server has ended, how many roles there are, and which
+-- sessions wait for their roles by slot.
 pub record Registered : Type 0 where
   pub recorded : Recorded
   pub closed : Bool
   pub roles : ℕ
-  pub there : List Bool
   pub waiting : List (Option Hold)
 
 -- ---- halves
@@ -28,6 +28,7 @@ pub record Registered : Type 0 where
 pub record ServerHalf : Type 0 where
   pub decisions : List Decision
   pub early : ℕ
+  pub late : ℕ
   pub left : Bool
 
 -- What a role's half shows.
@@ -38,7 +39,11 @@ pub record RoleHalf : Type 0 where
 
 -- What the registry keeps of the server.
 abbrev pub mark_of : ServerHalf → Mark
-mark_of s = record { count = s.early; left = s.left }
+mark_of s = mark.Server s.early s.late s.left
+
+-- What the registry keeps of a role.
+abbrev pub mark_of_role : RoleHalf → Mark
+mark_of_role r = mark.Role r.roles r.left
 
 -- The decisions, none where nothing is shown.
 abbrev pub list_in : Option (List Decision) → List Decision
@@ -47,28 +52,20 @@ list_in (Some decisions) = decisions
 
 -- The server's half of the decisions is that of the first place, and its mark is that of the last, after those of the
 -- roles.
-pub record IsServer (book : Tied (List Decision)) (mark : Mark) (half : Tied Mark) : Type 0 where
+pub record IsServer (book : Tied (List Decision)) (server : ServerHalf) (half : Tied Mark) : Type 0 where
   pub book_place : book.place ≡ 0
-  pub book_value : book.value ≡ Some (list_in book.value)
+  pub book_value : book.value ≡ Some server.decisions
   pub place : half.place ≡ SLOTS
-  pub value : half.value ≡ Some mark
+  pub value : half.value ≡ Some (mark_of server)
 
 -- A role's mark is that of its number.
-pub record IsRole (number : ℕ) (mark : Mark) (half : Tied Mark) : Type 0 where
-  pub one_of : number < mark.count
-  pub few : mark.count ≤ SLOTS
-  pub place : half.place ≡ number
-  pub value : half.value ≡ Some mark
+pub record IsRole (role : RoleHalf) (half : Tied Mark) : Type 0 where
+  pub one_of : role.number < role.roles
+  pub few : role.roles ≤ SLOTS
+  pub place : half.place ≡ role.number
+  pub value : half.value ≡ Some (mark_of_role role)
 
 -- ---- what the registry keeps
-
--- The session goes on, in a slot that this role serves: the slots are dealt out by their remainders.
-abbrev pub is_of : ℕ → ℕ → Entry → Bool
-is_of roles role e = (e.slot % roles == role) && is_on e
-
--- A session that was opened on all rows before any write.
-abbrev pub is_early : Entry → Bool
-is_early e = e.early && is_session e
 
 -- The registry's lists, with its halves of the ties by place.
 pub record Desk : Type 0 where
@@ -80,13 +77,15 @@ pub record Desk : Type 0 where
   pub roles : ℕ
   pub closed : Bool
   pub early : ℕ
+  pub late : ℕ
 
 -- A role that has left does so after the server, and none of its sessions goes on.
 abbrev pub IsMarked : Desk → ℕ → Option (Option Mark) → Type 0
 IsMarked d role None = ⊥
 IsMarked d role (Some None) = ⊥
-IsMarked d role (Some (Some mark)) =
-    (mark.count ≡ d.roles) × (mark.left ≡ true → (d.closed ≡ true) × (count_by (is_of d.roles role) d.recorded.sessions ≡ 0))
+IsMarked d role (Some (Some (mark.Server early late left))) = ⊥
+IsMarked d role (Some (Some (mark.Role roles left))) =
+    (roles ≡ d.roles) × (left ≡ true → (d.closed ≡ true) × (count_by (is_of d.roles role) d.recorded.sessions ≡ 0))
 
 -- The halves of the registry show what it has recorded.
 pub record IsTied (d : Desk) : Type 0 where
@@ -97,12 +96,21 @@ pub record IsTied (d : Desk) : Type 0 where
   pub holds : AreHeld d.holds d.recorded.sessions
   pub spare : d.spare ≡ numbered (CONNECTIONS - length d.recorded.sessions) None
   pub few : length d.recorded.sessions ≤ CONNECTIONS
-  -- The server knows how many sessions were opened before any write, and whether it has ended.
+  -- The server knows how many sessions were opened, before any write and later, and whether it has ended.
   pub marks : length d.marks ≡ SLOTS + 1
-  pub server : slice_get d.marks SLOTS ≡ Some (Some (record { count = d.early; left = d.closed }))
+  pub server : slice_get d.marks SLOTS ≡ Some (Some (mark.Server d.early d.late d.closed))
   pub early : d.early ≡ count_by is_early d.recorded.sessions
+  pub late : d.late ≡ count_by is_late d.recorded.sessions
   pub role : (role : ℕ) → role < SLOTS → IsMarked d role (slice_get d.marks role)
   pub some : 0 < d.roles
+
+-- A registry has a thing for each free slot, what is left of each session that has ended, and what the writers leave once
+-- all have ended.
+pub record IsRegistered (d : Desk) (frees : List Bool) (overs : List (Option Hold)) (left : Bool) : Type 0 where
+  pub tied : IsTied d
+  pub free : frees ≡ map is_free d.recorded.table.seats
+  pub over : AreOver overs d.recorded.sessions
+  pub gone : d.recorded.ended ≡ left
 
 -- One more, or none.
 abbrev pub counted_if : Bool → ℕ
@@ -118,23 +126,4 @@ pub record AreLeft (roles : List RoleHalf) : Type 0 where
 -- The registry's marks are those of the roles.
 abbrev pub AreMarked : List (Option Mark) → List RoleHalf → Type 0
 AreMarked marks roles =
-    (place : ℕ) (role : RoleHalf) → slice_get roles place ≡ Some role → slice_get marks role.number ≡ Some (Some (record { count = role.roles; left = role.left }))
-
--- What a registry leaves.
-pub record EndedLists : Type 0 where
-  pub decisions : List Decision
-  pub sessions : List Entry
-
--- The program has ended once all writers have.
-pub record IsRegistered (threads : ℕ) (d : Desk) (there : List Bool) : Type 0 where
-  pub tied : IsTied d
-  pub ended : d.recorded.ended ≡ all_there there
-  pub many : length there ≡ threads
-
--- The writer of this thread has ended.
-abbrev pub after_writer : Registered → ℕ → Registered
-after_writer r thread =
-    record r {
-      there = slice_set r.there (thread - 1) true;
-      recorded = record r.recorded { ended = all_there (slice_set r.there (thread - 1) true) };
-    }
+    (place : ℕ) (role : RoleHalf) → slice_get roles place ≡ Some role → slice_get marks role.number ≡ Some (Some (mark_of_role role))

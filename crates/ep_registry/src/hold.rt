@@ -1,11 +1,12 @@
 //! Who has a session.
-ghost use Rattle.std.specs.Prelude.{◌≡◌, ◌-◌, ◌<◌, ◌≤◌, length, Some, slice_get, slice_set};
+ghost use Rattle.std.specs.Prelude.{◌≡◌, ◌-◌, ◌<◌, ◌≤◌, IsTrue, length, Some, slice_get, slice_set};
 ghost use Rattle.ep_table.specs.declared.limits.TheConstants.{SLOTS};
-ghost use Rattle.ep_registry.specs.declared.limits.TheConstants.{CONNECTIONS};
+ghost use Rattle.ep_journal.specs.declared.limits.TheConstants.{CONNECTIONS};
+ghost use Rattle.ep_journal.specs.Recorded.{goes_on};
 
 use crate::ends::Ends;
-use crate::limits::CONNECTIONS;
-use crate::session::Stage;
+use ep_journal::limits::CONNECTIONS;
+use ep_journal::{Opened, Stage};
 use ep_tie::{Named, Right};
 use std::marker::Model;
 
@@ -19,12 +20,12 @@ pub struct Hold {
     /// Its slot, from 0.
     pub slot: u32,
     pub stage: Stage,
-    /// Whether it was opened on all rows before any write.
-    pub early: bool,
+    /// Whether it was opened on all rows.
+    pub opened: Opened,
 }
 
 /// The half of a tie that goes with a session, from the server to its role. The registry has the other half, so that
-/// both know the same of the session. Contracts see what is known of it.
+/// both know the same of the session. The session goes on: its end takes the half. Contracts see what is known of it.
 #[derive(Drop)]
 pub struct Holder<S: Named> {
     hold: Hold,
@@ -50,6 +51,7 @@ impl<S: Named> Holder<S> {
     ) -> Holder<S>
         requires known { (0 < hold.id) × (hold.id ≤ CONNECTIONS) }
         requires slot { hold.slot < SLOTS }
+        requires on { IsTrue (goes_on hold.stage) }
         requires place { half.place ≡ CONNECTIONS - hold.id }
         requires all { length holds.old ≡ CONNECTIONS }
         ensures holds { holds.new ≡ slice_set holds.old (CONNECTIONS - hold.id) (Some (Some hold)) }
@@ -65,6 +67,7 @@ impl<S: Named> Holder<S> {
         ensures value { result ≡ self.now }
         ensures known { (0 < result.id) × (result.id ≤ CONNECTIONS) }
         ensures slot { result.slot < SLOTS }
+        ensures on { IsTrue (goes_on result.stage) }
     {
         self.hold
     }
@@ -72,6 +75,7 @@ impl<S: Named> Holder<S> {
     pub(crate) fn meet(&mut self, holds: &mut Ends<S, Option<Hold>>)
         requires all { length holds.old ≡ CONNECTIONS }
         ensures known { (0 < self.old.id) × (self.old.id ≤ CONNECTIONS) }
+        ensures on { IsTrue (goes_on self.old.stage) }
         ensures equal { slice_get holds.old (CONNECTIONS - self.old.id) ≡ Some (Some (Some self.old)) }
         ensures same { (self.new ≡ self.old) × (holds.new ≡ holds.old) }
     {
@@ -82,11 +86,23 @@ impl<S: Named> Holder<S> {
     pub(crate) fn put(&mut self, holds: &mut Ends<S, Option<Hold>>, hold: Hold)
         requires all { length holds.old ≡ CONNECTIONS }
         requires same { (hold.id ≡ self.old.id) × (hold.slot ≡ self.old.slot) }
+        requires on { IsTrue (goes_on hold.stage) }
         ensures holds { holds.new ≡ slice_set holds.old (CONNECTIONS - hold.id) (Some (Some hold)) }
         ensures value { self.new ≡ hold }
     {
         let place = CONNECTIONS - self.hold.id as usize;
         holds.set(place, &mut self.half, &Some(hold));
         self.hold = hold;
+    }
+
+    // The last that is known of the session, which nobody has from then on.
+    pub(crate) fn close(self, holds: &mut Ends<S, Option<Hold>>, hold: Hold)
+        requires all { length holds.old ≡ CONNECTIONS }
+        requires same { hold.id ≡ self.id }
+        ensures { holds.new ≡ slice_set holds.old (CONNECTIONS - hold.id) (Some (Some hold)) }
+    {
+        let place = CONNECTIONS - self.hold.id as usize;
+        let mut half = self.half;
+        holds.set(place, &mut half, &Some(hold));
     }
 }

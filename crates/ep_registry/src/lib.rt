@@ -1,42 +1,37 @@
-//! The session registry of a diagnostic server: what was decided on each connection, and what became of each session.
+//! The session registry of a diagnostic server: its journal, tied to what the server and the roles know, and what is kept
+//! for them of slots and sessions.
 //!
-//! It stands on ep_table, which has the slots and the ids, and on ep_tie. The server keeps the `Registry` behind one
-//! lock; each call is what the server, a writer or a role does under that lock, and none but `new` takes memory. A
-//! `Journal` is what the registry knows: the table, the decisions by connection, the sessions by id, and whether all
-//! writers have ended. Each tie says that somebody outside of the lock knows the same: the server its decisions,
-//! whoever has a session how far it is, and each role whether it has ended. The definitions are in `specs/Recorded`,
-//! `specs/Held` and `specs/Registered`, what is always kept in `specs/Kept`, and what the lists say in the end in
-//! `specs/Told`.
+//! It stands on ep_journal, which says what was decided and what became of the sessions, and on ep_tie. The server keeps
+//! the `Registry` behind one lock; each call is what the server, a writer or a role does under that lock, and none but
+//! `new` takes memory. Each tie says that somebody outside of the lock knows the same: the server its decisions, whoever
+//! has a session how far it is, and each role whether it has ended. A slot is freed only by handing in what is there of
+//! it, and a session ends only by handing in what is left of it, of the kinds that `Kinds` names. The definitions are in
+//! `specs/Held` and `specs/Registered`.
 //!
-//! Its one contract: each decision is borne out by the sessions, and each session by the decisions and its slot. A stop
-//! is refused only where its session was not live at that decision, a ticket is never passed over, and a session ends
-//! with the program only once all writers have ended.
+//! Its one contract: the halves show what the journal has; a free slot, an ended session and the writers' end are there
+//! with what belongs to them, and no session that waits for its role is lost.
 #![tactic(auto)]
 
-mod decision;
 mod ends;
+mod free;
+mod gone;
 mod hold;
-mod journal;
-pub mod limits;
-mod log;
+mod kinds;
+mod over;
+mod places;
 mod registry;
 mod server;
-mod session;
 mod waiting;
-mod writers;
 
-pub use decision::Decision;
 pub use ends::Ends;
+pub use free::Frees;
+pub use gone::Gone;
 pub use hold::{Hold, Holder};
-pub use journal::Journal;
-pub use log::Log;
+pub use kinds::Kinds;
+pub use over::{Finished, Overs};
 pub use registry::{Ended, Opening, Registry};
 pub use server::{Mark, Role, Server};
-pub use session::{Entry, Fate, Stage};
-pub use waiting::{Fits, Handed, Waiting};
-pub use writers::{Program, Writers};
+pub use waiting::{Handed, Waiting};
 
-#[cfg(test)]
-mod histories;
 #[cfg(test)]
 mod tests;

@@ -1,40 +1,41 @@
 //! The registry as the server, the writers and the roles use it: a call is made with the caller's half of a tie, and
 //! changes it.
-ghost use Rattle.std.specs.Prelude.{◌≡◌, ◌+◌, ◌<◌, ◌≤◌, [], ◌∷◌, ◌++◌, ◌-◌, IfOk, IfSome, replicate, slice_get, IsTrue, Some, None, length, slice_set, true, false, ◌&&◌, ◌==◌, count_by};
+ghost use Rattle.std.specs.Prelude.{◌≡◌, ◌+◌, ◌<◌, ◌≤◌, [], ◌∷◌, ◌++◌, ◌-◌, IfOk, IfSome, replicate, slice_get, IsTrue, Some, None, is_some, length, slice_set, true, false, not, ◌&&◌, ◌==◌, count_by};
 ghost use Rattle.ep_table.specs.declared.limits.TheConstants.{SLOTS};
 ghost use Rattle.ep_table.specs.Sessions.{accepted_by};
-ghost use Rattle.ep_registry.specs.declared.limits.TheConstants.{CONNECTIONS};
-ghost use Rattle.ep_registry.specs.declared.decision.Decision.TheVariants as decision;
-ghost use Rattle.ep_registry.specs.declared.session.Stage.TheVariants as stage;
-ghost use Rattle.ep_registry.specs.declared.session.Fate.TheVariants as fate;
-ghost use Rattle.ep_registry.specs.Places.{numbered};
-ghost use Rattle.ep_registry.specs.Recorded.{nothing_recorded, decided, after_accepting, answer_to, after_stopping, after_failing, after_opening, found, after_looking, may_end, after_end, is_serving};
-ghost use Rattle.ep_registry.specs.Kept.{is_last};
-ghost use Rattle.ep_registry.specs.Held.{hold_at, begun_as, stage_found, accept_decides, stop_decides};
-ghost use Rattle.ep_registry.specs.Items.{with_item};
-ghost use Rattle.ep_registry.specs.Registered.{is_of, is_early, counted_if, AreLeft, AreMarked, after_writer};
-ghost use Rattle.ep_registry.specs.Told.{AreTold};
+ghost use Rattle.ep_journal.specs.declared.limits.TheConstants.{CONNECTIONS};
+ghost use Rattle.ep_journal.specs.declared.decision.Decision.TheVariants as decision;
+ghost use Rattle.ep_journal.specs.declared.session.Stage.TheVariants as stage;
+ghost use Rattle.ep_journal.specs.declared.session.Opened.TheVariants as opened;
+ghost use Rattle.ep_registry.specs.declared.server.Mark.TheVariants as mark;
+ghost use Rattle.ep_registry.specs.Places.{numbered, AreAt};
+ghost use Rattle.ep_journal.specs.Recorded.{nothing_recorded, decided, after_accepting, answer_to, after_stopping, after_failing, after_opening, opened_at, found, after_looking, may_end, after_end, goes_on, is_serving};
+ghost use Rattle.ep_journal.specs.Kept.{is_last, is_of, is_on, is_early, is_late};
+ghost use Rattle.ep_journal.specs.Items.{with_item};
+ghost use Rattle.ep_journal.specs.Told.{AreTold};
+ghost use Rattle.ep_registry.specs.Held.{hold_at, begun_as, holder_in, stage_found, accept_decides, stop_decides, AreHeld, AreOver, NoneWaits};
+ghost use Rattle.ep_registry.specs.Registered.{counted_if, AreLeft, AreMarked};
 
-use crate::decision::Decision;
 use crate::ends::Ends;
+use crate::free::Frees;
+use crate::gone::Gone;
 use crate::hold::{Hold, Holder};
-use crate::journal::Journal;
-use crate::limits::CONNECTIONS;
-use crate::log::Log;
+use crate::kinds::Kinds;
+use crate::over::{Finished, Overs};
 use crate::server::{Mark, Role, Server};
-use crate::session::{Entry, Fate, Stage};
-use crate::waiting::{Fits, Handed, Waiting};
-use crate::writers::{Program, Writers};
+use crate::waiting::{Handed, Waiting};
+use ep_journal::limits::CONNECTIONS;
+use ep_journal::{Decision, Entry, Fate, Journal, Log, Opened, Stage};
 use ep_table::limits::SLOTS;
 use ep_table::{Accepted, StopAnswer};
-use ep_tie::{Blank, Left, Named, Right, Ties};
+use ep_tie::{Blank, Named, Right};
 use std::alloc::{AllocError, Global};
 use std::marker::Model;
 
-/// The journal, with the registry's halves of the ties: one for the decisions, one for each session, and one for each
-/// role and the server.
+/// The journal, with the registry's halves of the ties, one for the decisions, one for each session, and one for each role
+/// and the server, and with what it keeps for its users.
 #[derive(Drop)]
-pub struct Registry<B: Named, S: Named, R: Named, T: Program, P: Fits<W>, W> {
+pub struct Registry<B: Named, S: Named, R: Named, P: Kinds<F, W, E, G>, F, W, E, G> {
     journal: Journal,
     book: Ends<B, Log<Decision>>,
     holds: Ends<S, Option<Hold>>,
@@ -43,63 +44,87 @@ pub struct Registry<B: Named, S: Named, R: Named, T: Program, P: Fits<W>, W> {
     roles: u32,
     closed: bool,
     early: u32,
-    writers: Writers<T>,
-    waiting: Waiting<S, P, W>,
+    late: u32,
+    frees: Frees<P, F, W, E, G>,
+    waiting: Waiting<S, P, F, W, E, G>,
+    overs: Overs<P, F, W, E, G>,
+    gone: Gone<P, F, W, E, G>,
 }
 
-impl<B: Named, S: Named, R: Named, T: Program, P: Fits<W>, W> Model for Registry<B, S, R, T, P, W> {
+impl<B: Named, S: Named, R: Named, P: Kinds<F, W, E, G>, F, W, E, G> Model
+    for Registry<B, S, R, P, F, W, E, G> {
     ghost use Rattle.ep_registry.specs.Registered.{Registered, IsRegistered};
 
     ghost Value = { Registered };
 
-    ghost view = { λ r. record { recorded = r.journal; closed = r.closed; roles = r.roles; there = r.writers; waiting = r.waiting } };
+    ghost view = { λ r. record { recorded = r.journal; closed = r.closed; roles = r.roles; waiting = r.waiting } };
 
-    ghost invariant = { λ r. IsRegistered T.threads (record { recorded = r.journal; book = r.book; holds = r.holds; spare = r.spare.items; marks = r.marks; roles = r.roles; closed = r.closed; early = r.early }) r.writers };
+    ghost invariant = { λ r. IsRegistered (record { recorded = r.journal; book = r.book; holds = r.holds; spare = r.spare.items; marks = r.marks; roles = r.roles; closed = r.closed; early = r.early; late = r.late }) r.frees r.overs r.gone };
 }
 
 /// A registry with the halves of the others.
 #[derive(Drop)]
-pub struct Opening<B: Named, S: Named, R: Named, T: Program, P: Fits<W>, W> {
-    pub registry: Registry<B, S, R, T, P, W>,
+pub struct Opening<B: Named, S: Named, R: Named, P: Kinds<F, W, E, G>, F, W, E, G> {
+    pub registry: Registry<B, S, R, P, F, W, E, G>,
     pub server: Server<B, R>,
     /// By the numbers of the roles, from 0.
     pub roles: Vec<Right<R, Mark>>,
 }
 
-impl<B: Named, S: Named, R: Named, T: Program, P: Fits<W>, W: Drop> Registry<B, S, R, T, P, W> {
-    /// No connection was decided. The only call that takes memory: room for all connections.
+/// What a registry leaves in the end.
+#[derive(Drop)]
+pub struct Ended<P: Kinds<F, W, E, G>, F, W, E, G> {
+    /// What was decided, by connection from 1.
+    pub decisions: Log<Decision>,
+    /// What became of the sessions, by id from 1.
+    pub sessions: Log<Entry>,
+    /// What is left of each session that has ended, by id from 1, with a place for each connection.
+    pub over: Vec<Option<Finished<P, F, W, E, G>>>,
+    /// What all writers leave, if they have ended.
+    pub gone: Option<G>,
+}
+
+impl<
+    B: Named,
+    S: Named,
+    R: Named,
+    P: Kinds<F, W, E, G>,
+    F: Drop,
+    W: Drop,
+    E: Drop,
+    G: Drop,
+> Registry<B, S, R, P, F, W, E, G> {
+    /// No connection was decided, and these are there of the free slots, by slot. The only call that takes memory: room
+    /// for all connections.
     pub fn new(
         alloc: Global,
         book: Blank<Log<Decision>>,
         holds: Blank<Option<Hold>>,
         marks: Blank<Mark>,
         roles: u32,
-        threads: u32,
-    ) -> Result<Opening<B, S, R, T, P, W>, AllocError>
+        free: Vec<F>,
+    ) -> Result<Opening<B, S, R, P, F, W, E, G>, AllocError>
         requires named { (book.ties ≡ B.ties) × (holds.ties ≡ S.ties) × (marks.ties ≡ R.ties) }
         requires room { (0 < book.places) × (CONNECTIONS ≤ holds.places) × (SLOTS < marks.places) }
         requires roles { (0 < roles) × (roles ≤ SLOTS) }
-        requires threads { (0 < threads) × (threads ≡ T.threads) }
+        requires free { (length free.items ≡ SLOTS) × AreAt P.free free.items }
         ensures registry { IfOk result (λ made. made.registry ≡ record {
           recorded = nothing_recorded;
           closed = false;
           roles = roles;
-          there = replicate threads false;
           waiting = replicate SLOTS None;
         }) }
-        ensures server { IfOk result (λ made. made.server ≡ record { decisions = []; early = 0; left = false }) }
-        ensures roles { IfOk result (λ made. made.roles.items
-            ≡ numbered SLOTS (record { count = roles; left = false })) }
+        ensures server { IfOk result (λ made. made.server
+            ≡ record { decisions = []; early = 0; late = 0; left = false }) }
+        ensures roles { IfOk result (λ made. made.roles.items ≡ numbered SLOTS (mark.Role roles false)) }
     {
         let journal = Journal::new(alloc)?;
-        let writers = Writers::new(alloc, threads)?;
+        let frees = Frees::new(alloc, free)?;
         let waiting = Waiting::new(alloc)?;
+        let overs = Overs::new(alloc)?;
         let (book, mut books) = Ends::new(alloc, book, 1, journal.decisions())?;
         let (holds, spare) = Ends::new(alloc, holds, CONNECTIONS as u32, &None)?;
-        let mark = Mark {
-            count: roles,
-            left: false,
-        };
+        let mark = Mark::Role { roles, left: false };
         let (mut marks, mut halves) = Ends::new(alloc, marks, SLOTS as u32 + 1, &mark)?;
         let Some(other) = books.pop() else {
             unreachable!()
@@ -117,8 +142,11 @@ impl<B: Named, S: Named, R: Named, T: Program, P: Fits<W>, W: Drop> Registry<B, 
             roles,
             closed: false,
             early: 0,
-            writers,
+            late: 0,
+            frees,
             waiting,
+            overs,
+            gone: Gone::new(),
         };
         Ok(Opening {
             registry,
@@ -139,17 +167,20 @@ impl<B: Named, S: Named, R: Named, T: Program, P: Fits<W>, W: Drop> Registry<B, 
         server.tell(&mut self.book, self.journal.decisions());
     }
 
-    /// The next connection asked for a session. The server has it, unless all slots are held.
-    pub fn accept(&mut self, server: &mut Server<B, R>) -> Option<Holder<S>>
+    /// The next connection asked for a session. The server has it, with what is there of its slot, unless all slots are
+    /// held.
+    pub fn accept(&mut self, server: &mut Server<B, R>) -> Option<(Holder<S>, F)>
         requires open { server.old.left ≡ false }
         requires room { length server.old.decisions < CONNECTIONS }
-        ensures answer { result ≡ begun_as self.old.recorded (accepted_by self.old.recorded.table) }
+        ensures answer { holder_in result ≡ begun_as self.old.recorded (accepted_by self.old.recorded.table) }
+        ensures free { IfSome result (λ begun. P.free begun.0.slot begun.1) }
         ensures after { self.new ≡ record self.old { recorded = after_accepting self.old.recorded } }
         ensures agreed { server.old.decisions ≡ self.old.recorded.decisions }
-        ensures half { server.new
-            ≡ record server.old { decisions = server.old.decisions ++ accept_decides result ∷ [] } }
-        ensures begins { IfSome result (λ hold. (hold.stage ≡ stage.Serving)
-            × (hold.early ≡ false) × (hold.conn ≡ length server.old.decisions + 1)) }
+        ensures half { server.new ≡ record server.old {
+          decisions = server.old.decisions ++ accept_decides (holder_in result) ∷ [];
+        } }
+        ensures begins { IfSome result (λ begun. (begun.0.stage ≡ stage.Serving)
+            × (begun.0.opened ≡ opened.No) × (begun.0.conn ≡ length server.old.decisions + 1)) }
     {
         server.meet(&mut self.book);
         server.meet_mark(&mut self.marks);
@@ -159,7 +190,9 @@ impl<B: Named, S: Named, R: Named, T: Program, P: Fits<W>, W: Drop> Registry<B, 
         match answer {
             Accepted::Seat { slot, id } => {
                 let hold = begun(id, conn, slot);
-                Some(hand_out(&mut self.holds, &mut self.spare, hold))
+                let free = self.frees.take(slot);
+                let holder = hand_out(&mut self.holds, &mut self.spare, hold);
+                Some((holder, free))
             }
             Accepted::Full => None,
         }
@@ -179,48 +212,51 @@ impl<B: Named, S: Named, R: Named, T: Program, P: Fits<W>, W: Drop> Registry<B, 
         answer
     }
 
-    /// The start of the session that was accepted last has failed: its slot is free, and its connection began no
-    /// session.
-    pub fn fail(&mut self, server: &mut Server<B, R>, holder: &mut Holder<S>)
-        requires last { IsTrue (is_last server.old.decisions holder.old.id) }
-        requires serves { IsTrue (is_serving holder.old.stage) }
-        requires unopened { holder.old.early ≡ false }
-        ensures after { self.new ≡ record self.old { recorded = after_failing self.old.recorded holder.old.id } }
+    /// The start of the session that was accepted last has failed, and nobody has it from then on. Its slot is free, with
+    /// this, and its connection began no session.
+    pub fn fail(&mut self, server: &mut Server<B, R>, holder: Holder<S>, free: F)
+        requires last { IsTrue (is_last server.old.decisions holder.id) }
+        requires serves { IsTrue (is_serving holder.stage) }
+        requires unopened { holder.opened ≡ opened.No }
+        requires free { P.free holder.slot free }
+        ensures after { self.new ≡ record self.old { recorded = after_failing self.old.recorded holder.id } }
         ensures agreed { server.old.decisions ≡ self.old.recorded.decisions }
-        ensures known { hold_at self.old.recorded.sessions holder.old.id ≡ Some holder.old }
+        ensures known { hold_at self.old.recorded.sessions holder.id ≡ Some holder }
         ensures half { server.new
             ≡ record server.old { decisions = with_item server.old.decisions (length server.old.decisions) decision.Nothing } }
-        ensures failed { holder.new ≡ record holder.old { stage = stage.Failed } }
     {
+        let mut holder = holder;
         server.meet(&mut self.book);
         holder.meet(&mut self.holds);
         let hold = holder.hold();
         self.journal.fail(hold.id);
         server.tell(&mut self.book, self.journal.decisions());
         let stage = Stage::Failed;
-        holder.put(&mut self.holds, Hold { stage, ..hold });
+        holder.close(&mut self.holds, Hold { stage, ..hold });
+        self.frees.put(hold.slot, free);
     }
 
-    /// The server has opened the session on all rows, before any write or not.
+    /// The server has opened the session on all rows, before any write or later.
     pub fn open(&mut self, server: &mut Server<B, R>, holder: &mut Holder<S>, early: bool)
         requires serves { IsTrue (is_serving holder.old.stage) }
-        requires unopened { holder.old.early ≡ false }
+        requires unopened { holder.old.opened ≡ opened.No }
         ensures after { self.new ≡ record self.old { recorded = after_opening self.old.recorded holder.old.id early } }
         ensures known { hold_at self.old.recorded.sessions holder.old.id ≡ Some holder.old }
-        ensures opened { holder.new ≡ record holder.old { early = early } }
-        ensures counted { server.new ≡ record server.old { early = server.old.early + counted_if early } }
+        ensures opened { holder.new ≡ record holder.old { opened = opened_at early } }
+        ensures counted { server.new ≡ record server.old {
+          early = server.old.early + counted_if early;
+          late = server.old.late + counted_if (not early);
+        } }
     {
         server.meet_mark(&mut self.marks);
         holder.meet(&mut self.holds);
         let hold = holder.hold();
         self.journal.open(hold.id, early);
-        holder.put(&mut self.holds, Hold { early, ..hold });
+        let opened = opened_at(early);
+        holder.put(&mut self.holds, Hold { opened, ..hold });
         self.early += counted_if(early);
-        let mark = Mark {
-            count: self.early,
-            left: self.closed,
-        };
-        server.put_mark(&mut self.marks, mark);
+        self.late += counted_if(!early);
+        server.put_mark(&mut self.marks, self.early, self.late, self.closed);
     }
 
     /// Whether the session is to end, and as what. Once the program's end is found, no stop of it is granted.
@@ -239,29 +275,50 @@ impl<B: Named, S: Named, R: Named, T: Program, P: Fits<W>, W: Drop> Registry<B, 
         found
     }
 
-    /// The session has ended so, and its slot is free.
-    pub fn end(&mut self, holder: &mut Holder<S>, fate: Fate)
-        requires may { IsTrue (may_end fate holder.old.stage) }
-        ensures after { self.new ≡ record self.old { recorded = after_end self.old.recorded holder.old.id fate } }
-        ensures known { hold_at self.old.recorded.sessions holder.old.id ≡ Some holder.old }
-        ensures over { holder.new ≡ record holder.old { stage = stage.Over fate } }
+    /// The session has ended so, and nobody has it from then on. Its slot is free, with this, and the end is what is left
+    /// of it.
+    pub fn end(&mut self, holder: Holder<S>, fate: Fate, free: F, end: E)
+        requires may { IsTrue (may_end fate holder.stage) }
+        requires free { P.free holder.slot free }
+        requires over { P.over (record holder { stage = stage.Over fate }) end }
+        ensures after { self.new ≡ record self.old { recorded = after_end self.old.recorded holder.id fate } }
+        ensures known { hold_at self.old.recorded.sessions holder.id ≡ Some holder }
     {
+        let mut holder = holder;
         holder.meet(&mut self.holds);
         let hold = holder.hold();
         self.journal.end(hold.id, fate);
         let stage = Stage::Over(fate);
-        holder.put(&mut self.holds, Hold { stage, ..hold });
+        let over = Hold { stage, ..hold };
+        holder.close(&mut self.holds, over);
+        self.frees.put(hold.slot, free);
+        let finished = Finished::new(over, end);
+        self.overs.put(finished);
     }
 
-    /// The session goes to its role, with what fits it.
-    pub fn hand_over(&mut self, handed: Handed<S, P, W>)
-        ensures { self.new ≡ record self.old { waiting = slice_set self.old.waiting handed.slot (Some handed) } }
+    /// The session goes to its role, with what fits it. None waits in its slot: it would be the same session, and there is
+    /// one half of its tie.
+    pub fn hand_over(&mut self, handed: Handed<S, P, F, W, E, G>)
+        ensures alone { slice_get self.old.waiting handed.slot ≡ Some None }
+        ensures after { self.new ≡ record self.old { waiting = slice_set self.old.waiting handed.slot (Some handed) } }
     {
-        self.waiting.put(handed);
+        let slot = handed.hold().slot;
+        match self.waiting.take(slot) {
+            Some(other) => {
+                let (mut other, _) = other.open();
+                let (mut holder, _) = handed.open();
+                other.meet(&mut self.holds);
+                holder.meet(&mut self.holds);
+                let _count = self.journal.decided();
+                meet_both(&mut self.holds, &mut other, &mut holder);
+                unreachable!()
+            }
+            None => self.waiting.put(handed),
+        }
     }
 
     /// The session that waits in this slot, if there is one.
-    pub fn take(&mut self, slot: u32) -> Option<Handed<S, P, W>>
+    pub fn take(&mut self, slot: u32) -> Option<Handed<S, P, F, W, E, G>>
         requires { slot < SLOTS }
         ensures value { slice_get self.old.waiting slot ≡ Some result }
         ensures slot { IfSome result (λ handed. handed.slot ≡ slot) }
@@ -270,37 +327,13 @@ impl<B: Named, S: Named, R: Named, T: Program, P: Fits<W>, W: Drop> Registry<B, 
         self.waiting.take(slot)
     }
 
-    /// The writer of this thread, from 1, has ended after all of its writes, and leaves its half. Once all have, the
-    /// program has ended.
-    pub fn end_writer(&mut self, thread: u32, half: Right<T, u32>)
-        requires known { (0 < thread) × (thread ≤ T.threads) }
-        requires ended { (half.place ≡ thread - 1) × (half.value ≡ Some T.writes) }
-        ensures { self.new ≡ after_writer self.old thread }
+    /// All writers have ended, and leave this.
+    pub fn end_writers(&mut self, gone: G)
+        requires { P.gone gone }
+        ensures { self.new ≡ record self.old { recorded = record self.old.recorded { ended = true } } }
     {
-        self.writers.put(thread, half);
-        if self.writers.all() {
-            self.journal.end_writers();
-        }
-    }
-
-    /// Says that the row of this thread has taken all of its writes, where the session ends with the program.
-    pub fn meet_row(
-        &mut self,
-        ties: &Ties<T, u32>,
-        holder: &mut Holder<S>,
-        thread: u32,
-        row: &mut Left<T, u32>,
-    )
-        requires ends { holder.old.stage ≡ stage.Ending fate.ProgramEnd }
-        requires known { (0 < thread) × (thread ≤ T.threads) }
-        requires place { row.old.place ≡ thread - 1 }
-        ensures written { row.old.value ≡ Some T.writes }
-        ensures same { (self.new ≡ self.old) × (holder.new ≡ holder.old) × (row.new ≡ row.old) }
-    {
-        holder.meet(&mut self.holds);
-        let ended = self.journal.has_ended();
-        prove!(ended);
-        self.writers.meet(ties, thread, row);
+        self.gone.put(gone);
+        self.journal.end_writers();
     }
 
     /// The server has ended: it takes no more connections.
@@ -310,11 +343,7 @@ impl<B: Named, S: Named, R: Named, T: Program, P: Fits<W>, W: Drop> Registry<B, 
     {
         server.meet_mark(&mut self.marks);
         self.closed = true;
-        let mark = Mark {
-            count: self.early,
-            left: true,
-        };
-        server.put_mark(&mut self.marks, mark);
+        server.put_mark(&mut self.marks, self.early, self.late, true);
     }
 
     /// Lets the role end, where the server has ended and none of the role's sessions goes on.
@@ -336,88 +365,54 @@ impl<B: Named, S: Named, R: Named, T: Program, P: Fits<W>, W: Drop> Registry<B, 
         true
     }
 
-    /// What the registry leaves once all roles have ended: no slot is held then.
-    pub fn finish(self, server: &mut Server<B, R>, roles: Vec<Role<R>>) -> Ended<S>
+    /// What the registry leaves once all roles have ended: no slot is held then, and no session waits.
+    pub fn finish(self, server: &mut Server<B, R>, roles: Vec<Role<R>>) -> Ended<P, F, W, E, G>
         requires roles { AreLeft roles.items }
         ensures told { AreTold result.decisions result.sessions self.recorded.ended }
         ensures same { (result.decisions ≡ self.recorded.decisions)
             × (result.sessions ≡ self.recorded.sessions) }
         ensures agreed { server.old.decisions ≡ result.decisions }
         ensures early { server.old.early ≡ count_by is_early result.sessions }
+        ensures late { server.old.late ≡ count_by is_late result.sessions }
+        ensures over { AreOver result.over.items result.sessions }
+        ensures gone { IfSome result.gone P.gone }
+        ensures ended { self.recorded.ended ≡ is_some result.gone }
+        ensures none_waits { NoneWaits self.waiting }
     {
         let Registry {
             journal,
             mut book,
-            holds,
+            mut holds,
             mut marks,
+            overs,
+            waiting,
+            gone,
             ..
         } = self;
         server.meet(&mut book);
         server.meet_mark(&mut marks);
         meet_roles(&mut marks, roles);
+        meet_waiting(&mut holds, &journal, waiting);
         let (decisions, sessions) = journal.finish();
         Ended {
             decisions,
             sessions,
-            holds,
+            over: overs.into_places(),
+            gone: gone.open(),
         }
     }
 }
 
-/// What a registry leaves in the end.
-#[derive(Drop)]
-pub struct Ended<S: Named> {
-    decisions: Log<Decision>,
-    sessions: Log<Entry>,
-    holds: Ends<S, Option<Hold>>,
-}
-
-impl<S: Named> Model for Ended<S> {
-    ghost use Rattle.std.specs.Prelude.{◌≡◌, length};
-    ghost use Rattle.ep_registry.specs.declared.limits.TheConstants.{CONNECTIONS};
-    ghost use Rattle.ep_registry.specs.Held.{AreHeld};
-    ghost use Rattle.ep_registry.specs.Registered.{EndedLists};
-
-    ghost Value = { EndedLists };
-
-    ghost view = { λ e. record { decisions = e.decisions; sessions = e.sessions } };
-
-    ghost invariant = { λ e. (length e.holds ≡ CONNECTIONS) × AreHeld e.holds e.sessions };
-}
-
-impl<S: Named> Ended<S> {
-    /// What was decided, by connection from 1.
-    pub fn decisions(&self) -> &Log<Decision>
-        ensures { result.now ≡ self.now.decisions }
-    {
-        &self.decisions
-    }
-
-    /// What became of the sessions, by id from 1.
-    pub fn sessions(&self) -> &Log<Entry>
-        ensures { result.now ≡ self.now.sessions }
-    {
-        &self.sessions
-    }
-
-    /// Says that what a role knows of its session stands in the list.
-    pub fn meet(&mut self, holder: &mut Holder<S>)
-        ensures known { hold_at self.old.sessions holder.old.id ≡ Some holder.old }
-        ensures same { (self.new ≡ self.old) × (holder.new ≡ holder.old) }
-    {
-        holder.meet(&mut self.holds);
-    }
-}
-
 fn begun(id: u64, conn: u32, slot: u32) -> Hold
-    ensures { result ≡ record { id = id; conn = conn; slot = slot; stage = stage.Serving; early = false } }
+    ensures { result
+        ≡ record { id = id; conn = conn; slot = slot; stage = stage.Serving; opened = opened.No } }
 {
     Hold {
         id,
         conn,
         slot,
         stage: Stage::Serving,
-        early: false,
+        opened: Opened::No,
     }
 }
 
@@ -429,6 +424,7 @@ fn hand_out<S: Named>(
 ) -> Holder<S>
     requires known { (0 < hold.id) × (hold.id ≤ CONNECTIONS) }
     requires slot { hold.slot < SLOTS }
+    requires on { IsTrue (goes_on hold.stage) }
     requires all { length holds.old ≡ CONNECTIONS }
     requires spare { spare.old.items ≡ numbered (CONNECTIONS - hold.id + 1) None }
     ensures holds { holds.new ≡ slice_set holds.old (CONNECTIONS - hold.id) (Some (Some hold)) }
@@ -450,10 +446,16 @@ fn stage_found(stage: Stage, found: Option<Fate>) -> Stage
     }
 }
 
-fn counted_if(early: bool) -> u32
-    ensures { result ≡ counted_if early }
+fn opened_at(early: bool) -> Opened
+    ensures { result ≡ opened_at early }
 {
-    if early { 1 } else { 0 }
+    if early { Opened::Early } else { Opened::Late }
+}
+
+fn counted_if(is_one: bool) -> u32
+    ensures { result ≡ counted_if is_one }
+{
+    if is_one { 1 } else { 0 }
 }
 
 fn meet_roles<R: Named>(marks: &mut Ends<R, Mark>, roles: Vec<Role<R>>)
@@ -464,5 +466,49 @@ fn meet_roles<R: Named>(marks: &mut Ends<R, Mark>, roles: Vec<Role<R>>)
     for role in roles {
         let mut role = role;
         role.meet(marks);
+    }
+}
+
+// There is one half of the tie of a session, so nobody else has it: were there two, one could be given another value
+// without the other.
+fn meet_both<S: Named>(
+    holds: &mut Ends<S, Option<Hold>>,
+    one: &mut Holder<S>,
+    other: &mut Holder<S>,
+)
+    requires all { length holds.old ≡ CONNECTIONS }
+    requires same { one.old.id ≡ other.old.id }
+    ensures { ⊥ }
+{
+    one.meet(holds);
+    other.meet(holds);
+    let hold = other.hold();
+    let conn = if hold.conn == 0 { 1 } else { 0 };
+    other.put(holds, Hold { conn, ..hold });
+    one.meet(holds);
+    unreachable!()
+}
+
+// Once no session goes on, none waits: whoever has a session has one that goes on.
+fn meet_waiting<S: Named, P: Kinds<F, W, E, G>, F, W: Drop, E, G>(
+    holds: &mut Ends<S, Option<Hold>>,
+    journal: &Journal,
+    waiting: Waiting<S, P, F, W, E, G>,
+)
+    requires all { length holds.old ≡ CONNECTIONS }
+    requires held { AreHeld holds.old journal.now.sessions }
+    requires none { count_by is_on journal.now.sessions ≡ 0 }
+    ensures { NoneWaits waiting }
+{
+    let _ = journal;
+    for place in waiting.into_places() {
+        match place {
+            Some(handed) => {
+                let (mut holder, _) = handed.open();
+                holder.meet(holds);
+                unreachable!()
+            }
+            None => {}
+        }
     }
 }

@@ -1,30 +1,32 @@
 //! The halves of the server and of the roles.
 ghost use Rattle.std.specs.Prelude.{◌≡◌, ◌<◌, ◌≤◌, length, [], Some, true, false, slice_get, slice_set};
 ghost use Rattle.ep_table.specs.declared.limits.TheConstants.{SLOTS};
-ghost use Rattle.ep_registry.specs.Registered.{mark_of};
+ghost use Rattle.ep_registry.specs.declared.server.Mark.TheVariants as mark;
+ghost use Rattle.ep_registry.specs.Registered.{mark_of, mark_of_role};
 
-use crate::decision::Decision;
 use crate::ends::Ends;
-use crate::log::Log;
+use ep_journal::{Decision, Log};
 use ep_table::limits::SLOTS;
 use ep_tie::{Named, Right};
 use std::marker::Model;
 
 /// What the server or a role has in common with the registry.
 #[derive(Clone, Copy, Debug, PartialEq, Eq)]
-pub struct Mark {
-    /// Of the server: how many sessions were opened on all rows before any write. Of a role: how many roles there are.
-    pub count: u32,
-    /// Whether it has ended.
-    pub left: bool,
+pub enum Mark {
+    /// How many sessions were opened on all rows, before any write and later, and whether the server has ended.
+    Server { early: u32, late: u32, left: bool },
+    /// How many roles there are, and whether this one has ended.
+    Role { roles: u32, left: bool },
 }
 
-/// The server's halves. Contracts see the decisions by connection, how many sessions were opened before any write, and
-/// whether the server has ended.
+/// The server's halves. Contracts see the decisions by connection, how many sessions were opened before any write and how
+/// many later, and whether the server has ended.
 #[derive(Drop)]
 pub struct Server<B: Named, R: Named> {
     book: Right<B, Log<Decision>>,
-    mark: Mark,
+    early: u32,
+    late: u32,
+    left: bool,
     half: Right<R, Mark>,
 }
 
@@ -33,9 +35,9 @@ impl<B: Named, R: Named> Model for Server<B, R> {
 
     ghost Value = { ServerHalf };
 
-    ghost view = { λ s. record { decisions = list_in s.book.value; early = s.mark.count; left = s.mark.left } };
+    ghost view = { λ s. record { decisions = list_in s.book.value; early = s.early; late = s.late; left = s.left } };
 
-    ghost invariant = { λ s. IsServer s.book s.mark s.half };
+    ghost invariant = { λ s. IsServer s.book (record { decisions = list_in s.book.value; early = s.early; late = s.late; left = s.left }) s.half };
 }
 
 impl<B: Named, R: Named> Server<B, R> {
@@ -46,23 +48,37 @@ impl<B: Named, R: Named> Server<B, R> {
     ) -> Server<B, R>
         requires book { (book.place ≡ 0) × (book.value ≡ Some []) }
         requires place { (half.place ≡ SLOTS) × (SLOTS < length marks.old) }
-        ensures marks { marks.new ≡ slice_set marks.old SLOTS (Some (record { count = 0; left = false })) }
-        ensures value { result ≡ record { decisions = []; early = 0; left = false } }
+        ensures marks { marks.new ≡ slice_set marks.old SLOTS (Some (mark.Server 0 0 false)) }
+        ensures value { result ≡ record { decisions = []; early = 0; late = 0; left = false } }
     {
-        let mark = Mark {
-            count: 0,
+        let mark = Mark::Server {
+            early: 0,
+            late: 0,
             left: false,
         };
         let mut half = half;
         marks.set(SLOTS, &mut half, &mark);
-        Server { book, mark, half }
+        Server {
+            book,
+            early: 0,
+            late: 0,
+            left: false,
+            half,
+        }
     }
 
     /// How many sessions were opened on all rows before any write.
     pub fn early(&self) -> u32
         ensures { result ≡ self.now.early }
     {
-        self.mark.count
+        self.early
+    }
+
+    /// How many sessions were opened on all rows later.
+    pub fn late(&self) -> u32
+        ensures { result ≡ self.now.late }
+    {
+        self.late
     }
 
     pub(crate) fn meet(&mut self, book: &mut Ends<B, Log<Decision>>)
@@ -89,13 +105,16 @@ impl<B: Named, R: Named> Server<B, R> {
         marks.meet(SLOTS, &mut self.half);
     }
 
-    pub(crate) fn put_mark(&mut self, marks: &mut Ends<R, Mark>, mark: Mark)
+    pub(crate) fn put_mark(&mut self, marks: &mut Ends<R, Mark>, early: u32, late: u32, left: bool)
         requires all { SLOTS < length marks.old }
-        ensures marks { marks.new ≡ slice_set marks.old SLOTS (Some mark) }
-        ensures value { self.new ≡ record self.old { early = mark.count; left = mark.left } }
+        ensures marks { marks.new ≡ slice_set marks.old SLOTS (Some (mark.Server early late left)) }
+        ensures value { self.new ≡ record self.old { early = early; late = late; left = left } }
     {
+        let mark = Mark::Server { early, late, left };
         marks.set(SLOTS, &mut self.half, &mark);
-        self.mark = mark;
+        self.early = early;
+        self.late = late;
+        self.left = left;
     }
 }
 
@@ -103,7 +122,8 @@ impl<B: Named, R: Named> Server<B, R> {
 #[derive(Drop)]
 pub struct Role<R: Named> {
     number: u32,
-    mark: Mark,
+    roles: u32,
+    left: bool,
     half: Right<R, Mark>,
 }
 
@@ -112,23 +132,24 @@ impl<R: Named> Model for Role<R> {
 
     ghost Value = { RoleHalf };
 
-    ghost view = { λ r. record { number = r.number; roles = r.mark.count; left = r.mark.left } };
+    ghost view = { λ r. record { number = r.number; roles = r.roles; left = r.left } };
 
-    ghost invariant = { λ r. IsRole r.number r.mark r.half };
+    ghost invariant = { λ r. IsRole (record { number = r.number; roles = r.roles; left = r.left }) r.half };
 }
 
 impl<R: Named> Role<R> {
     /// The role of this number, with its half.
     pub fn new(number: u32, roles: u32, half: Right<R, Mark>) -> Role<R>
         requires some { (number < roles) × (roles ≤ SLOTS) }
-        requires half { (half.place ≡ number) × (half.value ≡ Some (record { count = roles; left = false })) }
+        requires half { (half.place ≡ number) × (half.value ≡ Some (mark.Role roles false)) }
         ensures { result ≡ record { number = number; roles = roles; left = false } }
     {
-        let mark = Mark {
-            count: roles,
+        Role {
+            number,
+            roles,
             left: false,
-        };
-        Role { number, mark, half }
+            half,
+        }
     }
 
     /// Its number, from 0.
@@ -143,13 +164,12 @@ impl<R: Named> Role<R> {
     pub fn roles(&self) -> u32
         ensures { result ≡ self.now.roles }
     {
-        self.mark.count
+        self.roles
     }
 
     pub(crate) fn meet(&mut self, marks: &mut Ends<R, Mark>)
         requires all { SLOTS < length marks.old }
-        ensures equal { slice_get marks.old self.old.number
-            ≡ Some (Some (record { count = self.old.roles; left = self.old.left })) }
+        ensures equal { slice_get marks.old self.old.number ≡ Some (Some (mark_of_role self.old)) }
         ensures same { (self.new ≡ self.old) × (marks.new ≡ marks.old) }
     {
         let place = self.number as usize;
@@ -158,16 +178,12 @@ impl<R: Named> Role<R> {
 
     pub(crate) fn leave(&mut self, marks: &mut Ends<R, Mark>)
         requires all { SLOTS < length marks.old }
-        ensures marks { marks.new
-            ≡ slice_set marks.old self.old.number (Some (record { count = self.old.roles; left = true })) }
+        ensures marks { marks.new ≡ slice_set marks.old self.old.number (Some (mark.Role self.old.roles true)) }
         ensures value { self.new ≡ record self.old { left = true } }
     {
-        let mark = Mark {
-            count: self.mark.count,
-            left: true,
-        };
+        let roles = self.roles;
         let place = self.number as usize;
-        marks.set(place, &mut self.half, &mark);
-        self.mark = mark;
+        marks.set(place, &mut self.half, &Mark::Role { roles, left: true });
+        self.left = true;
     }
 }

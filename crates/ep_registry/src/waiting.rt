@@ -1,31 +1,25 @@
 //! What waits for a role.
-ghost use Rattle.std.specs.Prelude.{◌≡◌, ◌<◌, IfOk, IfSome, None, Some, replicate, slice_get, slice_set};
+ghost use Rattle.std.specs.Prelude.{◌≡◌, ◌<◌, IfOk, IfSome, IsTrue, None, Some, replicate, slice_get, slice_set};
 ghost use Rattle.ep_table.specs.declared.limits.TheConstants.{SLOTS};
-ghost use Rattle.ep_registry.specs.Held.{hold_at};
+ghost use Rattle.ep_journal.specs.Recorded.{goes_on};
 
-use crate::ends::Ends;
 use crate::hold::{Hold, Holder};
+use crate::kinds::Kinds;
+use crate::places::empty_places;
 use ep_table::limits::SLOTS;
 use ep_tie::Named;
 use std::alloc::{AllocError, Global};
 use std::marker::{Model, PhantomData};
 
-/// Which things fit which session.
-pub trait Fits<W> {
-    ghost use Rattle.ep_registry.specs.declared.hold.Hold.{Hold};
-
-    ghost fits: { Hold → W → Type 0 };
-}
-
 /// A session with what a role needs to serve it, as its stream. Contracts see what is known of the session.
 #[derive(Drop)]
-pub struct Handed<S: Named, P: Fits<W>, W> {
+pub struct Handed<S: Named, P: Kinds<F, W, E, G>, F, W, E, G> {
     holder: Holder<S>,
     what: W,
-    tag: PhantomData<P>,
+    tag: PhantomData<(P, F, E, G)>,
 }
 
-impl<S: Named, P: Fits<W>, W> Model for Handed<S, P, W> {
+impl<S: Named, P: Kinds<F, W, E, G>, F, W, E, G> Model for Handed<S, P, F, W, E, G> {
     ghost use Rattle.ep_registry.specs.declared.hold.Hold.{Hold};
 
     ghost Value = { Hold };
@@ -35,9 +29,9 @@ impl<S: Named, P: Fits<W>, W> Model for Handed<S, P, W> {
     ghost invariant = { λ h. P.fits h.holder h.what };
 }
 
-impl<S: Named, P: Fits<W>, W> Handed<S, P, W> {
+impl<S: Named, P: Kinds<F, W, E, G>, F, W, E, G> Handed<S, P, F, W, E, G> {
     /// A session with what fits it.
-    pub fn new(holder: Holder<S>, what: W) -> Handed<S, P, W>
+    pub fn new(holder: Holder<S>, what: W) -> Handed<S, P, F, W, E, G>
         requires { P.fits holder what }
         ensures { result ≡ holder }
     {
@@ -59,6 +53,7 @@ impl<S: Named, P: Fits<W>, W> Handed<S, P, W> {
     pub fn hold(&self) -> Hold
         ensures value { result ≡ self.now }
         ensures slot { result.slot < SLOTS }
+        ensures on { IsTrue (goes_on result.stage) }
     {
         self.holder.hold()
     }
@@ -66,11 +61,11 @@ impl<S: Named, P: Fits<W>, W> Handed<S, P, W> {
 
 /// The sessions that wait for their roles, by slot. Contracts see what is known of each.
 #[derive(Drop)]
-pub struct Waiting<S: Named, P: Fits<W>, W> {
-    places: Vec<Option<Handed<S, P, W>>>,
+pub struct Waiting<S: Named, P: Kinds<F, W, E, G>, F, W, E, G> {
+    places: Vec<Option<Handed<S, P, F, W, E, G>>>,
 }
 
-impl<S: Named, P: Fits<W>, W> Model for Waiting<S, P, W> {
+impl<S: Named, P: Kinds<F, W, E, G>, F, W, E, G> Model for Waiting<S, P, F, W, E, G> {
     ghost use Rattle.std.specs.Prelude.{◌≡◌, List, Option, length};
     ghost use Rattle.ep_table.specs.declared.limits.TheConstants.{SLOTS};
     ghost use Rattle.ep_registry.specs.declared.hold.Hold.{Hold};
@@ -83,17 +78,18 @@ impl<S: Named, P: Fits<W>, W> Model for Waiting<S, P, W> {
     ghost invariant = { λ w. (length w.places.items ≡ SLOTS) × AreInSlots w.places.items };
 }
 
-impl<S: Named, P: Fits<W>, W: Drop> Waiting<S, P, W> {
+impl<S: Named, P: Kinds<F, W, E, G>, F, W: Drop, E, G> Waiting<S, P, F, W, E, G> {
     /// No session waits.
-    pub fn new(alloc: Global) -> Result<Waiting<S, P, W>, AllocError>
+    pub fn new(alloc: Global) -> Result<Waiting<S, P, F, W, E, G>, AllocError>
         ensures { IfOk result (λ waiting. waiting ≡ replicate SLOTS None) }
     {
         let places = empty_places(alloc, SLOTS as u32)?;
         Ok(Waiting { places })
     }
 
-    /// The session waits.
-    pub fn put(&mut self, handed: Handed<S, P, W>)
+    /// The session waits, where none waited.
+    pub fn put(&mut self, handed: Handed<S, P, F, W, E, G>)
+        requires { slice_get self.old handed.slot ≡ Some None }
         ensures { self.new ≡ slice_set self.old handed.slot (Some handed) }
     {
         let slot = handed.hold().slot;
@@ -101,7 +97,7 @@ impl<S: Named, P: Fits<W>, W: Drop> Waiting<S, P, W> {
     }
 
     /// The session that waits in this slot, if there is one.
-    pub fn take(&mut self, slot: u32) -> Option<Handed<S, P, W>>
+    pub fn take(&mut self, slot: u32) -> Option<Handed<S, P, F, W, E, G>>
         requires { slot < SLOTS }
         ensures value { slice_get self.old slot ≡ Some result }
         ensures slot { IfSome result (λ handed. handed.slot ≡ slot) }
@@ -109,15 +105,11 @@ impl<S: Named, P: Fits<W>, W: Drop> Waiting<S, P, W> {
     {
         self.places[slot as usize].take()
     }
-}
 
-/// This many places with nothing in them.
-pub(crate) fn empty_places<A: Drop>(alloc: Global, count: u32) -> Result<Vec<Option<A>>, AllocError>
-    ensures { IfOk result (λ places. places.items ≡ replicate count None) }
-{
-    let mut places = Vec::new(alloc);
-    for _place in 0..count {
-        places.push(None)?;
+    /// What waits, by slot.
+    pub fn into_places(self) -> Vec<Option<Handed<S, P, F, W, E, G>>>
+        ensures { result.items ≡ self }
+    {
+        self.places
     }
-    Ok(places)
 }

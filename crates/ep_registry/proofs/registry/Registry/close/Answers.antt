@@ -4,9 +4,10 @@ use Rattle.ep_registry.proofs.registry.Registry.close.Goals as goal
 
 pub invariant_of-self : goal.invariant_of-self
 invariant_of-self g c =
-    let d : Desk = record { recorded = c.self.inside.journal; book = c.self.inside.book; holds = c.self.inside.holds; spare = c.self.inside.spare.items; marks = c.self.inside.marks; roles = c.self.inside.roles; closed = c.self.inside.closed; early = c.self.inside.early } in
+    let d : Desk = record { recorded = c.self.inside.journal; book = c.self.inside.book; holds = c.self.inside.holds; spare = c.self.inside.spare.items; marks = c.self.inside.marks; roles = c.self.inside.roles; closed = c.self.inside.closed; early = c.self.inside.early; late = c.self.inside.late } in
     record {
       tied = rw (c.put_mark.ensures.marks, c.meet_mark.ensures.same.1) (closed-tied d c.self.invariant.tied);
-      ended = c.self.invariant.ended;
-      many = c.self.invariant.many;
+      free = c.self.invariant.free;
+      over = c.self.invariant.over;
+      gone = c.self.invariant.gone;
     }

@@ -1,15 +1,16 @@
-use Rattle.std.proofs.Common.{◌≡◌, true, ap, ◌∙◌}
+use Rattle.std.proofs.Common.{◌≡◌, true, ap, sym, ◌∙◌}
 use Rattle.ep_registry.specs.declared.hold.Hold.{Hold}
-use Rattle.ep_registry.specs.Recorded.{is_serving}
+use Rattle.ep_journal.specs.Recorded.{is_serving}
 use Rattle.ep_registry.specs.Registered.{Desk}
 use Rattle.ep_registry.proofs.Tied.{held-known}
 use Rattle.ep_registry.proofs.Calls.{shown-hold, looked-tied}
-use Rattle.ep_registry.proofs.Written.{looked-ended}
+use Rattle.ep_registry.proofs.Slots.{looked-free}
+use Rattle.ep_registry.proofs.Things.{looked-over, looked-ended}
 use Rattle.ep_registry.proofs.registry.Registry.look.Goals as goal
 
 pub invariant_of-self : goal.invariant_of-self
 invariant_of-self g c =
-    let d : Desk = record { recorded = c.self.inside.journal; book = c.self.inside.book; holds = c.self.inside.holds; spare = c.self.inside.spare.items; marks = c.self.inside.marks; roles = c.self.inside.roles; closed = c.self.inside.closed; early = c.self.inside.early } in
+    let d : Desk = record { recorded = c.self.inside.journal; book = c.self.inside.book; holds = c.self.inside.holds; spare = c.self.inside.spare.items; marks = c.self.inside.marks; roles = c.self.inside.roles; closed = c.self.inside.closed; early = c.self.inside.early; late = c.self.inside.late } in
     let hold = c.hold-hold.result in
     let same = c.hold-hold.ensures.value ∙ c.meet.ensures.same.0 in
     let known = held-known d hold c.self.invariant.tied c.hold-hold.ensures.known.0 c.hold-hold.ensures.known.1 (shown-hold c.self.inside.holds c.args.holder.now hold same c.meet.ensures.equal) in
@@ -17,6 +18,7 @@ invariant_of-self g c =
     record {
       tied = rw (c.look-found.ensures.after, c.put.ensures.holds, c.meet.ensures.same.1, c.stage_found-stage.ensures, c.look-found.ensures.answer)
           (looked-tied d hold c.self.invariant.tied c.hold-hold.ensures.known.0 c.hold-hold.ensures.known.1 known serves);
-      ended = rw c.look-found.ensures.after (looked-ended c.self.inside.journal hold.id ∙ c.self.invariant.ended);
-      many = c.self.invariant.many;
+      free = rw c.look-found.ensures.after (c.self.invariant.free ∙ sym (looked-free c.self.inside.journal hold.id));
+      over = rw c.look-found.ensures.after (looked-over c.self.inside.overs c.self.inside.journal hold c.self.invariant.over known c.hold-hold.ensures.on);
+      gone = rw c.look-found.ensures.after (looked-ended c.self.inside.journal hold.id ∙ c.self.invariant.gone);
     }

@@ -1,7 +1,7 @@
 use Rattle.std.proofs.Common.{List, [], ◌∷◌, ◌++◌, ap, sym, ◌∙◌}
-use Rattle.ep_registry.specs.declared.decision.Decision.{Decision}
-use Rattle.ep_registry.specs.declared.decision.Decision.TheVariants as decision
-use Rattle.ep_registry.specs.Recorded.{Recorded}
+use Rattle.ep_journal.specs.declared.decision.Decision.{Decision}
+use Rattle.ep_journal.specs.declared.decision.Decision.TheVariants as decision
+use Rattle.ep_journal.specs.Recorded.{Recorded}
 use Rattle.ep_registry.specs.Registered.{Desk}
 use Rattle.ep_registry.proofs.Tied.{book-is}
 use Rattle.ep_registry.proofs.Calls.{passed}
@@ -10,11 +10,12 @@ use Rattle.ep_registry.proofs.registry.Registry.pass.Goals as goal
 
 pub invariant_of-self : goal.invariant_of-self
 invariant_of-self g c =
-    let d : Desk = record { recorded = c.self.inside.journal; book = c.self.inside.book; holds = c.self.inside.holds; spare = c.self.inside.spare.items; marks = c.self.inside.marks; roles = c.self.inside.roles; closed = c.self.inside.closed; early = c.self.inside.early } in
+    let d : Desk = record { recorded = c.self.inside.journal; book = c.self.inside.book; holds = c.self.inside.holds; spare = c.self.inside.spare.items; marks = c.self.inside.marks; roles = c.self.inside.roles; closed = c.self.inside.closed; early = c.self.inside.early; late = c.self.inside.late } in
     record {
       tied = rw (c.tell.ensures.book, c.decisions.ensures, c.pass.ensures, c.meet.ensures.same.1) (passed d decision.Nothing c.self.invariant.tied);
-      ended = rw c.pass.ensures c.self.invariant.ended;
-      many = c.self.invariant.many;
+      free = rw c.pass.ensures c.self.invariant.free;
+      over = rw c.pass.ensures c.self.invariant.over;
+      gone = rw c.pass.ensures c.self.invariant.gone;
     }
 
 pub returns-clause-half : goal.returns-clause-half

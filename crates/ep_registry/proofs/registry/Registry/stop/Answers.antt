@@ -1,20 +1,22 @@
-use Rattle.std.proofs.Common.{[], ◌∷◌, ◌++◌, ap, ◌∙◌}
-use Rattle.ep_registry.specs.Recorded.{Recorded, answer_to}
+use Rattle.std.proofs.Common.{[], ◌∷◌, ◌++◌, ap, sym, ◌∙◌}
+use Rattle.ep_journal.specs.Recorded.{Recorded, answer_to}
 use Rattle.ep_registry.specs.Held.{stop_decides}
 use Rattle.ep_registry.specs.Registered.{Desk}
 use Rattle.ep_registry.proofs.Tied.{book-is}
 use Rattle.ep_registry.proofs.Calls.{stopped-told}
 use Rattle.ep_registry.proofs.Decides.{half-is, decided-as, stopped-decides}
-use Rattle.ep_registry.proofs.Written.{stopped-ended}
+use Rattle.ep_registry.proofs.Slots.{stopping-free}
+use Rattle.ep_registry.proofs.Things.{stopped-over, stopped-ended}
 use Rattle.ep_registry.proofs.registry.Registry.stop.Goals as goal
 
 pub invariant_of-self : goal.invariant_of-self
 invariant_of-self g c =
-    let d : Desk = record { recorded = c.self.inside.journal; book = c.self.inside.book; holds = c.self.inside.holds; spare = c.self.inside.spare.items; marks = c.self.inside.marks; roles = c.self.inside.roles; closed = c.self.inside.closed; early = c.self.inside.early } in
+    let d : Desk = record { recorded = c.self.inside.journal; book = c.self.inside.book; holds = c.self.inside.holds; spare = c.self.inside.spare.items; marks = c.self.inside.marks; roles = c.self.inside.roles; closed = c.self.inside.closed; early = c.self.inside.early; late = c.self.inside.late } in
     record {
       tied = rw (c.tell.ensures.book, c.decisions.ensures, c.stop-answer.ensures.after, c.meet.ensures.same.1) (stopped-told d c.args.id c.self.invariant.tied);
-      ended = rw c.stop-answer.ensures.after (stopped-ended c.self.inside.journal c.args.id ∙ c.self.invariant.ended);
-      many = c.self.invariant.many;
+      free = rw c.stop-answer.ensures.after (c.self.invariant.free ∙ sym (stopping-free c.self.inside.journal c.args.id));
+      over = rw c.stop-answer.ensures.after (stopped-over c.self.inside.overs c.self.inside.journal c.args.id c.self.invariant.over);
+      gone = rw c.stop-answer.ensures.after (stopped-ended c.self.inside.journal c.args.id ∙ c.self.invariant.gone);
     }
 
 pub returns-clause-half : goal.returns-clause-half
