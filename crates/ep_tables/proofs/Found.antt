@@ -1,6 +1,6 @@
 -- What is found in tables that stand for the steps so far.
 use Rattle.std.proofs.Common.{◌≡◌, ℕ, zero, suc, ◌+◌, ◌<◌, Bool, true, false, inl, inr, List, [], ◌∷◌, map, length, Option, Some, None, refl, ap, sym, ◌∙◌, subst, arith, if◌then◌else◌, get_or}
-use Rattle.std.specs.Prelude.{◌⊎◌, ◌&&◌, ◌||◌, not, is_some, slice_get, position, ◌==◌}
+use Rattle.std.specs.Prelude.{◌⊎◌, ◌&&◌, ◌||◌, not, is_some, nat_lt, slice_get, position, ◌==◌}
 use Rattle.std.specs.Int.{bit_at}
 use Rattle.std.specs.List.{list_any, position_or_len, AllByRecursion}
 use Rattle.std.specs.BTreeMap.{get}
@@ -11,10 +11,13 @@ use Rattle.std.proofs.lemmas.List.Quantifiers.{position-Some}
 use Rattle.std.proofs.lemmas.Map.Keys.{any_passes_from_place}
 use Rattle.ep_defs.specs.declared.limits.TheConstants.{THREADS}
 use Rattle.ep_defs.specs.declared.event.EventDef.{EventDef}
+use Rattle.ep_model.specs.Chunks.{turns, in_hand, is_hand_full}
+use Rattle.ep_model.specs.Fold.{budget_of}
 use Rattle.ep_model.specs.History.{Past, present, is_present, was_there, is_there, has_left, in_write, is_open, is_due}
 use Rattle.ep_model.proofs.Lists.{has}
 use Rattle.ep_row.specs.Row.{slot_of}
 use Rattle.ep_stream.specs.Rows.{IsRow}
+use Rattle.ep_stream.specs.Session.{rest_of}
 use Rattle.ep_stream.specs.Steps.{ToldRows}
 use Rattle.ep_rows.specs.Rows.{told_of}
 use Rattle.ep_tables.specs.declared.tables.Present.{Present}
@@ -153,3 +156,10 @@ pub owed_found : (events : List EventDef) (past : Past) (tables : Tables) (sessi
     → (bit_at ((told_of tables.rows).row row).due present.slot == 1) ≡ is_due events session thread past
 owed_found events past tables session thread row present s r =
     (s.follows.rows row r.is_row).owed ∙ ap (λ n. is_due events n ((told_of tables.rows).row row).thread past) s.number ∙ ap (λ t. is_due events session t past) r.thread_is
+
+-- ---- what is in hand
+
+pub in_hand_found : (events : List EventDef) (past : Past) (tables : Tables) (session : ℕ) (present : Present) (full : Bool) → ((session : ℕ) (past : Past) → in_hand (turns session past) ≡ (budget_of session past).in_hand)
+    → SessionFound events past tables session present → full ≡ nat_lt 0 (rest_of present.session).in_hand → full ≡ is_hand_full session past
+in_hand_found events past tables session present full counted at is =
+    is ∙ ap (nat_lt 0) (at.follows.in_hand ∙ sym (counted present.number past)) ∙ ap (λ number. is_hand_full number past) at.number

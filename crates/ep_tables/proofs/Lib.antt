@@ -4,14 +4,15 @@ pub mod Pasts
 pub mod Found
 pub mod Slots
 pub mod Somewhere
-mod Kinds
+mod Judging
 pub mod Makes
 pub mod Items
 pub mod Seats
 pub mod Places
-pub mod Present
+pub mod PresentLists
 pub mod Ties
 pub mod TiedComings
 pub mod Opened
 pub mod Turning
 pub mod Telling
+mod Ready

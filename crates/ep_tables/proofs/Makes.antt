@@ -1,5 +1,5 @@
 -- A step that can be made finds what it needs.
-use Rattle.std.proofs.Common.{◌≡◌, ℕ, zero, suc, ◌<◌, ◌≤◌, Bool, true, false, inl, inr, List, [], ◌∷◌, length, Option, Some, None, IfNone, refl, ap, sym, ◌∙◌, subst, arith, get_or}
+use Rattle.std.proofs.Common.{◌≡◌, ℕ, zero, suc, ◌<◌, ◌≤◌, Bool, true, false, inl, inr, List, [], ◌∷◌, length, Option, Some, None, Result, Ok, Err, OnOk, refl, ap, sym, ◌∙◌, subst, arith, get_or}
 use Rattle.std.specs.Prelude.{not, is_some, is_none, slice_get, position, nat_lt, ◌==◌}
 use Rattle.std.specs.BTreeMap.{get}
 use Rattle.std.specs.Ordering.{nat_cmp}
@@ -11,6 +11,7 @@ use Rattle.ep_model.proofs.Lists.{none_is}
 use Rattle.ep_defs.specs.declared.limits.TheConstants.{SCHEDULE_WRITES, SESSION_THREADS, THREADS}
 use Rattle.ep_defs.specs.Definitions.{definition_at}
 use Rattle.ep_defs.specs.declared.event.EventDef.{EventDef}
+use Rattle.ep_model.specs.declared.step.Kind.{Kind}
 use Rattle.ep_model.specs.declared.step.Step.{Step}
 use Rattle.ep_model.specs.declared.step.Step.TheVariants as step
 use Rattle.ep_model.specs.Chunks.{turns, in_hand, is_hand_full}
@@ -23,6 +24,7 @@ use Rattle.ep_row.specs.Row.{slot_of}
 use Rattle.ep_rows.specs.Rows.{told_of}
 use Rattle.ep_tables.specs.declared.tables.Present.{Present}
 use Rattle.ep_tables.specs.declared.tables.Tables.{Tables}
+use Rattle.ep_tables.specs.Judged.{kind_in}
 use Rattle.ep_tables.specs.Tables.{TablesFollow, PresentFollows, IsGone, row_of, number_of}
 use Rattle.ep_tables.specs.Can.{HasRow, HasPlace, IsQuiet, CanOpenOn, CanShowTo, IsOn, HasEmptyHand, IsNowhere, CanMake}
 use Rattle.ep_tables.proofs.Pasts.{open_there}
@@ -136,9 +138,7 @@ can_make events past tables (step.Accept s config) counted h none =
     let few = leb-false 64 (length (present past)) o.1.1.0 in
     let count = ap length h.present_are ∙ length-map tables.present.items number_of in
     (not-false _ o.1.0, omega (arith, few, count))
-can_make events past tables (step.Enter t) counted h none =
-    let o = none_there (objections events past (step.Enter t)) none in
-    λ taken. false≢true (sym o.1.0 ∙ le-leb THREADS (length (rows past)) (all_taken events past tables h taken))
+can_make events past tables (step.Enter t) counted h none = tt
 can_make events past tables (step.Leave t) counted h none =
     let o = none_there (objections events past (step.Leave t)) none in
     quiet events past tables t h (not-false _ o.0) o.1.0
@@ -225,7 +225,7 @@ can_make events past tables (step.Finish s stamp) counted h none =
       empty_hand events past tables s at.one (counted s) at.found o.1.1.0,
     )
 
--- What holds where there is no value, holds so of the value.
-pub if_none : {A : Type 0} (o : Option A) (P : Type 0) → (o ≡ None → P) → IfNone o P
-if_none None P holds = holds refl
-if_none (Some x) P holds = tt
+-- What holds where no kind is answered, holds where a step is.
+pub if_made : {A : Type 0} (result : Result A Kind) (P : Type 0) → (kind_in result ≡ None → P) → OnOk result P
+if_made (Ok answer) P holds = holds refl
+if_made (Err kind) P holds = tt

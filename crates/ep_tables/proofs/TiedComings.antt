@@ -26,7 +26,7 @@ use Rattle.ep_tables.specs.Tables.{has_slot}
 use Rattle.ep_tables.specs.Tied.{CanBeTold, IsTied, HaveOwnSlots, AreTied}
 use Rattle.ep_tables.proofs.Items.{any-remove, length-remove}
 use Rattle.ep_tables.proofs.Seats.{free_slot, accept_held, accept_count, accept_seats, slots_distinct, gone_slot, free_held, free_count}
-use Rattle.ep_tables.proofs.Present.{has_own, all_others, all_removed, own_removed}
+use Rattle.ep_tables.proofs.PresentLists.{has_own, all_others, all_removed, own_removed}
 use Rattle.ep_tables.proofs.Ties.{KeepsSlot, tied_stays, none_open}
 
 -- ---- the first tables

@@ -15,7 +15,7 @@ use Rattle.ep_tables.specs.declared.tables.Present.{Present}
 use Rattle.ep_tables.specs.declared.tables.Tables.{Tables}
 use Rattle.ep_tables.specs.Tables.{has_slot}
 use Rattle.ep_tables.specs.Tied.{CanBeTold, IsTied, HaveOwnSlots, AreTied}
-use Rattle.ep_tables.proofs.Present.{all_set, has_set, own_set, has_own}
+use Rattle.ep_tables.proofs.PresentLists.{all_set, has_set, own_set, has_own}
 
 -- What the rows know of the session in a slot stays.
 pub record KeepsSlot (slot : ℕ) (old new : Rows) : Type 0 where

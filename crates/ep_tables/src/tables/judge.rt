@@ -255,12 +255,22 @@ fn unless(objections: &[(bool, Kind)], judged: Judged) -> Result<Judged, Kind>
     ensures kind_is { kind_in result ≡ first_kind (map objection_of objections.now) }
     ensures same { IfOk result (λ found. found ≡ judged) }
 {
+    match first(objections) {
+        Some(kind) => Err(kind),
+        None => Ok(judged),
+    }
+}
+
+// The first kind of those that are there.
+fn first(objections: &[(bool, Kind)]) -> Option<Kind>
+    ensures { result ≡ first_kind (map objection_of objections.now) }
+{
     for (there, kind) in objections {
         if *there {
-            return Err(*kind);
+            return Some(*kind);
         }
     }
-    Ok(judged)
+    None
 }
 
 // Whether the slot's bit stands in the mask.

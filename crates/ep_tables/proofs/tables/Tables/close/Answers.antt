@@ -12,6 +12,7 @@ use Rattle.ep_tables.specs.declared.tables.Present.{Present}
 use Rattle.ep_tables.specs.Made.{ClosesOn, IsSpent}
 use Rattle.ep_tables.specs.Tied.{IsTied}
 use Rattle.ep_tables.proofs.Telling.{ok_with, from_ok, tells_in, spent_in}
+use Rattle.ep_tables.proofs.Ready.{own_holds, hand_there}
 use Rattle.ep_tables.proofs.Turning.{stands_at, one_of, holds_at, turn_made, session_tied, closed_now}
 use Rattle.ep_tables.proofs.tables.Tables.close.Goals as goal
 
@@ -84,3 +85,20 @@ returns-clause-long c is =
           (subst (λ (es : List EventDef). Writes (λ (s : SinkState). true) (λ (s : SinkState). s.taken) es (entries_of es stacks closed.records) was.session c.detach.new.self c.detach.result) c.as_slice.ensures.value closed.writes)
           c.detach.ensures.faulty);
     }
+
+pub detach-requires-clause-row : goal.detach-requires-clause-row
+detach-requires-clause-row c =
+    let old = c.args.self.now in
+    let was = c.index_mut.result.now in
+    let stands = stands_at old c.args.both.of.session c.args.both.of.place was c.requires.ready.there.of c.index_mut.ensures.value in
+    let can = holds_at old c.args.both.of.session c.args.both.of.place was (λ (p : Present). HasRow old c.args.both.on.thread (λ (row : RowState). IsOn p row × (row.in_write ≡ false)) × HasEmptyHand p) c.requires.ready.can stands in
+    hand_there old.rows was c.args.both.on.row (one_of (IsTied old.rows) old.present.items c.args.both.of.place was c.requires.tied.sessions stands.there)
+    ((own_holds old c.args.both.on.thread c.args.both.on.row (λ (row : RowState). IsOn was row × (row.in_write ≡ false)) can.0 c.requires.ready.there.on.own).0)
+
+pub detach-requires-clause-empty : goal.detach-requires-clause-empty
+detach-requires-clause-empty c =
+    let old = c.args.self.now in
+    let was = c.index_mut.result.now in
+    let stands = stands_at old c.args.both.of.session c.args.both.of.place was c.requires.ready.there.of c.index_mut.ensures.value in
+    let can = holds_at old c.args.both.of.session c.args.both.of.place was (λ (p : Present). HasRow old c.args.both.on.thread (λ (row : RowState). IsOn p row × (row.in_write ≡ false)) × HasEmptyHand p) c.requires.ready.can stands in
+    can.1

@@ -6,7 +6,7 @@ use Rattle.ep_tables.proofs.Found.{All-at}
 use Rattle.ep_slot.specs.Hand.{hand_of}
 use Rattle.ep_rows.specs.Rows.{expected_in}
 use Rattle.ep_tables.specs.Tied.{IsTied}
-use Rattle.ep_tables.proofs.Present.{has_own}
+use Rattle.ep_tables.proofs.PresentLists.{has_own}
 use Rattle.ep_tables.proofs.Places.{found_there, holds_there}
 use Rattle.ep_tables.proofs.TiedComings.{nowhere_open, finish_tied}
 use Rattle.ep_tables.proofs.tables.Tables.finish.Goals as goal

@@ -12,6 +12,7 @@ use Rattle.ep_tables.specs.declared.tables.Present.{Present}
 use Rattle.ep_tables.specs.Made.{OpensOn}
 use Rattle.ep_tables.specs.Tied.{IsTied}
 use Rattle.ep_tables.proofs.Opened.{open_now, opened_more}
+use Rattle.ep_tables.proofs.Ready.{own_holds, hand_off, few_opened, never_opened}
 use Rattle.ep_tables.proofs.Turning.{stands_at, one_of, holds_at, turn_made, session_tied, own_thread}
 use Rattle.ep_tables.proofs.tables.Tables.open.Goals as goal
 
@@ -59,3 +60,34 @@ returns-clause-tied c =
     (attached.tested ∙ own_thread (told_of old.rows) c.args.both.on.thread row (get nat_cmp old.threads c.args.both.on.thread) c.requires.ready.there.on.own)
     (ap (λ (r : Rest). r.marks) attached.rest) tied)
     c.requires.tied
+
+pub attach-requires-clause-off : goal.attach-requires-clause-off
+attach-requires-clause-off c =
+    let old = c.args.self.now in
+    let both = c.args.both in
+    let was = c.index_mut-present.result.now in
+    let stands = stands_at old both.of.session both.of.place was c.requires.ready.there.of c.index_mut-present.ensures.value in
+    let tied = one_of (IsTied old.rows) old.present.items both.of.place was c.requires.tied.sessions stands.there in
+    let can = own_holds old both.on.thread both.on.row (CanOpenOn both.on.thread was) (holds_at old both.of.session both.of.place was (λ (p : Present). HasRow old both.on.thread (CanOpenOn both.on.thread p)) c.requires.ready.can stands) c.requires.ready.there.on.own in
+    hand_off old.rows was both.on.thread both.on.row tied can
+
+pub attach-requires-clause-few : goal.attach-requires-clause-few
+attach-requires-clause-few c =
+    let old = c.args.self.now in
+    let both = c.args.both in
+    let was = c.index_mut-present.result.now in
+    let stands = stands_at old both.of.session both.of.place was c.requires.ready.there.of c.index_mut-present.ensures.value in
+    let tied = one_of (IsTied old.rows) old.present.items both.of.place was c.requires.tied.sessions stands.there in
+    let can = own_holds old both.on.thread both.on.row (CanOpenOn both.on.thread was) (holds_at old both.of.session both.of.place was (λ (p : Present). HasRow old both.on.thread (CanOpenOn both.on.thread p)) c.requires.ready.can stands) c.requires.ready.there.on.own in
+    few_opened old.rows was both.on.thread both.on.row tied can
+
+pub attach-requires-clause-new : goal.attach-requires-clause-new
+attach-requires-clause-new c hand tested =
+    let old = c.args.self.now in
+    let both = c.args.both in
+    let was = c.index_mut-present.result.now in
+    let stands = stands_at old both.of.session both.of.place was c.requires.ready.there.of c.index_mut-present.ensures.value in
+    let tied = one_of (IsTied old.rows) old.present.items both.of.place was c.requires.tied.sessions stands.there in
+    let can = own_holds old both.on.thread both.on.row (CanOpenOn both.on.thread was) (holds_at old both.of.session both.of.place was (λ (p : Present). HasRow old both.on.thread (CanOpenOn both.on.thread p)) c.requires.ready.can stands) c.requires.ready.there.on.own in
+    never_opened old.rows was both.on.thread both.on.row hand.thread tied can
+    (tested ∙ own_thread (told_of old.rows) both.on.thread both.on.row (get nat_cmp old.threads both.on.thread) c.requires.ready.there.on.own)

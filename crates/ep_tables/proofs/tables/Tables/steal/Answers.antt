@@ -15,6 +15,7 @@ use Rattle.ep_tables.specs.declared.tables.Present.{Present}
 use Rattle.ep_tables.specs.Made.{StealsOn, IsSpent}
 use Rattle.ep_tables.specs.Tied.{IsTied}
 use Rattle.ep_tables.proofs.Telling.{tells_in, spent_in}
+use Rattle.ep_tables.proofs.Ready.{own_holds, hand_there}
 use Rattle.ep_tables.proofs.Turning.{stands_at, one_of, holds_at, turn_made, session_tied, hand_now}
 use Rattle.ep_tables.proofs.tables.Tables.steal.Goals as goal
 
@@ -82,3 +83,20 @@ returns-clause-tied c =
     (λ tied. hand_now old.rows c.steal.new.rows was _ c.args.both.on.row stolen.hand _ refl refl refl (ap (λ (r : Rest). r.seat) stolen.rest) c.in_ok-steal.ensures.count c.in_ok-steal.ensures.rows
     c.in_ok-steal.ensures.faulty.sound stolen.hands stolen.was refl (ap (λ (r : Rest). r.marks) stolen.rest) tied)
     c.requires.tied
+
+pub steal-requires-clause-row : goal.steal-requires-clause-row
+steal-requires-clause-row c =
+    let old = c.args.self.now in
+    let was = c.index_mut.result.now in
+    let stands = stands_at old c.args.both.of.session c.args.both.of.place was c.requires.ready.there.of c.index_mut.ensures.value in
+    let can = holds_at old c.args.both.of.session c.args.both.of.place was (λ (p : Present). HasRow old c.args.both.on.thread (IsOn p) × HasEmptyHand p) c.requires.ready.can stands in
+    hand_there old.rows was c.args.both.on.row (one_of (IsTied old.rows) old.present.items c.args.both.of.place was c.requires.tied.sessions stands.there)
+    (own_holds old c.args.both.on.thread c.args.both.on.row (IsOn was) can.0 c.requires.ready.there.on.own)
+
+pub steal-requires-clause-empty : goal.steal-requires-clause-empty
+steal-requires-clause-empty c =
+    let old = c.args.self.now in
+    let was = c.index_mut.result.now in
+    let stands = stands_at old c.args.both.of.session c.args.both.of.place was c.requires.ready.there.of c.index_mut.ensures.value in
+    let can = holds_at old c.args.both.of.session c.args.both.of.place was (λ (p : Present). HasRow old c.args.both.on.thread (IsOn p) × HasEmptyHand p) c.requires.ready.can stands in
+    can.1
