@@ -106,15 +106,7 @@ impl Machine {
                 return Err(StepFault::Unlawful(Unlawful { step, kind }));
             }
         };
-        if make(
-            &mut self.work,
-            &mut self.ended,
-            alloc,
-            &self.info,
-            judged,
-        )
-        .is_err()
-        {
+        if make(&mut self.work, &mut self.ended, alloc, &self.info, judged).is_err() {
             self.failed = true;
             return Err(StepFault::OutOfMemory);
         }

@@ -1,7 +1,6 @@
 -- How a step is judged: one kind after another, and what is found of it.
 use Rattle.std.proofs.Common.{◌≡◌, ℕ, ◌≤◌, ◌<◌, Bool, true, false, Option, Some, None, Result, Ok, Err, IfOk, refl, ap, sym, ◌∙◌, subst, arith, if◌then◌else◌}
 use Rattle.std.specs.Prelude.{◌&&◌, not, is_some, nat_lt, nat_le}
-use Rattle.std.specs.List.{list_any}
 use Rattle.std.proofs.lemmas.Bool.{le-leb, leb-true, lt-ltb, ltb-false, false_from_ne_true}
 use Rattle.ep_model.specs.declared.step.Kind.{Kind}
 use Rattle.ep_model.specs.History.{Past, was_there}

@@ -3,12 +3,12 @@ use Rattle.std.proofs.Common.{◌≡◌, ℕ, zero, suc, ◌<◌, ◌≤◌, Boo
 use Rattle.std.specs.Prelude.{not, is_some, is_none, slice_get, position, nat_lt, ◌==◌}
 use Rattle.std.specs.BTreeMap.{get}
 use Rattle.std.specs.Ordering.{nat_cmp}
-use Rattle.std.proofs.lemmas.Bool.{eqb-true, leb-false, le-leb, ltb-false, and_parts, not-true, not-false, false≢true, false_from_ne_true}
+use Rattle.std.proofs.lemmas.Bool.{eqb-true, leb-false, ltb-false, and_parts, not-true, not-false, false≢true, false_from_ne_true}
 use Rattle.std.proofs.lemmas.Option.{slice_get-get_or}
 use Rattle.std.proofs.lemmas.List.Quantifiers.{position-Some}
 use Rattle.std.proofs.lemmas.List.{length-map}
 use Rattle.ep_model.proofs.Lists.{none_is}
-use Rattle.ep_defs.specs.declared.limits.TheConstants.{SCHEDULE_WRITES, SESSION_THREADS, THREADS}
+use Rattle.ep_defs.specs.declared.limits.TheConstants.{SCHEDULE_WRITES, SESSION_THREADS}
 use Rattle.ep_defs.specs.Definitions.{definition_at}
 use Rattle.ep_defs.specs.declared.event.EventDef.{EventDef}
 use Rattle.ep_model.specs.declared.step.Kind.{Kind}
@@ -16,7 +16,7 @@ use Rattle.ep_model.specs.declared.step.Step.{Step}
 use Rattle.ep_model.specs.declared.step.Step.TheVariants as step
 use Rattle.ep_model.specs.Chunks.{turns, in_hand, is_hand_full}
 use Rattle.ep_model.specs.Fold.{budget_of}
-use Rattle.ep_model.specs.History.{Past, present, is_present, was_there, is_there, has_left, in_write, opened, is_open, rows}
+use Rattle.ep_model.specs.History.{Past, present, is_present, was_there, is_there, has_left, in_write, opened, is_open}
 use Rattle.ep_model.specs.Lawful.{objections, objection_to, was_opened, begins}
 use Rattle.ep_model.proofs.Objections.{none_there}
 use Rattle.ep_model.proofs.Sessions.{open_opened, open_somewhere}
@@ -29,7 +29,7 @@ use Rattle.ep_tables.specs.Tables.{TablesFollow, PresentFollows, IsGone, row_of,
 use Rattle.ep_tables.specs.Can.{HasRow, HasPlace, IsQuiet, CanOpenOn, CanShowTo, IsOn, HasEmptyHand, IsNowhere, CanMake}
 use Rattle.ep_tables.proofs.Pasts.{open_there}
 use Rattle.ep_tables.proofs.Found.{All-at, RowFound, row_found, no_row, no_place, there_found, in_write_found, SessionFound, on_found, owed_found}
-use Rattle.ep_tables.proofs.Slots.{has_due_found, all_taken}
+use Rattle.ep_tables.proofs.Slots.{has_due_found}
 
 -- ---- threads
 

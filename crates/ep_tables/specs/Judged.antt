@@ -9,7 +9,6 @@ use Rattle.ep_model.specs.declared.step.Step.{Step}
 use Rattle.ep_model.specs.declared.step.Step.TheVariants as step
 use Rattle.ep_model.specs.History.{Past}
 use Rattle.ep_model.specs.Lawful.{objection_to}
-use Rattle.ep_row.specs.Row.{RowState}
 use Rattle.ep_stream.specs.Rows.{IsRow}
 use Rattle.ep_rows.specs.Rows.{told_of}
 use Rattle.ep_tables.specs.declared.judged.Judged.{Judged}

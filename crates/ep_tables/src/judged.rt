@@ -26,30 +26,17 @@ pub struct OnBoth {
 /// A step that can be made, with the row and the place of the session that it needs.
 #[derive(Debug, Drop)]
 pub enum Judged {
-    Accept {
-        session: u32,
-        config: Config,
-    },
+    Accept { session: u32, config: Config },
     /// The thread comes to a row that is free.
     Enter(OnRow),
     Leave(OnRow),
     Open(OnBoth),
-    Begin {
-        on: OnRow,
-        stamp: u64,
-        write: Write,
-    },
+    Begin { on: OnRow, stamp: u64, write: Write },
     Show(OnBoth),
     End(OnRow),
     Steal(OnBoth),
     Give(OfSession),
-    Point {
-        of: OfSession,
-        stamp: u64,
-    },
+    Point { of: OfSession, stamp: u64 },
     Close(OnBoth),
-    Finish {
-        of: OfSession,
-        stamp: u64,
-    },
+    Finish { of: OfSession, stamp: u64 },
 }

@@ -76,11 +76,7 @@ impl Tables {
         ensures there { Tells self.now (λ events past. is_some result ≡ is_there thread past) }
     {
         let row = self.row_of(thread)?;
-        if self.rows.left(row) {
-            None
-        } else {
-            Some(row)
-        }
+        if self.rows.left(row) { None } else { Some(row) }
     }
 
     // The place of a session among those that are present.

@@ -71,9 +71,7 @@ impl Tables {
         ensures tied { OnOk result (AreTied self.new) }
     {
         let present = &mut self.present[both.of.place];
-        present
-            .session
-            .attach(alloc, &mut self.rows, both.on.row)?;
+        present.session.attach(alloc, &mut self.rows, both.on.row)?;
         present.opened.insert(both.on.thread, ())?;
         Ok(())
     }
@@ -86,12 +84,9 @@ impl Tables {
         ensures tied { OnOk result (AreTied self.new) }
         ensures long { result ≡ Err TooLong → RunsOut both.of.session both.on.thread self.old }
     {
-        self.present[both.of.place].session.steal(
-            alloc,
-            &mut self.rows,
-            both.on.row,
-            self.events.as_slice(),
-        )?;
+        self.present[both.of.place]
+            .session
+            .steal(alloc, &mut self.rows, both.on.row, self.events.as_slice())?;
         Ok(())
     }
 
@@ -124,12 +119,9 @@ impl Tables {
         ensures tied { OnOk result (AreTied self.new) }
         ensures long { result ≡ Err TooLong → RunsOut both.of.session both.on.thread self.old }
     {
-        self.present[both.of.place].session.detach(
-            alloc,
-            &mut self.rows,
-            both.on.row,
-            self.events.as_slice(),
-        )
+        self.present[both.of.place]
+            .session
+            .detach(alloc, &mut self.rows, both.on.row, self.events.as_slice())
     }
 
     /// Ends a session's stream, and frees its slot.

@@ -10,9 +10,9 @@ ghost use Rattle.ep_defs.specs.declared.limits.TheConstants.{EVENTS as MOST_EVEN
 ghost use Rattle.ep_tables.specs.Made.{IsStart};
 ghost use Rattle.ep_tables.specs.Tied.{AreTied};
 
+use crate::tables::Tables;
 use ep_defs::limits::{EVENTS, THREADS};
 use ep_defs::{EventDef, copies};
-use crate::tables::Tables;
 use ep_rows::Rows;
 use ep_table::Table;
 use std::alloc::{AllocError, Global};

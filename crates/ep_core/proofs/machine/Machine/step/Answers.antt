@@ -20,14 +20,14 @@ make-requires c =
         can = can_found (step_of judged) tables (∥∥₁_map stands (λ h. subst (λ (s : Step). CanMake s tables) (sym found.step_is) (c.in-Ok.ensures.can h.events h.past h.works.follow)));
       };
       goes = ∥∥₁_map stands (λ h. record {
-          events = h.events;
-          info = c.args.self.now.info;
-          past = h.past;
-          before = record {
-            lawful = (h.works.lawful, subst (λ (s : Step). objection_to h.events h.past s ≡ None) (sym found.step_is) (sym (c.in-Ok.ensures.judges.kind_is h.events h.past h.works.follow)));
-            works = h.works;
-          };
-        });
+        events = h.events;
+        info = c.args.self.now.info;
+        past = h.past;
+        before = record {
+          lawful = (h.works.lawful, subst (λ (s : Step). objection_to h.events h.past s ≡ None) (sym found.step_is) (sym (c.in-Ok.ensures.judges.kind_is h.events h.past h.works.follow)));
+          works = h.works;
+        };
+      });
     }
 
 pub invariant_of-self-2 : goal.invariant_of-self-2

@@ -1,8 +1,7 @@
 use Rattle.std.proofs.Common.{None, refl, ap, sym, ◌∙◌}
-use Rattle.std.specs.Prelude.{not, nat_lt}
+use Rattle.std.specs.Prelude.{not}
 use Rattle.std.proofs.lemmas.Bool.{ltb_from_iff}
 use Rattle.ep_model.specs.declared.step.Step.TheVariants as step
-use Rattle.ep_model.specs.Chunks.{is_hand_full}
 use Rattle.ep_tables.specs.declared.judged.Judged.TheVariants as judged
 use Rattle.ep_tables.specs.declared.judged.OfSession.{OfSession}
 use Rattle.ep_tables.specs.Judged.{Finds}
