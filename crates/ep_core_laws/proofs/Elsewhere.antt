@@ -1,18 +1,18 @@
 -- What a step leaves that does not change what a session has of a thread.
-use Rattle.std.proofs.Common.{◌≡◌, ℕ, Bool, true, false, List, [], ◌∷◌, ◌++◌, refl, sym, ◌∙◌, subst, zero-add}
+use Rattle.std.proofs.Common.{◌≡◌, ℕ, Bool, true, false, List, ◌∷◌, refl, sym, ◌∙◌, subst, zero-add}
 use Rattle.std.specs.Prelude.{◌&&◌, not, ◌==◌, if◌then◌else◌}
-use Rattle.std.proofs.lemmas.Bool.{eqb-true, eq-eqb, false≢true, false_from_ne_true}
+use Rattle.std.proofs.lemmas.Bool.{eqb-true, false≢true, false_from_ne_true}
 use Rattle.ep_defs.specs.declared.event.EventDef.{EventDef}
 use Rattle.ep_model.specs.declared.step.Step.{Step}
 use Rattle.ep_model.specs.declared.step.Step.TheVariants as step
 use Rattle.ep_model.specs.Chunks.{chunks_of, shown_size, is_refused, refused, written}
 use Rattle.ep_model.specs.Entries.{pending, told_number}
 use Rattle.ep_model.specs.Fold.{Budget, lacks_chunk, with_record, with_steal, with_give, with_show, budget_of}
-use Rattle.ep_model.specs.History.{Past, config_of, is_open, opened_at, shows, writes_of}
+use Rattle.ep_model.specs.History.{Past, config_of, is_open, opened_at, shows}
 use Rattle.ep_model.specs.Lawful.{IsLawful}
 use Rattle.ep_model.proofs.Sessions.{accept_unreached, present_reached, open_present}
 use Rattle.ep_model.proofs.Lists.{eqb_turn, and_more}
-use Rattle.ep_core_laws.specs.Changes.{changes_slot, changes_pool, begins_write}
+use Rattle.ep_core_laws.specs.Changes.{changes_slot, changes_pool}
 
 -- ---- what a thread has pending
 

@@ -23,7 +23,6 @@ use Rattle.ep_stream.specs.Rows.{IsRow}
 use Rattle.ep_stream.specs.Session.{Rest, rest_of}
 use Rattle.ep_stream.specs.Steps.{ToldRows, ChangesRow, OpensRow, ClosesRow}
 use Rattle.ep_stream.specs.Sweep.{TellsGive}
-use Rattle.ep_rows.specs.declared.opened.Open.{Open}
 use Rattle.ep_rows.specs.Rows.{told_of}
 use Rattle.ep_tables.specs.declared.tables.Present.{Present}
 use Rattle.ep_tables.specs.declared.tables.Tables.{Tables}
