@@ -1,23 +1,22 @@
 -- The threads that a row serves, and the row where one leaves it and the next enters.
-use Rattle.std.proofs.Common.{◌≡◌, ℕ, zero, suc, ◌+◌, ◌*◌, ◌^◌, ◌<◌, ◌≤◌, true, false, List, [], ◌∷◌, length, take, Option, None, Some, refl, ap, sym, ◌∙◌, subst, arith}
-use Rattle.std.specs.Prelude.{option_map, slice_get, slice_index_or, is_some, IsNone}
+use Rattle.std.proofs.Common.{◌≡◌, ℕ, zero, suc, ◌+◌, ◌*◌, ◌<◌, true, false, List, [], ◌∷◌, length, take, Option, None, Some, refl, ap, sym, ◌∙◌, subst, arith}
+use Rattle.std.specs.Prelude.{option_map, slice_index_or, is_some, IsNone}
 use Rattle.std.specs.List.{All}
 use Rattle.std.proofs.Math.Nat.{add-mul, eq_of_mul-eq-mul_right, le-mul_of_pos_right}
 use Rattle.std.proofs.lemmas.Bool.{true≢false}
 use Rattle.std.proofs.lemmas.Option.{none-some}
 use Rattle.ep_defs.specs.declared.event.EventDef.{EventDef}
-use Rattle.ep_defs.specs.declared.session.Config.{Config}
 use Rattle.ep_defs.specs.declared.session.Write.{Write}
 use Rattle.ep_row.specs.declared.row.Opening.{Opening}
-use Rattle.ep_row.specs.Row.{RowState, slot_of}
-use Rattle.ep_row.specs.AtRest.{RowAtRest, KeepsRest, KeepsRestAnew}
+use Rattle.ep_row.specs.Row.{RowState}
+use Rattle.ep_row.specs.AtRest.{KeepsRest, KeepsRestAnew}
 use Rattle.ep_tie.specs.Tied.{Tied}
 use Rattle.ep_guarded.specs.declared.agreed.Told.{Told}
 use Rattle.ep_guarded.specs.declared.agreed.Agreed.{Agreed}
 use Rattle.ep_guarded.specs.declared.agreed.Agreed.TheVariants as agreed
 use Rattle.ep_guarded.specs.Tied.{told_in, thread_of}
-use Rattle.ep_guarded.specs.Resting.{IsToldBy, RowOver, RowRests, stand_of}
-use Rattle.ep_guarded.proofs.Resting.{over-kept, told-kept}
+use Rattle.ep_guarded.specs.Resting.{RowRests, stand_of}
+use Rattle.ep_guarded.proofs.Resting.{told-kept}
 
 -- ---- threads
 

@@ -1,6 +1,6 @@
 -- What is open in a buffer, once the row's write was shown to it.
 use Rattle.std.proofs.Common.{◌≡◌, ℕ, ◌+◌, ◌<◌, ◌≤◌, Bool, true, false, List, Some, refl, ap, sym, ◌∙◌, subst, arith}
-use Rattle.std.specs.Prelude.{◌^◌, ◌↔◌, if◌then◌else◌, IsTrue, slice_set}
+use Rattle.std.specs.Prelude.{◌^◌, if◌then◌else◌, IsTrue, slice_set}
 use Rattle.std.specs.List.{All}
 use Rattle.std.proofs.lemmas.List.Elements.{All-push}
 use Rattle.ep_defs.specs.declared.event.EventDef.{EventDef}
@@ -22,7 +22,7 @@ use Rattle.ep_guarded.proofs.Rows.{due-few, slot-shown}
 use Rattle.ep_guarded.specs.declared.agreed.Told.{Told}
 use Rattle.ep_guarded.specs.declared.kept.Kept.{Kept}
 use Rattle.ep_guarded.specs.Resting.{KeptRests, state_of}
-use Rattle.ep_guarded.specs.Tied.{KeptState, IsAnswered}
+use Rattle.ep_guarded.specs.Tied.{IsAnswered}
 use Rattle.std.proofs.lemmas.Bool.{true≢false}
 use Rattle.ep_guarded.specs.Calls.{raised, IsDueFor, IsShown}
 

@@ -1,7 +1,6 @@
-use Rattle.std.proofs.Common.{◌≡◌, ◌∙◌, ℕ, Some, ap, sym}
+use Rattle.std.proofs.Common.{◌∙◌, ℕ, Some, ap, sym}
 use Rattle.ep_guarded.specs.declared.agreed.Agreed.TheVariants as agreed
 use Rattle.ep_guarded.specs.Tied.{stand_in, left_in}
-use Rattle.ep_guarded.specs.Resting.{stand_of}
 use Rattle.ep_guarded.proofs.Resting.{standing}
 use Rattle.ep_guarded.proofs.Lives.{row-left}
 use Rattle.ep_guarded.proofs.row.TiedRow.leave.Goals as goal

@@ -1,4 +1,4 @@
-use Rattle.std.proofs.Common.{◌≡◌, ◌∙◌, ◌*◌, ◌+◌, ◌<◌, ℕ, List, Option, Some, refl, ap, sym, subst, arith, length}
+use Rattle.std.proofs.Common.{◌∙◌, ◌*◌, ◌+◌, ◌<◌, ℕ, List, Option, Some, refl, ap, sym, subst, arith, length}
 use Rattle.std.specs.Prelude.{IsNone, option_map, slice_set}
 use Rattle.std.proofs.Math.ListN.{length-set}
 use Rattle.std.proofs.lemmas.Option.{slice_get_read}

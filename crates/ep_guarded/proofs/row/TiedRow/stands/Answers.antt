@@ -1,4 +1,4 @@
-use Rattle.std.proofs.Common.{◌≡◌, ◌∙◌, Some, ap, sym}
+use Rattle.std.proofs.Common.{◌∙◌, Some, ap, sym}
 use Rattle.ep_guarded.specs.Tied.{TiedRowState, stand_in}
 use Rattle.ep_guarded.specs.Resting.{stand_of}
 use Rattle.ep_guarded.proofs.Resting.{standing}
