@@ -106,7 +106,9 @@ fn takes_of_one_share(rt: &(impl Wait + AllocGlobal), chunks: u32) -> Result<Tak
 }
 
 #[test]
-fn a_seat_with_one_of_two_shares_takes_what_the_other_gave_back(rt: HostRuntime) -> Result<(), Fail> {
+fn a_seat_with_one_of_two_shares_takes_what_the_other_gave_back(
+    rt: HostRuntime,
+) -> Result<(), Fail> {
     let takes = |second| Takes {
         first: true,
         second,

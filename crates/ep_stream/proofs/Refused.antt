@@ -5,7 +5,7 @@ use Rattle.std.specs.List.{sum_by}
 use Rattle.std.proofs.lemmas.List.Sums.{sum_by-cons}
 use Rattle.std.proofs.lemmas.Option.{none-some}
 use Rattle.ep_defs.specs.declared.session.Marks.{Marks}
-use Rattle.ep_stream.specs.Named.{insert_by, with_marks}
+use Rattle.ep_stream.specs.Named.{with_marks}
 use Rattle.ep_stream.specs.Rows.{CountsRefused}
 
 abbrev sum_of : List Marks → ℕ
