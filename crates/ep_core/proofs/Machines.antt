@@ -1,5 +1,5 @@
 -- What the machine needs of its parts to make a step. Of its past it knows only that there is one.
-use Rattle.std.proofs.Common.{◌≡◌, ◌<◌, ◌≤◌, ℕ, true, false, Option, Some, None, Result, Ok, Err, OnOk, refl, ap, sym, ◌∙◌, subst}
+use Rattle.std.proofs.Common.{◌≡◌, ℕ, false, Option, Some, None, Result, Ok, Err, OnOk, refl, ap, sym, ◌∙◌, subst}
 use Rattle.std.specs.Prelude.{◌==◌, position, slice_get}
 use Rattle.std.specs.Result.{is_err}
 use Rattle.std.proofs.Math.Logic.{∥∥₁_elim, ∥∥₁_map}

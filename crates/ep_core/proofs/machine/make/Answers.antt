@@ -2,7 +2,7 @@ use Rattle.std.proofs.Common.{◌∷◌, sym, subst}
 use Rattle.ep_tables.specs.declared.judged.Judged.{Judged}
 use Rattle.ep_tables.specs.Judged.{step_of}
 use Rattle.ep_model.specs.declared.step.Step.TheVariants as step
-use Rattle.ep_core.specs.state.Works.{CanWork, IsNext, MakesWith, EndedFollow}
+use Rattle.ep_core.specs.state.Works.{CanWork, MakesWith, EndedFollow}
 use Rattle.ep_core.proofs.Ending.{ended_after}
 use Rattle.ep_core.proofs.machine.make.Goals as goal
 

@@ -4,7 +4,6 @@ use Rattle.ep_model.specs.declared.step.Step.{Step}
 use Rattle.ep_model.specs.Lawful.{objection_to}
 use Rattle.ep_tables.specs.Can.{CanMake}
 use Rattle.ep_tables.specs.Judged.{step_of}
-use Rattle.ep_core.specs.state.Works.{CanWork, HasWorked}
 use Rattle.ep_core.proofs.Machines.{can_found, went_well}
 use Rattle.ep_core.proofs.machine.Machine.step.Goals as goal
 

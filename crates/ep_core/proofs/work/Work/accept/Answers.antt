@@ -9,7 +9,7 @@ accept-requires-clause-tied c = tied_once c.requires.goes
 pub accept-requires-clause-few : goal.accept-requires-clause-few
 accept-requires-clause-few c =
     ∥∥₁_elim c.requires.goes le_prop (λ goes.
-    c.a_session_that_comes_has_an_id.ensures goes.events goes.info goes.past c.args.session c.args.config c.args.self.now.tables c.args.self.now.begun.items c.ranges.session goes.before)
+    c.a_session_that_comes_has_an_id.ensures goes.events goes.info goes.past c.args.session c.args.config c.args.self.now.tables c.args.self.now.begun.items c.ranges.session.fits goes.before)
 
 pub in_memory-requires : goal.in_memory-requires
 in_memory-requires c is = c.accept.ensures.not_long is
