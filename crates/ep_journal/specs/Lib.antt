@@ -1,0 +1,4 @@
+pub mod Items
+pub mod Recorded
+pub mod Kept
+pub mod Told

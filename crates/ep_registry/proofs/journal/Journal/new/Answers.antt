@@ -1,5 +1,0 @@
-use Rattle.ep_registry.proofs.Methods.{nothing-kept}
-use Rattle.ep_registry.proofs.journal.Journal.new.Goals as goal
-
-pub invariant_of-result : goal.invariant_of-result
-invariant_of-result c = rw (c.new-3.ensures, c.in_ok-decisions.ensures, c.in_ok-sessions.ensures) nothing-kept

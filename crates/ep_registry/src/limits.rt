@@ -1,5 +1,0 @@
-//! How much a registry holds.
-
-/// The connections that a server takes in one run. A registry has room for the decision on each, and for as many
-/// sessions.
-pub const CONNECTIONS: usize = 500;
