@@ -1,1 +1,3 @@
 pub mod Sides
+pub mod Conns
+pub mod Begun

@@ -17,7 +17,7 @@ begins (decision.Ticket id) = false
 begins (decision.Refused id) = false
 
 -- The numbers, from this one on, of the connections that began no session.
-pub without_session : ℕ → List Decision → List ℕ
+unfoldable pub without_session : ℕ → List Decision → List ℕ
 without_session number [] = []
 without_session number (d ∷ later) =
     if begins d then without_session (number + 1) later else number ∷ without_session (number + 1) later

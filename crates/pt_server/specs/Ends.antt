@@ -1,6 +1,6 @@
 -- How a connection that began no session ends: what it is due, and what became of that (replies are those of the
 -- DOTNET_IPC_V1 protocol document of dotnet/diagnostics; which faults end a connection is this project's profile).
-use Rattle.std.specs.Prelude.{◌≡◌, ℕ, ◌<◌, ◌×◌, ◌⊎◌, ⊥, List, ◌++◌, Ok, Err}
+use Rattle.std.specs.Prelude.{◌≡◌, ℕ, ◌<◌, ◌⊎◌, List, ◌++◌, Ok, Err}
 use Rattle.pt_io.specs.Sides.{ReadSide, WriteSide}
 use Rattle.ep_defs.specs.declared.session.Config.{Config}
 use Rattle.ep_defs.specs.declared.session.Facts.{Facts}
@@ -64,7 +64,7 @@ IsSent greeting due answer took =
 
 -- A read failed: nothing was decided or replied.
 pub record IsUnread (greeting : List ℕ) (d : Decision) (answer : ConnAnswer) (gave : ReadSide) (took : WriteSide) : Type 0 where
-  pub answer : answer ≡ answers.ReadFault
+  pub told : answer ≡ answers.ReadFault
   pub nothing : d ≡ decision.Nothing
   pub read : 0 < gave.faults
   pub written : took.faults ≡ 0

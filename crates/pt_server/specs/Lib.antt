@@ -6,3 +6,7 @@ pub mod Ends
 pub mod Conns
 -- A link as the sink of its session.
 pub mod Served
+-- What is decided on a connection.
+pub mod Deciding
+-- What a server knows of its connections.
+pub mod Desk

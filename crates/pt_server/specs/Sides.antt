@@ -25,3 +25,10 @@ HasTaken took bytes = IsTrue took.tells → took.taken ≡ bytes
 -- It took these bytes and then a first part of those.
 abbrev pub HasTakenPart : WriteSide → List ℕ → List ℕ → Type 0
 HasTakenPart took bytes later = IsTrue took.tells → TookPartOf later bytes took.taken
+
+-- The message was read, and nothing was written yet.
+pub record IsRead (greeting : List ℕ) (gave : ReadSide) (took : WriteSide) : Type 0 where
+  pub within : HasReadWithin gave
+  pub read : gave.faults ≡ 0
+  pub taken : HasTaken took greeting
+  pub written : took.faults ≡ 0

@@ -10,11 +10,15 @@
 #![tactic(auto)]
 
 mod conn;
+mod deciding;
+mod desk;
 mod host;
 mod reading;
 mod reply;
 mod served;
 
 pub use conn::{ConnAnswer, ConnEnd};
+pub use deciding::Deciding;
+pub use desk::{Asked, Desk};
 pub use host::Host;
-pub use served::Served;
+pub use served::{Served, Written};
