@@ -1,7 +1,7 @@
 -- How what a link gave, and what an output took of it, grows by a read.
 use Rattle.std.proofs.Common.{◌≡◌, ℕ, Bool, List, ◌++◌, take, drop, IsTrue, sym, ◌∙◌, ap, append_assoc}
 use Rattle.std.proofs.lemmas.List.{take-append-drop, append_cancel_left}
-use Rattle.pt_io.specs.Taken.{IsPrefix, TookPartOf, TookAll, TookPart}
+use Rattle.pt_io.specs.Taken.{TookPartOf, TookAll, TookPart}
 use Rattle.ipc_take.specs.Own.{own_size, own_bytes, later_bytes}
 use Rattle.ipc_take.specs.Given.{Gave}
 

@@ -1,4 +1,3 @@
-use Rattle.std.proofs.Common.{◌≡◌, ℕ, List, ◌++◌, ◌∙◌, ap}
 use Rattle.ipc_call.proofs.Reading.{gave-more, took-part-more}
 use Rattle.ipc_call.proofs.stream.copy.Goals as goal
 

@@ -1,4 +1,4 @@
-use Rattle.std.proofs.Common.{◌≡◌, refl}
+use Rattle.std.proofs.Common.{refl}
 use Rattle.pt_num.specs.Numbers.{fixed}
 use Rattle.ipc_serve.proofs.replies.session_reply.Goals as goal
 
