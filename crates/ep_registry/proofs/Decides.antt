@@ -1,10 +1,8 @@
 -- What the server's half shows of a decision.
 use Rattle.std.proofs.Common.{◌≡◌, ℕ, List, [], ◌∷◌, ◌++◌, refl, ◌∙◌}
-use Rattle.ep_table.specs.declared.table.Accepted.TheVariants as accepted
 use Rattle.ep_table.specs.declared.table.StopAnswer.{StopAnswer}
 use Rattle.ep_table.specs.declared.table.StopAnswer.TheVariants as answer
 use Rattle.ep_journal.specs.declared.decision.Decision.{Decision}
-use Rattle.ep_journal.specs.declared.decision.Decision.TheVariants as decision
 use Rattle.ep_registry.specs.Registered.{ServerHalf}
 use Rattle.ep_journal.specs.Recorded.{Recorded, stopped_as, answer_to, after_stopping}
 use Rattle.ep_registry.specs.Held.{stop_decides}

@@ -1,6 +1,6 @@
 -- Which slots are free after each call.
-use Rattle.std.proofs.Common.{◌≡◌, ℕ, zero, suc, ◌∷◌, ◌+◌, ◌<◌, Bool, true, false, not, Option, Some, None, List, length, map, set, slice_get, get_or, replicate, if◌then◌else◌, refl, ap, sym, ◌∙◌, arith}
-use Rattle.std.specs.Prelude.{position, is_some, option_map}
+use Rattle.std.proofs.Common.{◌≡◌, ℕ, zero, suc, ◌∷◌, Bool, true, false, Option, Some, None, List, map, set, slice_get, get_or, replicate, if◌then◌else◌, refl, ap, sym, ◌∙◌}
+use Rattle.std.specs.Prelude.{position, option_map}
 use Rattle.std.proofs.Math.Seq.{map-set_same}
 use Rattle.std.proofs.lemmas.List.{map-set}
 use Rattle.std.proofs.lemmas.Option.{slice_get-map, get_or_from_slice_get}
@@ -9,8 +9,7 @@ use Rattle.ep_table.specs.declared.limits.TheConstants.{SLOTS}
 use Rattle.ep_table.specs.declared.table.Seat.{Seat}
 use Rattle.ep_table.specs.declared.table.StopAnswer.{StopAnswer}
 use Rattle.ep_table.specs.declared.table.StopAnswer.TheVariants as answer
-use Rattle.ep_table.specs.declared.table.StopTicket.{StopTicket}
-use Rattle.ep_table.specs.Sessions.{Sessions, no_sessions, is_free, is_live_as, accepted_by, after_accept, seated_at, stop_answer, ticket_at, after_stop, stopped_at, after_free}
+use Rattle.ep_table.specs.Sessions.{Sessions, no_sessions, is_free, is_live_as, accepted_by, after_accept, after_stop, after_free}
 use Rattle.ep_journal.specs.declared.session.Fate.{Fate}
 use Rattle.ep_journal.specs.declared.session.Fate.TheVariants as fate
 use Rattle.ep_journal.specs.declared.session.Entry.{Entry}

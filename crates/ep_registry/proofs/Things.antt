@@ -1,5 +1,5 @@
 -- What is left of the sessions after each call, and who waits.
-use Rattle.std.proofs.Common.{◌≡◌, ◌≢◌, ℕ, zero, suc, ◌+◌, ◌-◌, ◌<◌, ◌≤◌, Bool, true, false, Option, Some, None, List, [], ◌∷◌, ◌++◌, length, map, set, slice_get, replicate, eqb, if◌then◌else◌, refl, ap, sym, ◌∙◌, arith, ◌⊎◌, inl, inr, count_by}
+use Rattle.std.proofs.Common.{◌≡◌, ◌≢◌, ℕ, zero, suc, ◌+◌, ◌<◌, ◌≤◌, Bool, true, false, Option, Some, None, List, [], ◌∷◌, ◌++◌, length, set, slice_get, replicate, eqb, if◌then◌else◌, refl, ap, sym, ◌∙◌, arith, ◌⊎◌, inl, inr, count_by}
 use Rattle.std.proofs.lemmas.Bool.Decides.{eqb_tells}
 use Rattle.std.proofs.lemmas.Option.{slice_get_past, slice_get_within}
 use Rattle.std.proofs.lemmas.Grind.{common_steps}
@@ -18,10 +18,9 @@ use Rattle.ep_journal.specs.declared.session.Entry.{Entry}
 use Rattle.ep_journal.specs.declared.session.Stage.{Stage}
 use Rattle.ep_journal.specs.declared.session.Stage.TheVariants as stage
 use Rattle.ep_journal.specs.Items.{item, with_item}
-use Rattle.ep_journal.specs.Recorded.{Recorded, goes_on, is_serving, begun, staged, stopped, with_rows, changed_at, changed, accepted_as, after_accepting, stopped_as, answer_to, after_stopping, after_failing, after_end, after_opening, looked_at, ending, ticket_of, after_looking}
+use Rattle.ep_journal.specs.Recorded.{Recorded, goes_on, begun, staged, stopped, with_rows, changed_at, changed, accepted_as, after_accepting, stopped_as, answer_to, after_stopping, after_failing, after_end, after_opening, looked_at, ending, ticket_of, after_looking}
 use Rattle.ep_journal.specs.Kept.{is_on, IsKept}
 use Rattle.ep_journal.proofs.Items.{get-snoc-is, item-set, item-set-other, item-last}
-use Rattle.ep_journal.proofs.Methods.{serving-on, may-on}
 use Rattle.ep_journal.proofs.Steps.{one-seat}
 use Rattle.ep_registry.specs.declared.hold.Hold.{Hold}
 use Rattle.ep_registry.specs.Held.{hold_of, hold_at, has_ended, over_as, AreOver, NoneWaits}

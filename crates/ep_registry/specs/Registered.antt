@@ -4,7 +4,6 @@ use Rattle.ep_tie.specs.Tied.{Tied}
 use Rattle.ep_table.specs.declared.limits.TheConstants.{SLOTS}
 use Rattle.ep_table.specs.Sessions.{is_free}
 use Rattle.ep_journal.specs.declared.decision.Decision.{Decision}
-use Rattle.ep_journal.specs.declared.session.Entry.{Entry}
 use Rattle.ep_journal.specs.declared.limits.TheConstants.{CONNECTIONS}
 use Rattle.ep_journal.specs.Recorded.{Recorded}
 use Rattle.ep_journal.specs.Kept.{is_of, is_early, is_late}

@@ -145,7 +145,7 @@ impl<B: Named, S: Named, R: Named> Run<B, S, R> {
     }
 }
 
-fn told<P: Kinds<u32, u32, u64, u32>>(
+fn tell<P: Kinds<u32, u32, u64, u32>>(
     alloc: Global,
     ended: Ended<P, u32, u32, u64, u32>,
     run: (bool, u32, u32),
@@ -242,7 +242,7 @@ fn whole<B: Named, S: Named, R: Named>(
     let second = leave(rt, &mut registry, second);
     let roles = two(alloc, first, second)?;
     let ended = registry.finish(&mut server, roles);
-    told(alloc, ended, (agrees, server.early(), server.late()))
+    tell(alloc, ended, (agrees, server.early(), server.late()))
 }
 
 // What a registry tells at the end of its history.

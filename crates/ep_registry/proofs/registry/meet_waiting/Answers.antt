@@ -1,9 +1,8 @@
-use Rattle.std.proofs.Common.{rules, tests, ◌≡◌, List, Option, Some, ◌-◌, slice_get, sym, ◌∙◌}
+use Rattle.std.proofs.Common.{rules, tests, ◌≡◌, Some, ◌-◌, slice_get, sym, ◌∙◌}
 use Rattle.std.proofs.lemmas.Iterator.Adapters.{YieldsList-from_vec}
 use Rattle.std.proofs.lemmas.Iterator.Consumers.{YieldsList-end}
 use Rattle.std.proofs.lemmas.List.{map-id}
 use Rattle.ep_journal.specs.declared.limits.TheConstants.{CONNECTIONS}
-use Rattle.ep_registry.specs.declared.hold.Hold.{Hold}
 use Rattle.ep_registry.proofs.Tied.{shown-known}
 use Rattle.ep_registry.proofs.Things.{nobody-has, none-more}
 use Rattle.ep_registry.proofs.registry.meet_waiting.Goals as goal

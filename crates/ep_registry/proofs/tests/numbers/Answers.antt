@@ -1,4 +1,4 @@
-use Rattle.std.proofs.Common.{◌≡◌, ◌+◌, ◌∷◌, [], length-append, sym, ◌∙◌, arith}
+use Rattle.std.proofs.Common.{◌≡◌, ◌∷◌, [], length-append, sym, arith}
 use Rattle.ep_registry.proofs.Fills.{at-more}
 use Rattle.ep_registry.proofs.tests.numbers.Goals as goal
 

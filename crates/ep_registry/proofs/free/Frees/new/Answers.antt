@@ -1,4 +1,3 @@
-use Rattle.std.proofs.Common.{◌≡◌}
 use Rattle.ep_table.specs.declared.limits.TheConstants.{SLOTS}
 use Rattle.ep_registry.proofs.Fills.{all-there}
 use Rattle.ep_registry.proofs.free.Frees.new.Goals as goal

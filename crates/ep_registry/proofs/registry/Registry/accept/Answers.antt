@@ -1,4 +1,4 @@
-use Rattle.std.proofs.Common.{◌≡◌, ◌+◌, ◌-◌, ◌<◌, Bool, true, false, None, List, length, set, ap, sym, ◌∙◌, subst, slice_get}
+use Rattle.std.proofs.Common.{◌≡◌, ◌+◌, ◌-◌, ◌<◌, Bool, false, None, List, length, set, ap, sym, ◌∙◌, subst, slice_get}
 use Rattle.ep_journal.specs.declared.limits.TheConstants.{CONNECTIONS}
 use Rattle.ep_journal.specs.declared.decision.Decision.{Decision}
 use Rattle.ep_registry.specs.declared.hold.Hold.{Hold}
@@ -7,7 +7,7 @@ use Rattle.ep_registry.specs.Registered.{Desk}
 use Rattle.ep_registry.proofs.Tied.{book-is}
 use Rattle.ep_registry.proofs.Calls.{seated, next-id, seat-within}
 use Rattle.ep_registry.proofs.Leaves.{unclosed-by}
-use Rattle.ep_registry.proofs.Slots.{seat-free, accepted-free, full-free}
+use Rattle.ep_registry.proofs.Slots.{seat-free, accepted-free}
 use Rattle.ep_registry.proofs.Things.{accepted-over, accepted-ended}
 use Rattle.ep_registry.proofs.registry.Registry.accept.Goals as goal
 

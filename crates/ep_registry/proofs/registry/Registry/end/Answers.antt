@@ -1,6 +1,4 @@
-use Rattle.std.proofs.Common.{◌≡◌, Bool, true, Some, Option, List, set, slice_get, ap, sym, ◌∙◌}
-use Rattle.ep_journal.specs.declared.session.Stage.TheVariants as stage
-use Rattle.ep_journal.specs.Items.{with_item}
+use Rattle.std.proofs.Common.{◌≡◌, Bool, true, List, set, slice_get, ap, sym, ◌∙◌}
 use Rattle.ep_registry.specs.declared.hold.Hold.{Hold}
 use Rattle.ep_journal.specs.Recorded.{may_end}
 use Rattle.ep_registry.specs.Registered.{Desk}

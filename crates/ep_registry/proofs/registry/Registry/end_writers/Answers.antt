@@ -1,4 +1,4 @@
-use Rattle.std.proofs.Common.{sym, ◌∙◌, true, refl}
+use Rattle.std.proofs.Common.{refl}
 use Rattle.ep_registry.proofs.Tied.{writers-tied}
 use Rattle.ep_registry.specs.Registered.{Desk}
 use Rattle.ep_registry.proofs.registry.Registry.end_writers.Goals as goal

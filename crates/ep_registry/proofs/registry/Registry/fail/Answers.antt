@@ -1,4 +1,4 @@
-use Rattle.std.proofs.Common.{◌≡◌, Bool, true, false, Some, List, length, set, slice_get, ap, sym, ◌∙◌}
+use Rattle.std.proofs.Common.{◌≡◌, Bool, true, List, length, set, slice_get, ap, sym, ◌∙◌}
 use Rattle.ep_journal.specs.declared.decision.Decision.{Decision}
 use Rattle.ep_journal.specs.declared.decision.Decision.TheVariants as decision
 use Rattle.ep_journal.specs.declared.session.Opened.TheVariants as opened

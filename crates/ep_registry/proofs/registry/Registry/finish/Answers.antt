@@ -1,6 +1,5 @@
-use Rattle.std.proofs.Common.{◌≡◌}
 use Rattle.ep_registry.specs.Registered.{Desk}
-use Rattle.ep_registry.proofs.Leaves.{none-on, counted-by}
+use Rattle.ep_registry.proofs.Leaves.{none-on}
 use Rattle.ep_registry.proofs.registry.Registry.finish.Goals as goal
 
 pub meet_waiting-requires-clause-none : goal.meet_waiting-requires-clause-none

@@ -1,4 +1,4 @@
-use Rattle.std.proofs.Common.{Some, Bool, false, List, Option, map, set, replicate, refl, ap, sym, ◌∙◌}
+use Rattle.std.proofs.Common.{Some, false, List, Option, map, set, replicate, refl, ap, sym, ◌∙◌}
 use Rattle.ep_table.specs.Sessions.{is_free}
 use Rattle.ep_table.specs.declared.limits.TheConstants.{SLOTS}
 use Rattle.ep_journal.specs.declared.decision.Decision.{Decision}
@@ -6,8 +6,6 @@ use Rattle.ep_registry.specs.declared.server.Mark.{Mark}
 use Rattle.ep_journal.specs.Recorded.{Recorded}
 use Rattle.ep_registry.specs.Registered.{Desk}
 use Rattle.ep_registry.specs.declared.server.Mark.TheVariants as mark
-use Rattle.ep_registry.specs.declared.hold.Hold.{Hold}
-use Rattle.ep_registry.specs.Held.{AreOver}
 use Rattle.ep_registry.proofs.Calls.{start-tied}
 use Rattle.ep_registry.proofs.Things.{none-over}
 use Rattle.ep_registry.proofs.Slots.{all-free}

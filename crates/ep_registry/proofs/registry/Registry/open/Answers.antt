@@ -1,4 +1,4 @@
-use Rattle.std.proofs.Common.{◌≡◌, ◌≤◌, true, false, not, ap, ◌∙◌, arith}
+use Rattle.std.proofs.Common.{◌≡◌, ◌≤◌, true, not, ap, ◌∙◌, arith}
 use Rattle.ep_journal.specs.declared.limits.TheConstants.{CONNECTIONS}
 use Rattle.ep_journal.specs.declared.session.Opened.TheVariants as opened
 use Rattle.ep_registry.specs.declared.hold.Hold.{Hold}
