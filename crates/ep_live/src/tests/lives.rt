@@ -1,5 +1,5 @@
 //! A row with two lives, and a session that is opened in each.
-ghost use Rattle.std.specs.Prelude.{◌≡◌, ℕ, ◌≤◌, None, Some, length, replicate, IsTrue};
+ghost use Rattle.std.specs.Prelude.{◌≡◌, ℕ, ◌<◌, Some, length, replicate, IsTrue};
 ghost use Rattle.ep_defs.specs.Session as valid;
 ghost use Rattle.ep_pool.specs.Shared.{IsSeatOf};
 ghost use Rattle.ep_guarded.specs.Tied.{stand_in};
