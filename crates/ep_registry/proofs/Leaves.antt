@@ -40,16 +40,6 @@ unclosed-by marks s t early late closed h g same left =
     let b : s.left ≡ t.left = ap (λ (k : ServerHalf). k.left) same in
     sym a ∙ b ∙ left
 
--- What the server's half counts is what the registry counts.
-pub counted-by : (d : Desk) (s t : ServerHalf) → IsTied d → slice_get d.marks SLOTS ≡ Some (Some (mark_of s)) → s ≡ t →
-    (t.early ≡ count_by is_early d.recorded.sessions) × (t.late ≡ count_by is_late d.recorded.sessions)
-counted-by d s t tied h same =
-    let m = mark-known d.marks SLOTS (mark_of s) (mark.Server d.early d.late d.closed) h tied.server in
-    let shows = server-shows s.early s.late s.left d.early d.late d.closed m in
-    let a : t.early ≡ d.early = ap (λ (k : ServerHalf). k.early) (sym same) ∙ shows.0 in
-    let b : t.late ≡ d.late = ap (λ (k : ServerHalf). k.late) (sym same) ∙ shows.1 in
-    (a ∙ tied.early, b ∙ tied.late)
-
 pub role-known : (d : Desk) (number roles : ℕ) (left : Bool) → IsTied d → number < SLOTS → slice_get d.marks number ≡ Some (Some (mark.Role roles left)) →
     IsMarked d number (Some (Some (mark.Role roles left)))
 role-known d number roles left t l shown = let m : IsMarked d number (slice_get d.marks number) = t.role number l in subst (IsMarked d number) shown m

@@ -56,9 +56,6 @@ seated-free r slot id h = by_place (position is_free r.table.seats) refl
 pub accepted-free : (r : Recorded) (slot id : ℕ) → accepted_by r.table ≡ accepted.Seat slot id → free_in (after_accepting r).table ≡ set (free_in r.table) slot false
 accepted-free r slot id h = rw h (seated-free r slot id h)
 
-pub full-free : (r : Recorded) → accepted_by r.table ≡ accepted.Full → free_in (after_accepting r).table ≡ free_in r.table
-full-free r h = rw h refl
-
 -- ---- a session is stopped
 
 -- It keeps its slot.
