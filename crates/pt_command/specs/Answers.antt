@@ -21,6 +21,11 @@ pub record Answered {I : Type 0} (source : Source I) (input_old input_new : I) (
   pub read : ReadWhole source input_old input_new bytes
   pub is_text : IsText bytes text
 
+-- The text is the answer to the bytes, and the command ends so where it is written.
+abbrev pub IsAnswer : (List ℕ → List ℕ → Type 0) → (List ℕ → ℕ → List ℕ → Type 0) → List ℕ → List ℕ → End → Type 0
+IsAnswer IsDone IsError bytes text end =
+    (IsDone bytes text × (end ≡ ends.Done)) ⊎ ((at : ℕ) × IsError bytes at text × (end ≡ ends.Refused at))
+
 -- The command, whose text for the bytes of an input is `IsDone`, or `IsError` with an offset, ended so. Nothing is written before the input was read.
 pub record Answers {I O : Type 0} (source : Source I) (sink : Sink O) (IsDone : List ℕ → List ℕ → Type 0) (IsError : List ℕ → ℕ → List ℕ → Type 0)
     (input_old input_new : I) (output_old output_new : O) (end : End) : Type 0 where

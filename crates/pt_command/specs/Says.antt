@@ -24,3 +24,8 @@ Says sink old new text end result =
 -- So it was with a line, or there was no memory for it and nothing was written.
 abbrev pub SaysLine : {O : Type 0} → Sink O → O → O → List ℕ → End → End → Type 0
 SaysLine sink old new text end result = Says sink old new text end result ⊎ ((result ≡ ends.OutOfMemory) × (new ≡ old))
+
+-- One of these texts was said, each with its end, or there was no memory for it and nothing was written.
+abbrev pub SaysOne : {O : Type 0} → Sink O → O → O → (List ℕ → End → Type 0) → End → Type 0
+SaysOne sink old new IsAnswer result =
+    ((text : List ℕ) × (end : End) × IsAnswer text end × Says sink old new text end result) ⊎ ((result ≡ ends.OutOfMemory) × (new ≡ old))

@@ -4,7 +4,7 @@ use Rattle.ep_defs.specs.Session.{standard_info_of}
 use Rattle.ep_model.specs.declared.step.Kind.{Kind}
 use Rattle.ep_model.specs.declared.step.Step.{Step}
 use Rattle.ep_core.specs.Machine.{Follows}
-use Rattle.ep_gen.specs.Schedule.{generated}
+use Rattle.pt_gen.specs.Schedule.{generated}
 use Rattle.pt_load.specs.Sample.{sample}
 use Rattle.pt_gen.proofs.Steps.{one_more, all_made, made_so_far, given_some, given_none}
 use Rattle.pt_gen.proofs.run.run.Goals as goal

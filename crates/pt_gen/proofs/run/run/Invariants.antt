@@ -3,7 +3,7 @@ use Rattle.std.proofs.Common.{◌≡◌, ◌++◌, length, reverse}
 use Rattle.ep_defs.specs.Session.{standard_info_of}
 use Rattle.ep_model.specs.History.{Past}
 use Rattle.ep_core.specs.Machine.{Follows}
-use Rattle.ep_gen.specs.Schedule.{generated}
+use Rattle.pt_gen.specs.Schedule.{generated}
 use Rattle.pt_load.specs.Sample.{sample}
 use Rattle.pt_gen.proofs.run.run.Given as goal
 
