@@ -44,13 +44,15 @@ pub fn client<K: Caller, O: Sink>(
             peer: None,
         };
     };
-    let end = match ask(alloc, command, &mut link, output) {
-        Ok(()) => End::Done,
-        Err(fault) => end_by(alloc, fault, output),
-    };
-    Called {
-        end,
-        peer: Some(link),
+    match ask(alloc, command, &mut link, output) {
+        Ok(()) => Called {
+            end: End::Done,
+            peer: Some(link),
+        },
+        Err(fault) => Called {
+            end: end_by(alloc, fault, output),
+            peer: Some(link),
+        },
     }
 }
 
