@@ -34,7 +34,7 @@ pub struct Plain {
 }
 
 /// The end of a command that traced nothing.
-pub(crate) fn finished<L>(alloc: Global, end: End, peer: Option<L>) -> Finished<L>
+pub(crate) fn ended_with<L>(alloc: Global, end: End, peer: Option<L>) -> Finished<L>
     ensures ended { Ended end result.status result.code result.at }
     ensures peer { result.peer ≡ peer }
     ensures rows { result.rows.items ≡ [] }

@@ -1,5 +1,5 @@
 //! The top call.
-ghost use Rattle.std.specs.Prelude.{◌≡◌, ℕ, map, Some, None};
+ghost use Rattle.std.specs.Prelude.{◌≡◌, ℕ, map, Some, None, IfSome};
 ghost use Rattle.std.specs.String.{string_bytes};
 ghost use Rattle.pt_command.specs.declared.end.End.TheVariants as ends;
 ghost use Rattle.pt_command.specs.Says.{SaysLine};
@@ -13,11 +13,11 @@ ghost use Rattle.pt_cli.specs.declared.trace_words.Asked.{Asked as TraceAsked};
 ghost use Rattle.pt_cli.specs.declared.words.Command.TheVariants as commands;
 ghost use Rattle.pt_cli.specs.Ends.{EndsSo};
 ghost use Rattle.pt_cli.specs.Errors.{words_error};
-ghost use Rattle.pt_cli.specs.Program.{HasFaults, LeavesAlone};
+ghost use Rattle.pt_cli.specs.Program.{ComesTo, HasFaults, LeavesAlone};
 ghost use Rattle.pt_cli.specs.Traced.{TracesTo};
-ghost use Rattle.pt_cli.specs.Words.{meant};
+ghost use Rattle.pt_cli.specs.Words.{meant, Fits};
 
-use crate::ends::{Finished, finished};
+use crate::ends::{Finished, ended_with};
 use crate::traced::traced;
 use crate::waitless::without_waiting;
 use crate::words::{Command, command_of};
@@ -85,15 +85,53 @@ pub fn tracepipe<
         result.peer result.rows.items result.marks }
 {
     match command_of(alloc, words) {
-        Ok(Some(Command::Trace(asked))) => traced(rt, alloc, asked, output, clock, gate),
-        Ok(Some(Command::Client(command))) => {
+        Ok(command) => carry_out(rt, alloc, command, input, output, caller, clock, gate),
+        Err(AllocError) => ended_with(alloc, End::OutOfMemory, None),
+    }
+}
+
+// Does what the command asks for; without one the words are refused.
+fn carry_out<
+    R: Threads + Wait + time::Clock + Sync,
+    I: Source,
+    O: Sink,
+    K: Caller,
+    C: Clock,
+    G: Gate,
+>(
+    rt: &R,
+    alloc: Global,
+    command: Option<Command<'_>>,
+    input: &mut I,
+    output: &mut O,
+    caller: &mut K,
+    clock: &C,
+    gate: &G,
+) -> Finished<K::Link>
+    requires { IfSome command Fits }
+    ensures comes { EndsSo result.status result.code result.at
+        (ComesTo I.Source O.Sink K.Caller K.Link.Source K.Link.Sink command (record {
+          input_old = input.old;
+          input_new = input.new;
+          output_old = output.old;
+          output_new = output.new;
+          caller_old = caller.old;
+          caller_new = caller.new;
+          peer = result.peer;
+          rows = result.rows.items;
+          marks = result.marks;
+        })) }
+    ensures alone { LeavesAlone command input.old input.new caller.old caller.new result.peer result.rows.items result.marks }
+{
+    match command {
+        Some(Command::Trace(asked)) => traced(rt, alloc, asked, output, clock, gate),
+        Some(Command::Client(command)) => {
             let Called { end, peer } = client(alloc, &command, output, caller);
-            finished(alloc, end, peer)
+            ended_with(alloc, end, peer)
         }
-        Ok(command) => {
+        command => {
             let end = without_waiting(alloc, &command, input, output);
-            finished(alloc, end, None)
+            ended_with(alloc, end, None)
         }
-        Err(AllocError) => finished(alloc, End::OutOfMemory, None),
     }
 }

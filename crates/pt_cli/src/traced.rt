@@ -5,7 +5,7 @@ ghost use Rattle.pt_cli.specs.Ends.{EndsSo};
 ghost use Rattle.pt_cli.specs.TraceWords.{Fits};
 ghost use Rattle.pt_cli.specs.Traced.{IsEndOf, TracesTo};
 
-use crate::ends::{Finished, finished};
+use crate::ends::{Finished, ended_with};
 use crate::trace_words::Asked;
 use ep_defs::standard_info;
 use ep_stream::Fate;
@@ -55,7 +55,7 @@ pub(crate) fn traced<L, R: Threads + Wait + time::Clock + Sync, O: Sink, C: Cloc
                 marks,
             }
         }
-        Err(AllocError) => finished(alloc, End::OutOfMemory, None),
+        Err(AllocError) => ended_with(alloc, End::OutOfMemory, None),
     }
 }
 

@@ -11,6 +11,7 @@ ghost use Rattle.pt_report.specs.Command.{Reports};
 ghost use Rattle.pt_cli.specs.declared.words.Command.TheVariants as commands;
 ghost use Rattle.pt_cli.specs.Ends.{EndsSo};
 ghost use Rattle.pt_cli.specs.Errors.{words_error};
+ghost use Rattle.pt_cli.specs.Program.{PlainComesTo};
 ghost use Rattle.pt_cli.specs.Words.{meant, is_plain, reads_input, Fits};
 
 use crate::ends::Plain;
@@ -59,15 +60,7 @@ pub(crate) fn without_waiting<I: Source, O: Sink>(
     output: &mut O,
 ) -> End
     requires { IfSome command.now Fits }
-    ensures replayed { (session : ℕ) → command.now ≡ Some (commands.Replay session)
-        → Replays I.Source O.Sink session input.old input.new output.old output.new result }
-    ensures reported { command.now ≡ Some commands.Report
-        → Reports I.Source O.Sink input.old input.new output.old output.new result }
-    ensures generated { (asked : GenAsked) → command.now ≡ Some (commands.Gen asked)
-        → Generates O.Sink asked output.old output.new result }
-    ensures words { is_plain command.now ≡ false
-        → SaysLine O.Sink output.old output.new words_error ends.Words result }
-    ensures faults { HasCauses I.Source O.Sink input.old input.new output.old output.new result }
+    ensures comes { PlainComesTo I.Source O.Sink command.now input.old input.new output.old output.new result }
     ensures unread { reads_input command.now ≡ false → input.new ≡ input.old }
 {
     match command {

@@ -71,7 +71,11 @@ fn end_by<O: Sink>(alloc: Global, fault: CallFault, output: &mut O) -> End
 {
     match fault {
         CallFault::PeerError { code } => {
-            say_line(output, peer_error_text(alloc, code), End::PeerError { code })
+            say_line(
+                output,
+                peer_error_text(alloc, code),
+                End::PeerError { code },
+            )
         }
         CallFault::BadReply { at } => {
             say_line(output, reply_error_text(alloc, at), End::BadReply { at })

@@ -1,5 +1,5 @@
 -- What a command that reads its whole input comes to.
-use Rattle.std.proofs.Common.{◌≡◌, ℕ, List, ◌⊎◌, inl, inr, refl, sym, ap, subst, ◌∙◌}
+use Rattle.std.proofs.Common.{◌≡◌, ℕ, List, ◌⊎◌, inl, inr, ap, subst, ◌∙◌}
 use Rattle.std.specs.Prelude.{◌≢◌}
 use Rattle.pt_io.specs.declared.sink.Sink.{Ghosts as Sink}
 use Rattle.pt_io.specs.declared.source.Source.{Ghosts as Source}

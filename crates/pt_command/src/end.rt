@@ -14,9 +14,7 @@ pub enum End {
     /// The words ask for nothing.
     Words,
     /// The input is refused. Its offset is 0 where the error line has none.
-    Refused {
-        at: u64,
-    },
+    Refused { at: u64 },
     /// A read of the input failed.
     ReadFault,
     /// A write of the output failed.
@@ -24,13 +22,9 @@ pub enum End {
     /// The peer can't be called, or the link to it failed.
     LinkFault,
     /// The peer's reply is an error.
-    PeerError {
-        code: u32,
-    },
+    PeerError { code: u32 },
     /// The peer's bytes are no reply, from this offset on.
-    BadReply {
-        at: u64,
-    },
+    BadReply { at: u64 },
     OutOfMemory,
     /// A session took more events than its stream can have.
     TooLong,

@@ -1,5 +1,5 @@
-//! Words, good and bad.
-use crate::asked_of;
+//! Words of `trace`, good and bad.
+use crate::trace_words::asked_of;
 use ep_defs::Config;
 use pt_load::Plan;
 use std::alloc::Global;

@@ -10,7 +10,7 @@ returns-in-Stream g c = λ bytes judged. inl (c.in-Stream.stream.now, ends.Done,
 pub returns-in-Refused : goal.returns-in-Refused
 returns-in-Refused g c = λ bytes judged.
     let refusal = c.in-Refused.refusal in
-    elim (c.say_line-in-Refused.ensures (refusal_error refusal) c.refusal_text.ensures) [
+    elim (c.say_line.ensures (refusal_error refusal) c.refusal_text.ensures) [
       | inl said ↦ inl (refusal_error refusal, ends.Refused 0, inr (0, (refl, inl (refusal, c.in-Refused.ensures bytes judged, refl)), refl), said)
       | inr none ↦ inr none
     ]

@@ -1,6 +1,7 @@
 -- What was read is judged by its bytes.
-use Rattle.std.proofs.Common.{◌≡◌}
-use Rattle.pt_command.proofs.Answering.{answered, unanswered}
+use Rattle.std.proofs.Common.{◌≡◌, Err, refl, ap}
+use Rattle.pt_command.specs.declared.end.End.TheVariants as ends
+use Rattle.pt_command.proofs.Answering.{answered, unanswered, no-refusal, no-done}
 use Rattle.pt_replay.specs.Command.{IsErrorAt}
 use Rattle.pt_replay.specs.Replay.{IsReplayed}
 use Rattle.pt_replay.proofs.Answering.{replayed-not_refused, replayed-not_unfinished, error-not_finished}
@@ -14,7 +15,7 @@ returns-in-Ok g c =
     let read = c.in-Ok.ensures.all in
     let left = source.left c.args.input.now in
     let answers = answered source g.O.Sink (IsReplayed session) (IsErrorAt session) c.args.input.now c.judge.new.input c.args.output.now c.answer.new.output read.0 c.answer.result
-    read.2 c.in-Ok.sound (c.answer.ensures read.0 read.1) in
+    read.2 (c.in-Ok.ensures.read (λ is. cc)) (c.answer.ensures read.0 read.1) in
     record {
       answers = answers;
       refused_exactly = λ refusal tells refused done.
@@ -26,4 +27,17 @@ returns-in-Ok g c =
       taken = λ tells finishes at refused.
           let text = answers.refused at refused in
           error-not_finished law.one_schedule law.not_both session text.1.bytes left text.0 (text.1.read.told tells).0 text.1.is_text.1 finishes;
+    }
+
+pub returns-in-Err : goal.returns-in-Err
+returns-in-Err g c =
+    let session = c.args.session in
+    let answers =
+    unanswered g.I.Source g.O.Sink (IsReplayed session) (IsErrorAt session) c.args.input.now c.judge.new.input c.args.output.now c.args.output.now c.in-Err.end
+    c.in-Err.ensures.end (λ is. c.in-Err.ensures.fault (ap Err is)) (λ other. c.in-Err.ensures.read (λ is. other (let same : c.in-Err.end ≡ ends.ReadFault = cc in same))) refl in
+    record {
+      answers = answers;
+      refused_exactly = λ refusal tells refused done. no-done c.in-Err.end c.in-Err.ensures.end done;
+      unfinished = λ tells unfinished done. no-done c.in-Err.end c.in-Err.ensures.end done;
+      taken = λ tells finishes at refused. no-refusal c.in-Err.end at c.in-Err.ensures.end refused;
     }

@@ -1,11 +1,17 @@
-use super::*;
+//! The program with everything around it in memory.
+use crate::tracepipe;
 use ep_defs::Marks;
-use pt_io::{MemCaller, MemLink, MemSink, MemSource, Moment, OpenGate, StepClock};
+use pt_command::status;
+use pt_io::{Gate, MemCaller, MemLink, MemSink, MemSource, Moment, OpenGate, StepClock};
+use std::alloc::Global;
 use std::collections::VecDeque;
 use std::process::Abort;
+use std::sync::Wait;
 use std::sync::atomic::{AtomicBool, Ordering};
 use std::test::Fail;
 use std::thread;
+use std::thread::Threads;
+use std::time;
 
 /// How often a gate looks before it gives up.
 const LOOKS: u32 = 10_000_000;
@@ -36,13 +42,22 @@ impl Outside {
     }
 }
 
+// How the program ended.
+#[derive(Drop)]
+struct Ran {
+    status: u8,
+    has_peer: bool,
+    rows: Vec<(u64, u32)>,
+    marks: Vec<Marks>,
+}
+
 // The program with these words and a gate that stands open.
 fn run<R: Threads + Wait + time::Clock + Sync>(
     rt: &R,
     alloc: Global,
     words: &str,
     outside: &mut Outside,
-) -> Result<Finished<MemLink>, Fail> {
+) -> Result<Ran, Fail> {
     run_past(rt, alloc, words, outside, &OpenGate)
 }
 
@@ -53,7 +68,7 @@ fn run_past<R: Threads + Wait + time::Clock + Sync, G: Gate>(
     words: &str,
     outside: &mut Outside,
     gate: &G,
-) -> Result<Finished<MemLink>, Fail> {
+) -> Result<Ran, Fail> {
     let mut owned = Vec::new(alloc);
     for word in words.split(' ') {
         owned.push(String::from_str(alloc, word)?)?;
@@ -63,16 +78,14 @@ fn run_past<R: Threads + Wait + time::Clock + Sync, G: Gate>(
         output,
         caller,
     } = outside;
-    Ok(tracepipe(
-        rt,
-        alloc,
-        &owned,
-        input,
-        output,
-        caller,
-        &StepClock::new(7),
-        gate,
-    ))
+    let clock = StepClock::new(7);
+    let end = tracepipe(rt, alloc, &owned, input, output, caller, &clock, gate);
+    Ok(Ran {
+        status: end.status,
+        has_peer: end.peer.is_some(),
+        rows: end.rows,
+        marks: end.marks.as_slice().to_vec(alloc)?,
+    })
 }
 
 #[test]
@@ -86,17 +99,17 @@ fn a_peer_is_called_for_a_clients_words_alone(rt: HostRuntime) -> Result<(), Fai
     ))?;
     outside.caller = MemCaller::new(links, Vec::new(alloc));
     let first = run(&rt, alloc, "ps /x", &mut outside)?;
-    assert_eq!(rt; first.status, 0);
-    assert!(rt; first.peer.is_some());
+    assert_eq!(rt; first.status, status::DONE);
+    assert!(rt; first.has_peer);
     let want = b"process          1 00010203-0405-0607-0809-0a0b0c0d0e0f - linux x64\n".as_slice();
     assert_eq!(rt; outside.output.taken(), want);
 
     // No link is left.
     let second = run(&rt, alloc, "ps /x", &mut outside)?;
-    assert_eq!(rt; second.status, 6);
-    assert!(rt; second.peer.is_none());
+    assert_eq!(rt; second.status, status::LINK_FAULT);
+    assert!(rt; !second.has_peer);
     let third = run(&rt, alloc, "ps /x /y", &mut outside)?;
-    assert_eq!(rt; third.status, 2);
+    assert_eq!(rt; third.status, status::WORDS);
     Ok(())
 }
 
@@ -105,7 +118,7 @@ fn a_schedule_is_made_from_its_seed_without_input(rt: HostRuntime) -> Result<(),
     let alloc = rt.alloc();
     let mut outside = Outside::new(alloc, b"not read")?;
     let end = run(&rt, alloc, "gen 0 16", &mut outside)?;
-    assert_eq!(rt; end.status, 0);
+    assert_eq!(rt; end.status, status::DONE);
     let want =
         b"gen          0         16\nsession          1         16         16          0\nsession          2          3          1          2\n".as_slice();
     assert_eq!(rt; outside.output.taken(), want);
@@ -122,7 +135,7 @@ fn a_trace_of_two_threads_is_reported(rt: HostRuntime) -> Result<(), Fail> {
     let alloc = rt.alloc();
     let mut traced = Outside::new(alloc, b"not read")?;
     let end = run(&rt, alloc, "trace 2 8 Sample-Store:1:4 --mb 1", &mut traced)?;
-    assert_eq!(rt; end.status, 0);
+    assert_eq!(rt; end.status, status::DONE);
     assert_eq!(rt; end.rows.as_slice(), [(1, 8), (2, 8)].as_slice());
     let first = Marks {
         thread: 1,
@@ -136,7 +149,7 @@ fn a_trace_of_two_threads_is_reported(rt: HostRuntime) -> Result<(), Fail> {
 
     let mut reported = Outside::new(alloc, traced.output.taken())?;
     let end = run(&rt, alloc, "report", &mut reported)?;
-    assert_eq!(rt; end.status, 0);
+    assert_eq!(rt; end.status, status::DONE);
     let text = reported.output.taken();
     assert!(rt;
         text.starts_with(
@@ -160,7 +173,7 @@ fn a_text_that_means_no_session_is_refused(rt: HostRuntime) -> Result<(), Fail> 
     let alloc = rt.alloc();
     let mut outside = Outside::new(alloc, b"")?;
     let end = run(&rt, alloc, "trace 1 1 :1", &mut outside)?;
-    assert_eq!(rt; end.status, 2);
+    assert_eq!(rt; end.status, status::WORDS);
     assert_eq!(rt; outside.output.taken(), b"error: words\n".as_slice());
     Ok(())
 }
@@ -172,7 +185,7 @@ fn an_output_that_fails_ends_a_trace(rt: HostRuntime) -> Result<(), Fail> {
         let mut outside = Outside::new(alloc, b"")?;
         outside.output = MemSink::partial([failing].to_vec(alloc)?, 4);
         let end = run(&rt, alloc, "trace 1 8 Sample-Web", &mut outside)?;
-        assert_eq!(rt; end.status, 5);
+        assert_eq!(rt; end.status, status::WRITE_FAULT);
         assert_eq!(rt; end.rows.as_slice(), [(1, 8)].as_slice());
     }
     Ok(())
@@ -217,14 +230,14 @@ fn trace_and_report<R: Threads + Wait + time::Clock + Abort + Sync, G: Gate>(
     )?;
     let mut traced = Outside::new(alloc, b"not read")?;
     let end = run_past(rt, alloc, words.as_str(), &mut traced, gate)?;
-    assert_eq!(rt; end.status, 0);
+    assert_eq!(rt; end.status, status::DONE);
     let marks = end.marks.as_slice();
     assert_eq!(rt; marks.len(), 4);
 
     let stream = traced.output.taken();
     let mut reported = Outside::new(alloc, stream)?;
     let report = run_past(rt, alloc, "report", &mut reported, &OpenGate)?;
-    assert_eq!(rt; report.status, 0);
+    assert_eq!(rt; report.status, status::DONE);
     assert!(rt; tells_all(alloc, reported.output.taken(), marks, writes)?);
     Ok(Told {
         bytes: stream.len(),
