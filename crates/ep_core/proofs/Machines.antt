@@ -1,5 +1,5 @@
 -- What the machine needs of its parts to make a step. Of its past it knows only that there is one.
-use Rattle.std.proofs.Common.{◌≡◌, ◌<◌, ◌≤◌, ℕ, true, false, Option, Some, None, Result, Ok, Err, OnOk, refl, ap, sym, ◌∙◌, subst}
+use Rattle.std.proofs.Common.{◌≡◌, ℕ, false, Option, Some, None, Result, Ok, Err, OnOk, refl, ap, sym, ◌∙◌, subst}
 use Rattle.std.specs.Prelude.{◌==◌, position, slice_get}
 use Rattle.std.specs.Result.{is_err}
 use Rattle.std.proofs.Math.Logic.{∥∥₁_elim, ∥∥₁_map}
@@ -11,10 +11,10 @@ use Rattle.ep_model.specs.declared.step.Step.TheVariants as step
 use Rattle.ep_row.specs.Row.{RowState}
 use Rattle.ep_stream.specs.Rows.{IsRow}
 use Rattle.ep_rows.specs.Rows.{told_of}
-use Rattle.ep_judge.specs.declared.tables.Present.{Present}
-use Rattle.ep_judge.specs.declared.tables.Tables.{Tables}
-use Rattle.ep_judge.specs.Can.{CanMake, HasRow, HasPlace, IsQuiet}
-use Rattle.ep_judge.specs.Tables.{row_of}
+use Rattle.ep_tables.specs.declared.tables.Present.{Present}
+use Rattle.ep_tables.specs.declared.tables.Tables.{Tables}
+use Rattle.ep_tables.specs.Can.{CanMake, HasRow, HasPlace, IsQuiet}
+use Rattle.ep_tables.specs.Tables.{row_of}
 
 -- A fact that can be found once it is known to hold.
 abbrev pub IsFound : Type 0 → Type 0

@@ -9,9 +9,9 @@ use Rattle.ep_chunk.specs.Record.{Record}
 use Rattle.ep_slot.specs.Hand.{HandState}
 use Rattle.ep_slot.specs.Slot.{SlotState}
 use Rattle.ep_rows.specs.declared.rows.Rows.{Rows}
-use Rattle.ep_judge.specs.declared.tables.Present.{Present}
-use Rattle.ep_judge.specs.declared.tables.Tables.{Tables}
-use Rattle.ep_made.specs.Tied.{AreTied, CanBeTold, IsTied, HaveOwnSlots}
+use Rattle.ep_tables.specs.declared.tables.Present.{Present}
+use Rattle.ep_tables.specs.declared.tables.Tables.{Tables}
+use Rattle.ep_tables.specs.Tied.{AreTied, CanBeTold, IsTied, HaveOwnSlots}
 
 -- ---- sets
 

@@ -8,10 +8,10 @@ use Rattle.ep_defs.specs.declared.session.Write.{Write}
 use Rattle.ep_defs.specs.Session.{fits}
 use Rattle.ep_slot.specs.Slot.{SlotState}
 use Rattle.ep_rows.specs.Rows.{told_of, definitions_of}
-use Rattle.ep_judge.specs.declared.tables.Present.{Present}
-use Rattle.ep_judge.specs.declared.tables.Tables.{Tables}
-use Rattle.ep_judge.specs.Can.{HasPlace, HasRow, CanShowTo}
-use Rattle.ep_made.specs.Made.{CanTake, StandsAt}
+use Rattle.ep_tables.specs.declared.tables.Present.{Present}
+use Rattle.ep_tables.specs.declared.tables.Tables.{Tables}
+use Rattle.ep_tables.specs.Can.{HasPlace, HasRow, CanShowTo}
+use Rattle.ep_tables.specs.Made.{CanTake, StandsAt}
 use Rattle.std.proofs.lemmas.Option.{same_Some}
 
 -- What is there can take the write.

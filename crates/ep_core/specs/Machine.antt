@@ -4,7 +4,7 @@ use Rattle.ep_defs.specs.declared.event.EventDef.{EventDef}
 use Rattle.ep_defs.specs.declared.session.TraceInfo.{TraceInfo}
 use Rattle.ep_model.specs.History.{Past}
 use Rattle.ep_core.specs.declared.machine.Machine.{Machine}
-use Rattle.ep_core.specs.state.Works.{Works, EndedFollow}
+use Rattle.ep_core.specs.state.Works.{HasWorked, EndedFollow}
 
 -- How many steps the machine has made.
 abbrev pub steps_of : Machine → ℕ
@@ -18,5 +18,5 @@ has_failed machine = machine.failed
 pub record Follows (events : List EventDef) (info : TraceInfo) (past : Past) (machine : Machine) : Type 0 where
   pub count : steps_of machine ≡ length past
   pub info_is : machine.info ≡ info
-  pub works : Works events info past machine.work
+  pub works : HasWorked events info past machine.work
   pub ended : EndedFollow events info past machine.ended

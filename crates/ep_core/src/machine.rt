@@ -7,18 +7,17 @@ ghost use Rattle.ep_model.specs.History.{Past};
 ghost use Rattle.ep_defs.specs.Event.{is_valid_event};
 ghost use Rattle.ep_defs.specs.Definitions.{AreDistinct, definition_at};
 ghost use Rattle.ep_defs.specs.declared.limits.TheConstants.{EVENTS};
-ghost use Rattle.ep_model.specs.Lawful.{IsLawful};
-ghost use Rattle.ep_judge.specs.Can.{CanMake};
-ghost use Rattle.ep_core.specs.state.Works.{Works, CanGoOn, EndedFollow, Standing};
+ghost use Rattle.ep_tables.specs.Judged.{step_of};
+ghost use Rattle.ep_core.specs.state.Works.{CanWork, IsNext, MakesWith, EndedFollow, Standing};
 
 use crate::ended::Ended;
 use crate::work::Work;
 use ep_defs::{EventDef, Marks, TraceInfo};
 use ep_faithful::a_faithful_stream_is_found;
-use ep_judge::objection;
 use ep_model::laws::{finished_sessions_are_faithful, other_sessions_steps_do_not_matter};
 use ep_model::{Step, Unlawful};
 use ep_stream_laws::a_finished_session_stays;
+use ep_tables::Judged;
 use std::alloc::{AllocError, Global};
 use std::collections::BTreeMap;
 
@@ -100,13 +99,14 @@ impl Machine {
         if self.failed {
             return Err(StepFault::OutOfMemory);
         }
-        if let Some(kind) = objection(&self.work.tables, &step) {
-            return Err(StepFault::Unlawful(Unlawful {
-                step: self.steps + 1,
-                kind,
-            }));
-        }
-        if make(&mut self.work, &mut self.ended, alloc, &self.info, step).is_err() {
+        let judged = match self.work.tables.judge(step) {
+            Ok(judged) => judged,
+            Err(kind) => {
+                let step = self.steps + 1;
+                return Err(StepFault::Unlawful(Unlawful { step, kind }));
+            }
+        };
+        if make(&mut self.work, &mut self.ended, alloc, &self.info, judged).is_err() {
             self.failed = true;
             return Err(StepFault::OutOfMemory);
         }
@@ -188,37 +188,31 @@ fn make(
     ended: &mut BTreeMap<u32, Ended>,
     alloc: Global,
     info: &TraceInfo,
-    step: Step,
+    judged: Judged,
 ) -> Result<(), AllocError>
-    requires can { CanMake step work.old.tables }
-    requires goes { ∥ CanGoOn step work.old ∥₁ }
-    ensures works { (events : List EventDef) (past : Past) → IsLawful events (step ∷ past)
-        → Works events info.now past work.old
-        → OnOk result (Works events info.now (step ∷ past) work.new) }
-    ensures ended { (events : List EventDef) (past : Past) → IsLawful events (step ∷ past)
-        → Works events info.now past work.old → EndedFollow events info.now past ended.old
-        → OnOk result (EndedFollow events info.now (step ∷ past) ended.new) }
+    requires { IsNext judged work.old }
+    ensures works { OnOk result (MakesWith info.now judged work.old work.new) }
+    ensures ended { (events : List EventDef) (past : Past)
+        → CanWork events info.now (step_of judged) past work.old
+        → EndedFollow events info.now past ended.old
+        → OnOk result (EndedFollow events info.now (step_of judged ∷ past) ended.new) }
 {
     a_finished_session_stays();
-    match step {
-        Step::Accept { session, config } => work.accept(alloc, session, config, info)?,
-        Step::Enter { thread } => work.enter(thread)?,
-        Step::Leave { thread } => work.leave(thread),
-        Step::Open { session, thread } => work.open(alloc, session, thread)?,
-        Step::Begin {
-            thread,
-            stamp,
-            write,
-        } => work.begin(thread, stamp, write),
-        Step::Show { thread, session } => work.show(thread, session),
-        Step::End { thread } => work.end(thread),
-        Step::Steal { session, thread } => work.steal(alloc, session, thread)?,
-        Step::Give { session } => work.give(session),
-        Step::Point { session, stamp } => work.point(alloc, session, stamp)?,
-        Step::Close { session, thread } => work.close(alloc, session, thread)?,
-        Step::Finish { session, stamp } => {
-            let left = work.finish(alloc, session, stamp)?;
-            ended.insert(session, left)?;
+    match judged {
+        Judged::Accept { session, config } => work.accept(alloc, session, config, info)?,
+        Judged::Enter(on) => work.enter(on)?,
+        Judged::Leave(on) => work.leave(on),
+        Judged::Open(both) => work.open(alloc, both)?,
+        Judged::Begin { on, stamp, write } => work.begin(on, stamp, write),
+        Judged::Show(both) => work.show(both),
+        Judged::End(on) => work.end(on),
+        Judged::Steal(both) => work.steal(alloc, both)?,
+        Judged::Give(of) => work.give(of),
+        Judged::Point { of, stamp } => work.point(alloc, of, stamp)?,
+        Judged::Close(both) => work.close(alloc, both)?,
+        Judged::Finish { of, stamp } => {
+            let left = work.finish(alloc, of, stamp)?;
+            ended.insert(of.session, left)?;
         }
     }
     Ok(())

@@ -1,49 +1,61 @@
 -- What the parts of the machine stand for.
-use Rattle.std.specs.Prelude.{◌≡◌, ◌≤◌, ◌+◌, ℕ, false, true, List, ◌∷◌, length, Option, None, Some}
+use Rattle.std.specs.Prelude.{◌≡◌, ℕ, true, false, List, ◌∷◌, Option, None, Some}
 use Rattle.std.specs.BTreeMap.{BTreeMap, get}
 use Rattle.std.specs.Ordering.{nat_cmp}
-use Rattle.ep_defs.specs.declared.limits.TheConstants.{THREADS}
 use Rattle.ep_defs.specs.declared.event.EventDef.{EventDef}
 use Rattle.ep_defs.specs.declared.session.TraceInfo.{TraceInfo}
 use Rattle.nt_write.specs.Canonical.{IsCanonical}
 use Rattle.ep_model.specs.declared.step.Step.{Step}
+use Rattle.ep_model.specs.declared.step.Step.TheVariants as step
 use Rattle.ep_model.specs.Entries.{entries}
 use Rattle.ep_model.specs.History.{Past, is_finished}
-use Rattle.ep_model.specs.Lawful.{IsLawful}
 use Rattle.ep_model.specs.Marks.{marks_of}
-use Rattle.ep_rows.specs.Rows.{told_of}
-use Rattle.ep_judge.specs.Tables.{TablesFollow}
-use Rattle.ep_made.specs.Tied.{AreTied}
-use Rattle.ep_rests.specs.Rests.{AreAtRest, AreBegun}
-use Rattle.ep_stands.specs.Stands.{SessionsStand}
+use Rattle.ep_tables.specs.declared.judged.Judged.{Judged}
+use Rattle.ep_tables.specs.Judged.{IsReady, step_of}
+use Rattle.ep_core_laws.specs.Works.{Works, WorksBefore}
 use Rattle.ep_core.specs.declared.ended.Ended.{Ended}
 use Rattle.ep_core.specs.declared.work.Work.{Work}
 
 -- The tables and the writes that were begun are what the steps so far say.
-pub record Works (events : List EventDef) (info : TraceInfo) (past : Past) (work : Work) : Type 0 where
-  pub lawful : IsLawful events past
-  pub follow : TablesFollow events past work.tables
-  pub tied : AreTied work.tables
-  pub stand : SessionsStand events info past work.tables
-  pub rest : AreAtRest events past work.tables
-  pub begun : AreBegun past (told_of work.tables.rows) work.begun.items
-  pub begun_count : length work.begun.items ≡ THREADS
-  -- a table gives as many ids as sessions were accepted, whose numbers rise
-  pub ids : work.tables.table.next ≤ work.tables.last_session + 1
+abbrev pub HasWorked : List EventDef → TraceInfo → Past → Work → Type 0
+HasWorked events info past work = Works events info past work.tables work.begun.items
+
+-- The step can be made next.
+abbrev pub CanWork : List EventDef → TraceInfo → Step → Past → Work → Type 0
+CanWork events info next past work = WorksBefore events info next past work.tables work.begun.items
 
 -- Some lawful steps led here, and the step can be made behind them.
-pub record CanGoOn (step : Step) (work : Work) : Type 0 where
+pub record CanGoOn (next : Step) (work : Work) : Type 0 where
   pub events : List EventDef
   pub info : TraceInfo
   pub past : Past
-  pub lawful : IsLawful events (step ∷ past)
-  pub works : Works events info past work
+  pub before : CanWork events info next past work
+
+-- The step can be made next, with what was found.
+pub record IsNext (judged : Judged) (work : Work) : Type 0 where
+  pub ready : IsReady work.tables judged
+  pub goes : ∥ CanGoOn (step_of judged) work ∥₁
+
+-- The step was made, whatever the steps before were.
+abbrev pub MakesWith : TraceInfo → Judged → Work → Work → Type 0
+MakesWith info judged old new =
+    (events : List EventDef) (past : Past) → CanWork events info (step_of judged) past old → HasWorked events info (step_of judged ∷ past) new
+
+-- The same, with whatever a stream says of the machine that was traced.
+abbrev pub Makes : Judged → Work → Work → Type 0
+Makes judged old new = (info : TraceInfo) → MakesWith info judged old new
 
 -- What is left of a finished session is its stream and its marks.
 pub record EndedFollows (events : List EventDef) (info : TraceInfo) (session : ℕ) (past : Past) (ended : Ended) : Type 0 where
   pub finished : is_finished session past ≡ true
   pub canonical : IsCanonical info (entries events session past) ended.sink.taken
   pub marks_are : ended.marks ≡ marks_of session past
+
+-- This is left of the session that a Finish ends.
+abbrev pub EndsWith : ℕ → ℕ → Work → Ended → Type 0
+EndsWith session stamp work ended =
+    (events : List EventDef) (info : TraceInfo) (past : Past)
+    → CanWork events info (step.Finish session stamp) past work → EndedFollows events info session (step.Finish session stamp ∷ past) ended
 
 -- What is left of a session, if it was finished.
 abbrev pub EndedAt : List EventDef → TraceInfo → ℕ → Past → Option Ended → Type 0
@@ -58,4 +70,4 @@ EndedFollow events info past ended = (session : ℕ) → EndedAt events info ses
 pub record Standing (info : TraceInfo) (work : Work) : Type 0 where
   pub events : List EventDef
   pub past : Past
-  pub works : Works events info past work
+  pub works : HasWorked events info past work

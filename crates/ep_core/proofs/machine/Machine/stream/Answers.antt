@@ -1,6 +1,4 @@
 use Rattle.std.proofs.Common.{List, ℕ, sym, subst}
-use Rattle.ep_defs.specs.Entry.{Entry}
-use Rattle.nt_write.specs.Canonical.{IsCanonical}
 use Rattle.ep_model.specs.Entries.{entries}
 use Rattle.ep_model.specs.Faithful.{shares_of}
 use Rattle.ep_core.specs.Streams.{IsStreamOf}

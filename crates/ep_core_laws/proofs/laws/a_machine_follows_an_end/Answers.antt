@@ -1,0 +1,22 @@
+use Rattle.std.proofs.Common.{refl}
+use Rattle.ep_model.specs.declared.step.Step.TheVariants as step
+use Rattle.ep_core_laws.proofs.OwnSteps.{after_end}
+use Rattle.ep_core_laws.proofs.Sessions.{all_stand}
+use Rattle.ep_core_laws.proofs.RestTurns.{end_rests}
+use Rattle.ep_core_laws.proofs.Begun.{end_begun}
+use Rattle.ep_core_laws.proofs.Steps.{stands, ids_stay}
+use Rattle.ep_core_laws.proofs.laws.a_machine_follows_an_end.Goals as goal
+
+pub returns : goal.returns
+returns c events info past thread old new begun before makes tied =
+    let works = before.works in
+    record {
+      lawful = before.lawful;
+      follow = after_end events past thread old new before.lawful works.follow makes;
+      tied = tied;
+      stand = all_stand c.a_session_stands_through_other_steps.ensures events info (step.End thread) past old new (stands before) (λ n. refl) makes.own.sessions makes.own.rows.slots makes.own.rows.pools;
+      rest = end_rests events past thread old new works.follow makes works.rest;
+      begun_are = end_begun past thread old new begun makes works.begun_are;
+      begun_count = works.begun_count;
+      ids = ids_stay old new makes.own.sessions.slots.table makes.own.sessions.slots.last_session works.ids;
+    }

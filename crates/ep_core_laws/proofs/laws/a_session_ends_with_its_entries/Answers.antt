@@ -1,0 +1,10 @@
+use Rattle.ep_core_laws.proofs.Ends.{ends_marks, ends_stream}
+use Rattle.ep_core_laws.proofs.Steps.{stands}
+use Rattle.ep_core_laws.proofs.laws.a_session_ends_with_its_entries.Goals as goal
+
+pub returns : goal.returns
+returns c =
+    record {
+      marks = λ events info past session stamp tables begun end before. ends_marks c.the_last_marks_are_all.ensures events info past session stamp tables end (stands before);
+      stream = λ events info past session stamp tables begun end before. ends_stream c.entries_are_what_was_told.ensures.finished events info past session stamp tables end (stands before);
+    }

@@ -1,0 +1,6 @@
+pub mod Kept
+pub mod Changes
+pub mod Given
+pub mod Rests
+pub mod Stands
+pub mod Works

@@ -1,5 +1,0 @@
-pub mod Pasts
-mod Elsewhere
-mod Unopened
-mod Slots
-mod Pools

@@ -1,9 +1,0 @@
-mod Through
-mod Sets
-mod Sessions
-mod Turns
-mod Shows
-mod Comings
-mod Ends
-mod Counts
-mod Spent

@@ -1,0 +1,5 @@
+pub mod Tables
+pub mod Can
+pub mod Judged
+pub mod Made
+pub mod Tied
