@@ -105,14 +105,19 @@ impl<'a, P: Program> TiedRow<'a, P> {
         self.row.begin(stamp, write);
     }
 
-    /// Says how far the row's thread has come, by the thread's half of the tie, and changes nothing. It takes no memory and
-    /// waits for nobody.
-    pub fn stands(&mut self, ties: &Ties<P, Agreed<'a>>, half: &mut Right<P, Agreed<'a>>)
+    /// How far the row's thread has come, by the thread's half of the tie. It changes nothing, takes no memory and waits
+    /// for nobody.
+    pub fn stands(&mut self, ties: &Ties<P, Agreed<'a>>, half: &mut Right<P, Agreed<'a>>) -> Stand
         requires place { half.old.place ≡ self.old.number }
+        ensures stand { result ≡ record { thread = self.old.row.thread; index = self.old.row.index } }
         ensures stands { stand_in half.old.value ≡ Some (record { thread = self.old.row.thread; index = self.old.row.index }) }
         ensures same { (self.new ≡ self.old) × (half.new ≡ half.old) }
     {
         self.writer.meet(ties, half);
+        Stand {
+            thread: self.row.thread(),
+            index: self.row.index(),
+        }
     }
 
     /// The lowest slot that has not seen the last write yet.

@@ -19,7 +19,7 @@ use crate::made::{make_rows, make_stands};
 use crate::stands::Stands;
 use ep_defs::limits::{EVENTS, SESSIONS, WRITES};
 use ep_defs::{EventDef, Marks, Write};
-use ep_guarded::{Agreed, Grant, Program, TiedBuffer, TiedRow};
+use ep_guarded::{Agreed, Grant, Program, Stand, TiedBuffer, TiedRow};
 use ep_locks::{Guards, Locks};
 use ep_pool::PoolSeat;
 use ep_slot::{Batch, Hand};
@@ -117,6 +117,31 @@ impl<'a, P: Program> Live<'a, P> {
         ensures { result ≡ P.rows }
     {
         self.rows.count() as u32
+    }
+
+    /// The definitions of the program's events.
+    pub fn events(&self) -> &[EventDef]
+        ensures { result.now ≡ P.events }
+    {
+        self.events.as_slice()
+    }
+
+    /// How far the thread of the row with this number has come, by its half of the tie. It waits for the row.
+    pub fn stand<R: Wait>(
+        &self,
+        rt: &R,
+        number: usize,
+        half: &mut Right<P, Agreed<'a>>,
+    ) -> Stand
+        requires row { number < P.rows }
+        requires place { half.old.place ≡ number }
+        ensures stand { stand_in half.old.value ≡ Some result }
+        ensures same { half.new ≡ half.old }
+    {
+        let (mut row, held) = self.rows.take(rt, number);
+        let stand = row.stands(&self.ties, half);
+        self.rows.put(held, row);
+        stand
     }
 
     /// The next write of the thread of the row with this number, which has its half of the tie: it is shown to each session
