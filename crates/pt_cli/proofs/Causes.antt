@@ -13,7 +13,7 @@ use Rattle.pt_cli.specs.declared.words.Command.{Command}
 use Rattle.pt_cli.specs.declared.words.Command.TheVariants as command
 use Rattle.pt_cli.specs.Errors.{words_error}
 use Rattle.pt_cli.specs.Program.{Around, ComesTo, HasFaults, PlainComesTo}
-use Rattle.pt_cli.specs.Words.{reads_input}
+use Rattle.pt_cli.specs.Words.{is_plain, reads_input}
 
 -- A command that left the input alone.
 unread-causes : {I O : Type 0} (source : Source I) (sink : Sink O) (input_old input_new : I) (old new : O) (end : End)
@@ -61,6 +61,16 @@ plain-causes source sink (Some (command.Gen asked)) input_old input_new old new 
 plain-causes source sink (Some (command.Trace asked)) input_old input_new old new end comes alone = line-causes source sink input_old input_new old new end (alone refl) comes
 plain-causes source sink (Some (command.Client asked)) input_old input_new old new end comes alone = line-causes source sink input_old input_new old new end (alone refl) comes
 plain-causes source sink None input_old input_new old new end comes alone = line-causes source sink input_old input_new old new end (alone refl) comes
+
+-- A command that waits for somebody is refused there.
+pub plain-words : {I O : Type 0} (source : Source I) (sink : Sink O) (asked : Option Command) (input_old input_new : I) (old new : O) (end : End)
+    → is_plain asked ≡ false → PlainComesTo source sink asked input_old input_new old new end → SaysLine sink old new words_error ends.Words end
+plain-words source sink (Some (command.Replay session)) input_old input_new old new end is comes = absurd (cc)
+plain-words source sink (Some command.Report) input_old input_new old new end is comes = absurd (cc)
+plain-words source sink (Some (command.Gen asked)) input_old input_new old new end is comes = absurd (cc)
+plain-words source sink (Some (command.Trace asked)) input_old input_new old new end is comes = comes
+plain-words source sink (Some (command.Client asked)) input_old input_new old new end is comes = comes
+plain-words source sink None input_old input_new old new end is comes = comes
 
 trace-unread : (end : End) → (end ≡ ends.Done) ⊎ (end ≡ ends.WriteFault) ⊎ (end ≡ ends.OutOfMemory) ⊎ (end ≡ ends.TooLong) → end ≢ ends.ReadFault
 trace-unread end (inl is) other = cc

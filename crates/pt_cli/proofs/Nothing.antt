@@ -60,7 +60,7 @@ traces-nothing sink asked output =
         | inr is ↦ absurd (cc)
       ];
       memory = λ _ tells. inl (inl refl);
-      rows = λ other. absurd (other refl);
+      written = λ other. absurd (other refl);
       whole = λ either. elim either [
         | inl is ↦ absurd (cc)
         | inr is ↦ absurd (cc)
@@ -72,7 +72,7 @@ traces-nothing sink asked output =
       ends = inr (inr (inl refl));
     }
 
-asks-nothing : {O K L : Type 0} (sink : Sink O) (caller : Caller K L) (source : Source L) (takes : Sink L) (asked : ClientCommand) (output : O) (call : K)
+pub asks-nothing : {O K L : Type 0} (sink : Sink O) (caller : Caller K L) (source : Source L) (takes : Sink L) (asked : ClientCommand) (output : O) (call : K)
     → Asks sink caller source takes asked output output call call None ends.OutOfMemory
 asks-nothing sink caller source takes asked output call =
     record {

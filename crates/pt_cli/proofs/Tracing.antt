@@ -23,7 +23,7 @@ traces-to sink asked old new run fates.ProgramEnd end fate_is is traced =
         | inr other ↦ absurd (cc)
       ];
       memory = λ other. absurd (cc);
-      rows = λ _. traced.rows;
+      written = λ _. traced.rows;
       whole = λ _. elim traced.marks [
         | inl whole ↦ whole
         | inr none ↦ let failed = none.0 in absurd (cc)
@@ -42,7 +42,7 @@ traces-to sink asked old new run fates.LinkFault end fate_is is traced =
       done = λ other. absurd (cc);
       part = λ _. traced.part (ap is_fault fate_is);
       memory = λ other. absurd (cc);
-      rows = λ _. traced.rows;
+      written = λ _. traced.rows;
       whole = λ either. elim either [
         | inl other ↦ absurd (cc)
         | inr other ↦ absurd (cc)
@@ -62,7 +62,7 @@ traces-to sink asked old new run fates.TooLong end fate_is is traced =
       done = λ other. absurd (cc);
       part = λ _. traced.part (ap is_fault fate_is);
       memory = λ other. absurd (cc);
-      rows = λ _. traced.rows;
+      written = λ _. traced.rows;
       whole = λ _. elim traced.marks [
         | inl whole ↦ whole
         | inr none ↦ let failed = none.0 in absurd (cc)
@@ -84,7 +84,7 @@ traces-to sink asked old new run fates.OutOfMemory end fate_is is traced =
         | inr other ↦ absurd (cc)
       ];
       memory = λ _ tells. inl (traced.part (ap is_fault fate_is) tells);
-      rows = λ other. absurd (other is);
+      written = λ other. absurd (other is);
       whole = λ either. elim either [
         | inl other ↦ absurd (cc)
         | inr other ↦ absurd (cc)

@@ -12,3 +12,7 @@ pub record Ended (end : End) (status code at : ℕ) : Type 0 where
 -- These are the numbers of an end for which this holds. They tell ends apart.
 abbrev pub EndsSo : ℕ → ℕ → ℕ → (End → Type 0) → Type 0
 EndsSo status code at Holds = (end : End) × Ended end status code at × Holds end
+
+-- These are the status and the offset of an end for which this holds.
+abbrev pub PlainEndsSo : ℕ → ℕ → (End → Type 0) → Type 0
+PlainEndsSo status at Holds = (end : End) × (status ≡ status_of end) × (at ≡ at_of end) × Holds end

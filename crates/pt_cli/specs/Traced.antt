@@ -32,7 +32,7 @@ pub record TracesTo {O : Type 0} (sink : Sink O) (asked : Asked) (old new : O) (
       → TookSome (standard_info_of 1 1) asked.plan asked.config marks (sink.taken old) (sink.taken new)
       ⊎ TookUnwritten (standard_info_of 1 1) asked.plan asked.config (sink.taken old) (sink.taken new)
   -- each thread made all its writes, and the session was open on it from the first to the last
-  pub rows : end ≢ ends.OutOfMemory → rows ≡ rows_of asked.plan
+  pub written : end ≢ ends.OutOfMemory → rows ≡ rows_of asked.plan
   pub whole : (end ≡ ends.Done) ⊎ (end ≡ ends.TooLong) → AreWhole asked.plan asked.config marks
   -- or on none
   pub whole_or_none : (end ≡ ends.WriteFault) ⊎ (end ≡ ends.OutOfMemory) → AreWhole asked.plan asked.config marks ⊎ (marks ≡ [])

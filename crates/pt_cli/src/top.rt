@@ -1,10 +1,10 @@
 //! The top call.
-ghost use Rattle.std.specs.Prelude.{◌≡◌, ℕ, map, Some, None, IfSome};
+ghost use Rattle.std.specs.Prelude.{◌≡◌, ℕ, [], false, map, Some, None, IfSome};
 ghost use Rattle.std.specs.String.{string_bytes};
 ghost use Rattle.pt_command.specs.declared.end.End.TheVariants as ends;
 ghost use Rattle.pt_command.specs.Says.{SaysLine};
 ghost use Rattle.pt_client.specs.declared.words.Command.{Command as ClientCommand};
-ghost use Rattle.pt_client.specs.Answers.{Asks};
+ghost use Rattle.pt_client.specs.Answers.{Asks, Fits as ClientFits};
 ghost use Rattle.pt_gen.specs.Command.{Generates};
 ghost use Rattle.pt_gen.specs.declared.words.Asked.{Asked as GenAsked};
 ghost use Rattle.pt_replay.specs.Command.{Replays};
@@ -13,9 +13,9 @@ ghost use Rattle.pt_cli.specs.declared.trace_words.Asked.{Asked as TraceAsked};
 ghost use Rattle.pt_cli.specs.declared.words.Command.TheVariants as commands;
 ghost use Rattle.pt_cli.specs.Ends.{EndsSo};
 ghost use Rattle.pt_cli.specs.Errors.{words_error};
-ghost use Rattle.pt_cli.specs.Program.{ComesTo, HasFaults, LeavesAlone};
+ghost use Rattle.pt_cli.specs.Program.{ComesTo, HasFaults, LeavesAlone, PlainComesTo};
 ghost use Rattle.pt_cli.specs.Traced.{TracesTo};
-ghost use Rattle.pt_cli.specs.Words.{meant, Fits};
+ghost use Rattle.pt_cli.specs.Words.{meant, reads_input, Fits};
 
 use crate::ends::{Finished, ended_with};
 use crate::traced::traced;
@@ -110,7 +110,7 @@ fn carry_out<
 ) -> Finished<K::Link>
     requires { IfSome command Fits }
     ensures comes { EndsSo result.status result.code result.at
-        (ComesTo I.Source O.Sink K.Caller K.Link.Source K.Link.Sink command (record {
+        (ComesTo I.Source O.Sink K.Caller K.Link.Source K.Link.Sink command.entry (record {
           input_old = input.old;
           input_new = input.new;
           output_old = output.old;
@@ -121,17 +121,46 @@ fn carry_out<
           rows = result.rows.items;
           marks = result.marks;
         })) }
-    ensures alone { LeavesAlone command input.old input.new caller.old caller.new result.peer result.rows.items result.marks }
+    ensures alone { LeavesAlone command.entry input.old input.new caller.old caller.new result.peer
+        result.rows.items result.marks }
 {
     match command {
         Some(Command::Trace(asked)) => traced(rt, alloc, asked, output, clock, gate),
-        Some(Command::Client(command)) => {
-            let Called { end, peer } = client(alloc, &command, output, caller);
-            ended_with(alloc, end, peer)
-        }
-        command => {
-            let end = without_waiting(alloc, &command, input, output);
-            ended_with(alloc, end, None)
-        }
+        Some(Command::Client(command)) => asked(alloc, &command, output, caller),
+        command => told(alloc, &command, input, output),
     }
+}
+
+// Asks a peer.
+fn asked<K: Caller, O: Sink>(
+    alloc: Global,
+    command: &pt_client::Command<'_>,
+    output: &mut O,
+    caller: &mut K,
+) -> Finished<K::Link>
+    requires { ClientFits command.now }
+    ensures asks { EndsSo result.status result.code result.at
+        (Asks O.Sink K.Caller K.Link.Source K.Link.Sink command.now output.old output.new caller.old caller.new result.peer) }
+    ensures untraced { (result.rows.items ≡ []) × (result.marks ≡ []) }
+{
+    let Called { end, peer } = client(alloc, command, output, caller);
+    ended_with(alloc, end, peer)
+}
+
+// Does what waits for nobody.
+fn told<L, I: Source, O: Sink>(
+    alloc: Global,
+    command: &Option<Command<'_>>,
+    input: &mut I,
+    output: &mut O,
+) -> Finished<L>
+    requires { IfSome command.now Fits }
+    ensures comes { EndsSo result.status result.code result.at
+        (PlainComesTo I.Source O.Sink command.now input.old input.new output.old output.new) }
+    ensures unread { reads_input command.now ≡ false → input.new ≡ input.old }
+    ensures nobody { result.peer ≡ None }
+    ensures untraced { (result.rows.items ≡ []) × (result.marks ≡ []) }
+{
+    let end = without_waiting(alloc, command, input, output);
+    ended_with(alloc, end, None)
 }

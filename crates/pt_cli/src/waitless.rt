@@ -9,7 +9,7 @@ ghost use Rattle.pt_gen.specs.declared.words.Asked.{Asked as GenAsked};
 ghost use Rattle.pt_replay.specs.Command.{Replays};
 ghost use Rattle.pt_report.specs.Command.{Reports};
 ghost use Rattle.pt_cli.specs.declared.words.Command.TheVariants as commands;
-ghost use Rattle.pt_cli.specs.Ends.{EndsSo};
+ghost use Rattle.pt_cli.specs.Ends.{PlainEndsSo};
 ghost use Rattle.pt_cli.specs.Errors.{words_error};
 ghost use Rattle.pt_cli.specs.Program.{PlainComesTo};
 ghost use Rattle.pt_cli.specs.Words.{meant, is_plain, reads_input, Fits};
@@ -32,23 +32,36 @@ pub fn plain<I: Source, O: Sink>(
     output: &mut O,
 ) -> Plain
     ensures replayed { (session : ℕ) → meant (map string_bytes words.now) ≡ Some (commands.Replay session)
-        → EndsSo result.status 0 result.at (Replays I.Source O.Sink session input.old input.new output.old output.new) }
+        → PlainEndsSo result.status result.at (Replays I.Source O.Sink session input.old input.new output.old output.new) }
     ensures reported { meant (map string_bytes words.now) ≡ Some commands.Report
-        → EndsSo result.status 0 result.at (Reports I.Source O.Sink input.old input.new output.old output.new) }
+        → PlainEndsSo result.status result.at (Reports I.Source O.Sink input.old input.new output.old output.new) }
     ensures generated { (asked : GenAsked) → meant (map string_bytes words.now) ≡ Some (commands.Gen asked)
-        → EndsSo result.status 0 result.at (Generates O.Sink asked output.old output.new) }
+        → PlainEndsSo result.status result.at (Generates O.Sink asked output.old output.new) }
     ensures words { is_plain (meant (map string_bytes words.now)) ≡ false
-        → EndsSo result.status 0 result.at (SaysLine O.Sink output.old output.new words_error ends.Words) }
-    ensures faults { EndsSo result.status 0 result.at (HasCauses I.Source O.Sink input.old input.new output.old output.new) }
+        → PlainEndsSo result.status result.at (SaysLine O.Sink output.old output.new words_error ends.Words) }
+    ensures faults { PlainEndsSo result.status result.at (HasCauses I.Source O.Sink input.old input.new output.old output.new) }
     ensures unread { reads_input (meant (map string_bytes words.now)) ≡ false → input.new ≡ input.old }
 {
-    let end = match command_of(alloc, words) {
-        Ok(command) => without_waiting(alloc, &command, input, output),
-        Err(AllocError) => End::OutOfMemory,
-    };
+    let end = answer(alloc, words, input, output);
     Plain {
         status: end.status(),
         at: end.at(),
+    }
+}
+
+// How such words end.
+fn answer<I: Source, O: Sink>(
+    alloc: Global,
+    words: &[String],
+    input: &mut I,
+    output: &mut O,
+) -> End
+    ensures comes { PlainComesTo I.Source O.Sink (meant (map string_bytes words.now)) input.old input.new output.old output.new result }
+    ensures unread { reads_input (meant (map string_bytes words.now)) ≡ false → input.new ≡ input.old }
+{
+    match command_of(alloc, words) {
+        Ok(command) => without_waiting(alloc, &command, input, output),
+        Err(AllocError) => End::OutOfMemory,
     }
 }
 
