@@ -1,9 +1,3 @@
-pub mod Answering
-pub mod Definitions
-pub mod OutcomeLaws
-pub mod ReadSoFar
-pub mod ReplayWords
-pub mod Standing
-pub mod TextLines
-pub mod GenWords
-pub mod TraceWords
+pub mod Causes
+pub mod Nothing
+pub mod Tracing

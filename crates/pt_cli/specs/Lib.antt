@@ -1,11 +1,7 @@
 -- to be believed
-pub mod Text
 pub mod Words
-pub mod Schedule
-pub mod Replay
+pub mod TraceWords
 pub mod Errors
-pub mod Finished
--- what private fields stand for
-pub mod Reading
-pub mod Machines
-pub mod Outcomes
+pub mod Ends
+pub mod Traced
+pub mod Program

@@ -1,46 +1,84 @@
--- The words of the command line.
-use Rattle.std.specs.Prelude.{◌≡◌, ℕ, ◌-◌, ◌^◌, ◌<◌, ◌⊎◌, List, [], ◌∷◌, ◌++◌, None, Some, codes}
-use Rattle.ep_plan.specs.Words.{number_in}
+-- What the words of the command line mean (this project's profile).
+use Rattle.std.specs.Prelude.{◌≡◌, ℕ, Bool, true, false, ◌≤◌, ◌-◌, ◌^◌, if◌then◌else◌, List, [], ◌∷◌, codes, Option, Some, None, option_map}
+use Rattle.ep_defs.specs.Event.{is_same_text}
+use Rattle.ep_plan.specs.Words.{number_in, at_least, at_most}
+use Rattle.pt_words.specs.Session.{session_in}
+use Rattle.pt_gen.specs.declared.limits.TheConstants.{MOST_WRITES}
+use Rattle.pt_gen.specs.Words as gen
+use Rattle.pt_client.specs.Answers as client
 use Rattle.pt_client.specs.Words.{command_in}
-use Rattle.pt_gen.specs.Words.{asked_in}
-use Rattle.pt_trace.specs.Words as trace
-use Rattle.pt_trace.specs.declared.words.Asked.{Asked}
+use Rattle.pt_cli.specs.TraceWords as trace
+use Rattle.pt_cli.specs.declared.words.Command.{Command}
+use Rattle.pt_cli.specs.declared.words.Command.TheVariants as command
 
--- The digits spell the number of a session: from 1 to 4,294,967,295.
-abbrev pub IsSession : List ℕ → ℕ → Type 0
-IsSession digits session = (number_in (2 ^ 64 - 1) digits ≡ Some session) × (0 < session) × (session < 2 ^ 32)
+-- The number of a session is from 1 to 4,294,967,295.
+abbrev pub session_number : List ℕ → Option ℕ
+session_number digits = at_least 1 (at_most (2 ^ 32 - 1) (number_in (2 ^ 64 - 1) digits))
 
--- The words are `replay`, for session 1, or with the session behind `--session`, as a word of its own or behind `=`.
-abbrev pub IsReplay : List (List ℕ) → ℕ → Type 0
-IsReplay words session =
-    ((words ≡ codes "replay" ∷ []) × (session ≡ 1))
-    ⊎ ((digits : List ℕ) × (words ≡ codes "replay" ∷ codes "--session" ∷ digits ∷ []) × IsSession digits session)
-    ⊎ ((digits : List ℕ) × (words ≡ codes "replay" ∷ (codes "--session=" ++ digits) ∷ []) × IsSession digits session)
+-- The session that the option names, and session 1 where it isn't there.
+abbrev pub session_asked : Option (Option (List ℕ)) → Option ℕ
+session_asked (Some (Some digits)) = session_number digits
+session_asked (Some None) = Some 1
+session_asked None = None
 
--- The words are no client's, as all that call nobody are.
-abbrev pub AsksNobody : List (List ℕ) → Type 0
-AsksNobody words = command_in words ≡ None
+-- The words are `replay`, with the option `--session N` or `--session=N` or without.
+abbrev pub replay_in : List (List ℕ) → Option ℕ
+replay_in [] = None
+replay_in (name ∷ words) = if is_same_text name (codes "replay") then session_asked (session_in words) else None
 
 -- The words are `report`.
-abbrev pub IsReport : List (List ℕ) → Type 0
-IsReport words = words ≡ codes "report" ∷ []
+abbrev pub is_report : List (List ℕ) → Bool
+is_report (name ∷ []) = is_same_text name (codes "report")
+is_report words = false
 
--- The words ask for what reads the input.
-abbrev pub AreReading : List (List ℕ) → Type 0
-AreReading words = ((session : ℕ) × IsReplay words session) ⊎ IsReport words
+-- The first that is there. Of the commands that words are read as, one at most is, since each has a name of its own.
+abbrev pub first_some : {A : Type 0} → List (Option A) → Option A
+first_some [] = None
+first_some (Some a ∷ others) = Some a
+first_some (None ∷ others) = first_some others
 
--- The words are `gen`, with this seed and so many writes.
-abbrev pub IsGen : List (List ℕ) → ℕ → ℕ → Type 0
-IsGen words seed writes = asked_in words ≡ Some (record { seed = seed; writes = writes })
+-- What the words ask for.
+abbrev pub meant : List (List ℕ) → Option Command
+meant words =
+    first_some
+    (option_map (λ session. command.Replay session) (replay_in words)
+    ∷ (if is_report words then Some command.Report else None)
+    ∷ option_map (λ asked. command.Gen asked) (gen.asked_in words)
+    ∷ option_map (λ asked. command.Trace asked) (trace.asked_in words)
+    ∷ option_map (λ asked. command.Client asked) (command_in words)
+    ∷ [])
 
--- The words ask for a schedule that is made from a seed.
-abbrev pub AreGen : List (List ℕ) → Type 0
-AreGen words = (seed : ℕ) × (writes : ℕ) × IsGen words seed writes
+-- ---- what such words keep to
 
--- The words are `trace`, with this plan and this session.
-abbrev pub IsTrace : List (List ℕ) → Asked → Type 0
-IsTrace words asked = trace.asked_in words ≡ Some asked
+-- What is asked for can be done.
+abbrev pub Fits : Command → Type 0
+Fits (command.Replay session) = Unit {0}
+Fits command.Report = Unit {0}
+Fits (command.Gen asked) = asked.writes ≤ MOST_WRITES
+Fits (command.Trace asked) = trace.Fits asked
+Fits (command.Client asked) = client.Fits asked
 
--- The words ask for a trace of the sample program.
-abbrev pub AreTrace : List (List ℕ) → Type 0
-AreTrace words = (asked : Asked) × IsTrace words asked
+-- ---- what a command touches
+
+-- It waits for nobody.
+abbrev pub is_plain : Option Command → Bool
+is_plain (Some (command.Replay session)) = true
+is_plain (Some command.Report) = true
+is_plain (Some (command.Gen asked)) = true
+is_plain asked = false
+
+-- It reads the input.
+abbrev pub reads_input : Option Command → Bool
+reads_input (Some (command.Replay session)) = true
+reads_input (Some command.Report) = true
+reads_input asked = false
+
+-- It calls a peer.
+abbrev pub calls_peer : Option Command → Bool
+calls_peer (Some (command.Client asked)) = true
+calls_peer asked = false
+
+-- It runs threads.
+abbrev pub runs_threads : Option Command → Bool
+runs_threads (Some (command.Trace asked)) = true
+runs_threads asked = false

@@ -1,17 +1,15 @@
 //! How the program ended.
 ghost use Rattle.std.specs.Prelude.{◌≡◌, []};
-ghost use Rattle.pt_cli.specs.Finished.{end_of};
+ghost use Rattle.pt_cli.specs.Ends.{Ended};
 
 use ep_defs::{Items, MarkList};
-use pt_client::Called;
-use pt_client::status::OUT_OF_MEMORY;
+use pt_command::End;
 use std::alloc::Global;
 
 /// How the program ended.
 #[derive(Debug, Drop)]
 pub struct Finished<L> {
-    /// 0 done, 2 words refused, 3 input refused, 4 read fault, 5 write fault, 6 the peer can't be called or its link
-    /// failed, 7 peer's error, 8 bad reply, 9 out of memory, 10 stream too long.
+    /// One of those of `pt_command::status`.
     pub status: u8,
     /// A peer's error code, 0 where there is none.
     pub code: u32,
@@ -29,62 +27,25 @@ pub struct Finished<L> {
 /// How a command ended that waits for nobody.
 #[derive(Clone, Copy, Debug)]
 pub struct Plain {
-    /// 0 done, 2 words refused, 3 input refused, 4 read fault, 5 write fault, 9 out of memory.
+    /// One of those of `pt_command::status`.
     pub status: u8,
     /// The offset of what was refused, 0 where there is none.
     pub at: u64,
 }
 
-/// The end of a client's command.
-pub(crate) fn with_peer<L>(alloc: Global, called: Called<L>) -> Finished<L>
-    ensures end { end_of result ≡ called.end }
-    ensures peer { result.peer ≡ called.peer }
+/// The end of a command that traced nothing.
+pub(crate) fn ended_with<L>(alloc: Global, end: End, peer: Option<L>) -> Finished<L>
+    ensures ended { Ended end result.status result.code result.at }
+    ensures peer { result.peer ≡ peer }
     ensures rows { result.rows.items ≡ [] }
     ensures marks { result.marks ≡ [] }
 {
     Finished {
-        status: called.end.status,
-        code: called.end.code,
-        at: called.end.at,
-        peer: called.peer,
+        status: end.status(),
+        code: end.code(),
+        at: end.at(),
+        peer,
         rows: Vec::new(alloc),
         marks: Items::new(Vec::new(alloc)),
     }
-}
-
-/// The end of a command that calls nobody.
-pub(crate) fn without_peer<L>(alloc: Global, plain: Plain) -> Finished<L>
-    ensures status { result.status ≡ plain.status }
-    ensures code { result.code ≡ 0 }
-    ensures at { result.at ≡ plain.at }
-    ensures peer { result.peer ≡ None }
-    ensures rows { result.rows.items ≡ [] }
-    ensures marks { result.marks ≡ [] }
-{
-    Finished {
-        status: plain.status,
-        code: 0,
-        at: plain.at,
-        peer: None,
-        rows: Vec::new(alloc),
-        marks: Items::new(Vec::new(alloc)),
-    }
-}
-
-/// The end of words for which there was no memory.
-pub(crate) fn without_memory<L>(alloc: Global) -> Finished<L>
-    ensures status { result.status ≡ 9 }
-    ensures code { result.code ≡ 0 }
-    ensures at { result.at ≡ 0 }
-    ensures peer { result.peer ≡ None }
-    ensures rows { result.rows.items ≡ [] }
-    ensures marks { result.marks ≡ [] }
-{
-    without_peer(
-        alloc,
-        Plain {
-            status: OUT_OF_MEMORY,
-            at: 0,
-        },
-    )
 }

@@ -1,34 +1,28 @@
 //! The top call.
-ghost use Rattle.std.specs.Prelude.{◌≡◌, ◌≢◌, ◌⊎◌, ◌+◌, ◌<◌, ◌++◌, ℕ, List, [], map, IsTrue, IfSome, IfNone};
+ghost use Rattle.std.specs.Prelude.{◌≡◌, ℕ, [], false, map, Some, None, IfSome};
 ghost use Rattle.std.specs.String.{string_bytes};
-ghost use Rattle.ep_defs.specs.Session.{standard_info_of};
-ghost use Rattle.nt_write.specs.declared.limits.TheConstants.{FRAMED_EVENTS};
-ghost use Rattle.pt_io.specs.Faults.{HasRisen};
-ghost use Rattle.pt_io.specs.Taken.{TookAll, TookPart, TookPartOf, IsPrefix};
-ghost use Rattle.pt_gen.specs.Summary.{gen_text};
-ghost use Rattle.pt_client.specs.declared.words.Command.{Command};
-ghost use Rattle.pt_client.specs.Words.{command_in};
-ghost use Rattle.pt_client.specs.Lines.{peer_error, reply_error};
-ghost use Rattle.pt_client.specs.Answers.{target_of, request_of, Answers};
-ghost use Rattle.pt_cli.specs.declared.errors.Refusal.{Refusal};
+ghost use Rattle.pt_command.specs.declared.end.End.TheVariants as ends;
+ghost use Rattle.pt_command.specs.Says.{SaysLine};
+ghost use Rattle.pt_client.specs.declared.words.Command.{Command as ClientCommand};
+ghost use Rattle.pt_client.specs.Answers.{Asks, Fits as ClientFits};
+ghost use Rattle.pt_gen.specs.Command.{Generates};
+ghost use Rattle.pt_gen.specs.declared.words.Asked.{Asked as GenAsked};
+ghost use Rattle.pt_replay.specs.Command.{Replays};
+ghost use Rattle.pt_report.specs.Command.{Reports};
+ghost use Rattle.pt_cli.specs.declared.trace_words.Asked.{Asked as TraceAsked};
+ghost use Rattle.pt_cli.specs.declared.words.Command.TheVariants as commands;
+ghost use Rattle.pt_cli.specs.Ends.{EndsSo};
 ghost use Rattle.pt_cli.specs.Errors.{words_error};
-ghost use Rattle.pt_cli.specs.Schedule.{IsRefused};
-ghost use Rattle.pt_reading.specs.Answers as reading;
-ghost use Rattle.pt_reading.specs.Found.{IsWhole, IsReported};
-ghost use Rattle.pt_reading.specs.Input.{ReadWhole};
-ghost use Rattle.pt_live.specs.Trace.{rows_of, taken_of, AreWhole, TookAny, TookSome};
-ghost use Rattle.pt_trace.specs.declared.words.Asked.{Asked};
-ghost use Rattle.pt_trace.specs.Traced.{IsTraced};
-ghost use Rattle.pt_cli.specs.Words.{IsReplay, IsReport, IsGen, IsTrace, AreReading, AreGen, AreTrace, AsksNobody};
-ghost use Rattle.pt_cli.specs.Replay.{IsReplayed, IsUnfinished, Finishes, IsError, IsAnswer};
-ghost use Rattle.pt_cli.specs.Finished.{end_of};
+ghost use Rattle.pt_cli.specs.Program.{ComesTo, HasFaults, LeavesAlone, PlainComesTo};
+ghost use Rattle.pt_cli.specs.Traced.{TracesTo};
+ghost use Rattle.pt_cli.specs.Words.{meant, reads_input, Fits};
 
-use crate::ends::{Finished, with_peer, without_memory, without_peer};
-use crate::generated::generated;
-use crate::laws::{gen_asks_nobody, replay_asks_nobody, trace_asks_nobody};
-use crate::replay::plain;
+use crate::ends::{Finished, ended_with};
 use crate::traced::traced;
-use pt_client::{client, command_of};
+use crate::waitless::without_waiting;
+use crate::words::{Command, command_of};
+use pt_client::{Called, client};
+use pt_command::End;
 use pt_io::{Caller, Clock, Gate, Sink, Source};
 use std::alloc::{AllocError, Global};
 use std::sync::Wait;
@@ -39,8 +33,8 @@ use std::time;
 ///
 /// With `replay`, `replay --session N` or `replay --session=N` it reads a schedule from `input` to its end and writes the
 /// stream of session N, by default 1, to `output` in one write. With `report` it reads a stream from `input` to its end and
-/// writes the report of what the stream holds. With status 2 or 3 the output took one error line. Nothing is written before
-/// the input was read.
+/// writes the report of what the stream holds. Where the words or the input are refused the output took one error line.
+/// Nothing is written before the input was read.
 ///
 /// With `gen SEED N` it makes a schedule of N writes, which the seed determines, and writes how many of them each session
 /// admitted, wrote and refused, in one write. It reads no input then.
@@ -69,182 +63,104 @@ pub fn tracepipe<
     clock: &C,
     gate: &G,
 ) -> Finished<K::Link>
-    ensures done { (session : ℕ) → IsReplay (map string_bytes words.now) session → result.status ≡ 0
-        → (bytes : List ℕ) × (stream : List ℕ)
-        × ReadWhole I.tells_given I.given I.left I.may_give input.old input.new bytes
-        × IsReplayed session bytes stream × TookAll O.tells_taken O.taken output.old output.new stream }
-    ensures reported { IsReport (map string_bytes words.now) → result.status ≡ 0 → (bytes : List ℕ)
-        × (text : List ℕ)
-        × ReadWhole I.tells_given I.given I.left I.may_give input.old input.new bytes
-        × IsReported bytes text × TookAll O.tells_taken O.taken output.old output.new text }
-
-    // A schedule that is made from a seed is made whole before anything is written, and the input is left alone.
-    ensures generated { (seed writes : ℕ) → IsGen (map string_bytes words.now) seed writes
-        → result.status ≡ 0
-        → TookAll O.tells_taken O.taken output.old output.new (gen_text seed writes) }
-    ensures generated_part { (seed writes : ℕ) → IsGen (map string_bytes words.now) seed writes
-        → result.status ≡ 5
-        → TookPart O.tells_taken O.taken output.old output.new (gen_text seed writes) }
-    ensures generated_alone { AreGen (map string_bytes words.now) → (input.new ≡ input.old)
-        × (result.peer ≡ None) × (caller.new ≡ caller.old) }
-    ensures generated_statuses { AreGen (map string_bytes words.now) → (result.status ≡ 0)
-        ⊎ (result.status ≡ 5) ⊎ (result.status ≡ 9) }
-
-    // The sample program is traced from each thread's first write to its last, and the input is left alone.
-    ensures traced { (asked : Asked) → IsTrace (map string_bytes words.now) asked → result.status ≡ 0
-        → IsTrue (O.tells_taken output.old) → IsTrue (O.tells_taken output.new) → (stream : List ℕ)
-        × IsTraced asked result.marks stream × IsWhole stream
-        × (O.taken output.new ≡ O.taken output.old ++ stream) }
-    ensures traced_part { (asked : Asked) → IsTrace (map string_bytes words.now) asked
-        → (result.status ≡ 5) ⊎ (result.status ≡ 10)
-        → TookSome O.tells_taken O.taken (standard_info_of 1 1) asked.plan asked.config result.marks output.old output.new }
-    ensures traced_memory { (asked : Asked) → IsTrace (map string_bytes words.now) asked
-        → result.status ≡ 9
-        → TookAny O.tells_taken O.taken (standard_info_of 1 1) asked.plan asked.config output.old output.new }
-    ensures traced_rows { (asked : Asked) → IsTrace (map string_bytes words.now) asked
-        → result.status ≢ 9 → result.rows.items ≡ rows_of asked.plan }
-    ensures traced_marks { (asked : Asked) → IsTrace (map string_bytes words.now) asked
-        → (result.status ≡ 0) ⊎ (result.status ≡ 10) → AreWhole asked.plan result.marks }
-    ensures traced_alone { AreTrace (map string_bytes words.now)
-        → (input.new ≡ input.old) × (result.peer ≡ None) × (caller.new ≡ caller.old) }
-    ensures traced_statuses { AreTrace (map string_bytes words.now)
-        → (result.status ≡ 0) ⊎ (result.status ≡ 5) ⊎ (result.status ≡ 9) ⊎ (result.status ≡ 10) }
-    ensures too_long { result.status ≡ 10 → AreTrace (map string_bytes words.now)
-        × (FRAMED_EVENTS < taken_of result.marks) }
-    ensures untraced { (AreTrace (map string_bytes words.now) → ⊥) → (result.rows.items ≡ [])
-        × (result.marks ≡ []) }
-
-    // Words that are neither a client's nor ask for a schedule or a trace, nor for what reads the input.
-    ensures words { AsksNobody (map string_bytes words.now) → result.status ≡ 2
-        → (AreReading (map string_bytes words.now) → ⊥) × (AreGen (map string_bytes words.now) → ⊥)
-        × (AreTrace (map string_bytes words.now) → ⊥)
-        × TookAll O.tells_taken O.taken output.old output.new words_error × (input.new ≡ input.old) }
-    ensures words_refused { AsksNobody (map string_bytes words.now)
-        → (AreReading (map string_bytes words.now) → ⊥)
-        → (AreGen (map string_bytes words.now) → ⊥) → (AreTrace (map string_bytes words.now) → ⊥)
-        → (result.status ≡ 2) ⊎ (result.status ≡ 5) ⊎ (result.status ≡ 9) }
-
-    // An input that is no schedule, or does not finish the session.
-    ensures refused { (session : ℕ) → IsReplay (map string_bytes words.now) session → result.status ≡ 3
-        → (bytes : List ℕ) × (text : List ℕ)
-        × ReadWhole I.tells_given I.given I.left I.may_give input.old input.new bytes
-        × IsError session bytes text × TookAll O.tells_taken O.taken output.old output.new text }
-
-    // An input that is no stream, or not whole, or has an item that can't stand where it does.
-    ensures stream_refused { IsReport (map string_bytes words.now) → result.status ≡ 3
-        → (bytes : List ℕ) × (text : List ℕ)
-        × ReadWhole I.tells_given I.given I.left I.may_give input.old input.new bytes
-        × reading.IsError bytes result.at text
-        × TookAll O.tells_taken O.taken output.old output.new text }
-
-    // An input that tells its bytes is judged by them, unless something fails.
-    ensures refused_exactly { (session : ℕ) (refusal : Refusal)
-        → IsReplay (map string_bytes words.now) session
-        → IsTrue (I.tells_given input.old) → IsRefused (I.left input.old) refusal
-        → (result.status ≡ 3) ⊎ (result.status ≡ 4) ⊎ (result.status ≡ 5) ⊎ (result.status ≡ 9) }
-    ensures unfinished { (session : ℕ) → IsReplay (map string_bytes words.now) session
-        → IsTrue (I.tells_given input.old) → IsUnfinished session (I.left input.old)
-        → (result.status ≡ 3) ⊎ (result.status ≡ 4) ⊎ (result.status ≡ 5) ⊎ (result.status ≡ 9) }
-    ensures taken { (session : ℕ) → IsReplay (map string_bytes words.now) session
-        → IsTrue (I.tells_given input.old) → Finishes session (I.left input.old)
-        → (result.status ≡ 0) ⊎ (result.status ≡ 4) ⊎ (result.status ≡ 5) ⊎ (result.status ≡ 9) }
-    ensures whole { IsReport (map string_bytes words.now) → IsTrue (I.tells_given input.old)
-        → IsWhole (I.left input.old) → result.status ≢ 3 }
-    ensures not_whole { IsReport (map string_bytes words.now) → IsTrue (I.tells_given input.old)
-        → (IsWhole (I.left input.old) → ⊥) → result.status ≢ 0 }
-
-    // A fault of the input or the output comes only from the object that was handed in, in this call.
-    ensures read_fault { result.status ≡ 4 → AreReading (map string_bytes words.now)
-        × HasRisen (I.read_faults input.old) (I.read_faults input.new) × (output.new ≡ output.old) }
-    ensures all_read { result.status ≢ 4 → I.read_faults input.new ≡ I.read_faults input.old }
-    ensures write_fault { result.status ≡ 5
-        → HasRisen (O.write_faults output.old) (O.write_faults output.new) }
-    ensures written_part { AsksNobody (map string_bytes words.now)
-        → (AreGen (map string_bytes words.now) → ⊥)
-        → (AreTrace (map string_bytes words.now) → ⊥) → result.status ≡ 5 → (bytes : List ℕ)
-        × (text : List ℕ)
-        × (AreReading (map string_bytes words.now)
-        → ReadWhole I.tells_given I.given I.left I.may_give input.old input.new bytes)
-        × IsAnswer (map string_bytes words.now) bytes text
-        × (IsTrue (O.tells_taken output.old)
-        → TookPartOf text (O.taken output.old) (O.taken output.new)) }
-    ensures all_written { (AreTrace (map string_bytes words.now) → ⊥)
-        → result.status ≢ 5 → O.write_faults output.new ≡ O.write_faults output.old }
-
-    // Out of memory: nothing was written, but by a client's command and by `trace`.
-    ensures memory { AsksNobody (map string_bytes words.now)
-        → (AreTrace (map string_bytes words.now) → ⊥)
-        → result.status ≡ 9 → output.new ≡ output.old }
-    ensures statuses { AsksNobody (map string_bytes words.now)
-        → (AreTrace (map string_bytes words.now) → ⊥)
-        → (result.status ≡ 0) ⊎ (result.status ≡ 2) ⊎ (result.status ≡ 3) ⊎ (result.status ≡ 4)
-        ⊎ (result.status ≡ 5) ⊎ (result.status ≡ 9) }
-    ensures nobody { AsksNobody (map string_bytes words.now) → (result.peer ≡ None)
-        × (caller.new ≡ caller.old)
-        × (result.code ≡ 0) }
-    ensures no_stream { AsksNobody (map string_bytes words.now)
-        → (IsReport (map string_bytes words.now) → ⊥) → result.at ≡ 0 }
-
-    // A client's command answers what the peer says, where the link tells it, and leaves the input alone.
-    ensures answered { (command : Command) → command_in (map string_bytes words.now) ≡ Some command
-        → IfSome result.peer (λ link. IsTrue (K.Link.tells_given link)
-        → Answers O.tells_taken O.taken output.old output.new command (K.Link.given link ++ K.Link.left link) (end_of result)) }
-    ensures peer_line { result.status ≡ 7
-        → TookAll O.tells_taken O.taken output.old output.new (peer_error result.code) }
-    ensures reply_line { result.status ≡ 8
-        → TookAll O.tells_taken O.taken output.old output.new (reply_error result.at) }
-    ensures no_code { result.status ≢ 7 → result.code ≡ 0 }
-    ensures no_offset { result.status ≢ 3 → result.status ≢ 8 → result.at ≡ 0 }
-    ensures client_statuses { (command : Command)
-        → command_in (map string_bytes words.now) ≡ Some command
-        → (result.status ≡ 0) ⊎ (result.status ≡ 5) ⊎ (result.status ≡ 6) ⊎ (result.status ≡ 7)
-        ⊎ (result.status ≡ 8) ⊎ (result.status ≡ 9) }
-    ensures apart { (command : Command) → command_in (map string_bytes words.now) ≡ Some command
-        → input.new ≡ input.old }
-
-    // The peer is the one at the target, and took the request.
-    ensures target { (command : Command) → command_in (map string_bytes words.now) ≡ Some command
-        → IfSome result.peer (λ link. (fresh : K.Link) × K.leads_to (target_of command) fresh
-        × (K.Link.tells_given link ≡ K.Link.tells_given fresh)
-        × (IsTrue (K.Link.tells_given fresh)
-        → K.Link.given link ++ K.Link.left link ≡ K.Link.left fresh)) }
-    ensures asked { (command : Command) → command_in (map string_bytes words.now) ≡ Some command
-        → result.status ≡ 0 → (link : K.Link) × (result.peer ≡ Some link)
-        × (IsTrue (K.Link.tells_taken link) → K.Link.taken link ≡ request_of command) }
-    ensures asked_part { (command : Command) → command_in (map string_bytes words.now) ≡ Some command
-        → IfSome result.peer (λ link. IsTrue (K.Link.tells_taken link)
-        → IsPrefix (K.Link.taken link) (request_of command)) }
-    ensures called { IfSome result.peer (λ _. K.links caller.new ≡ K.links caller.old + 1) }
-    ensures uncalled { IfNone result.peer (K.links caller.new ≡ K.links caller.old) }
-    ensures uncalled_client { (command : Command)
-        → command_in (map string_bytes words.now) ≡ Some command
-        → IfNone result.peer (((result.status ≡ 6) ⊎ (result.status ≡ 9)) × (output.new ≡ output.old)) }
-
-    // A fault of the caller or of its link comes only from it.
-    ensures link_fault { result.status ≡ 6
-        → HasRisen (K.call_faults caller.old) (K.call_faults caller.new)
-        ⊎ ((link : K.Link) × (result.peer ≡ Some link)
-        × ((0 < K.Link.read_faults link) ⊎ (0 < K.Link.write_faults link))) }
-    ensures sound { result.status ≢ 6 → (K.call_faults caller.new ≡ K.call_faults caller.old)
-        × IfSome result.peer (λ link. (K.Link.read_faults link ≡ 0) × (K.Link.write_faults link ≡ 0)) }
+    ensures replayed { (session : ℕ) → meant (map string_bytes words.now) ≡ Some (commands.Replay session)
+        → EndsSo result.status result.code result.at
+        (Replays I.Source O.Sink session input.old input.new output.old output.new) }
+    ensures reported { meant (map string_bytes words.now) ≡ Some commands.Report
+        → EndsSo result.status result.code result.at
+        (Reports I.Source O.Sink input.old input.new output.old output.new) }
+    ensures generated { (asked : GenAsked) → meant (map string_bytes words.now) ≡ Some (commands.Gen asked)
+        → EndsSo result.status result.code result.at (Generates O.Sink asked output.old output.new) }
+    ensures traced { (asked : TraceAsked) → meant (map string_bytes words.now) ≡ Some (commands.Trace asked)
+        → EndsSo result.status result.code result.at
+        (TracesTo O.Sink asked output.old output.new result.rows.items result.marks) }
+    ensures asked { (asked : ClientCommand) → meant (map string_bytes words.now) ≡ Some (commands.Client asked)
+        → EndsSo result.status result.code result.at
+        (Asks O.Sink K.Caller K.Link.Source K.Link.Sink asked output.old output.new caller.old caller.new result.peer) }
+    ensures words { meant (map string_bytes words.now) ≡ None
+        → EndsSo result.status result.code result.at (SaysLine O.Sink output.old output.new words_error ends.Words) }
+    ensures faults { EndsSo result.status result.code result.at
+        (HasFaults I.Source O.Sink (meant (map string_bytes words.now)) input.old input.new output.old output.new) }
+    ensures alone { LeavesAlone (meant (map string_bytes words.now)) input.old input.new caller.old caller.new
+        result.peer result.rows.items result.marks }
 {
-    replay_asks_nobody();
-    gen_asks_nobody();
-    trace_asks_nobody();
     match command_of(alloc, words) {
-        Ok(Some(command)) => with_peer(alloc, client(alloc, &command, output, caller)),
-        Ok(None) => match pt_gen::asked_of(alloc, words) {
-            Ok(Some(asked)) => without_peer(alloc, generated(alloc, asked, output)),
-            Ok(None) => match pt_trace::asked_of(alloc, words) {
-                Ok(Some(asked)) => traced(rt, alloc, asked, output, clock, gate),
-                Ok(None) => without_peer(alloc, plain(alloc, words, input, output)),
-                Err(AllocError) => without_memory(alloc),
-            },
-            Err(AllocError) => without_memory(alloc),
-        },
-        Err(AllocError) => without_memory(alloc),
+        Ok(command) => carry_out(rt, alloc, command, input, output, caller, clock, gate),
+        Err(AllocError) => ended_with(alloc, End::OutOfMemory, None),
     }
 }
 
-#[cfg(test)]
-mod tests;
+// Does what the command asks for; without one the words are refused.
+fn carry_out<
+    R: Threads + Wait + time::Clock + Sync,
+    I: Source,
+    O: Sink,
+    K: Caller,
+    C: Clock,
+    G: Gate,
+>(
+    rt: &R,
+    alloc: Global,
+    command: Option<Command<'_>>,
+    input: &mut I,
+    output: &mut O,
+    caller: &mut K,
+    clock: &C,
+    gate: &G,
+) -> Finished<K::Link>
+    requires { IfSome command Fits }
+    ensures comes { EndsSo result.status result.code result.at
+        (ComesTo I.Source O.Sink K.Caller K.Link.Source K.Link.Sink command.entry (record {
+          input_old = input.old;
+          input_new = input.new;
+          output_old = output.old;
+          output_new = output.new;
+          caller_old = caller.old;
+          caller_new = caller.new;
+          peer = result.peer;
+          rows = result.rows.items;
+          marks = result.marks;
+        })) }
+    ensures alone { LeavesAlone command.entry input.old input.new caller.old caller.new result.peer
+        result.rows.items result.marks }
+{
+    match command {
+        Some(Command::Trace(asked)) => traced(rt, alloc, asked, output, clock, gate),
+        Some(Command::Client(command)) => asked(alloc, &command, output, caller),
+        command => told(alloc, &command, input, output),
+    }
+}
+
+// Asks a peer.
+fn asked<K: Caller, O: Sink>(
+    alloc: Global,
+    command: &pt_client::Command<'_>,
+    output: &mut O,
+    caller: &mut K,
+) -> Finished<K::Link>
+    requires { ClientFits command.now }
+    ensures asks { EndsSo result.status result.code result.at
+        (Asks O.Sink K.Caller K.Link.Source K.Link.Sink command.now output.old output.new caller.old caller.new result.peer) }
+    ensures untraced { (result.rows.items ≡ []) × (result.marks ≡ []) }
+{
+    let Called { end, peer } = client(alloc, command, output, caller);
+    ended_with(alloc, end, peer)
+}
+
+// Does what waits for nobody.
+fn told<L, I: Source, O: Sink>(
+    alloc: Global,
+    command: &Option<Command<'_>>,
+    input: &mut I,
+    output: &mut O,
+) -> Finished<L>
+    requires { IfSome command.now Fits }
+    ensures comes { EndsSo result.status result.code result.at
+        (PlainComesTo I.Source O.Sink command.now input.old input.new output.old output.new) }
+    ensures unread { reads_input command.now ≡ false → input.new ≡ input.old }
+    ensures nobody { result.peer ≡ None }
+    ensures untraced { (result.rows.items ≡ []) × (result.marks ≡ []) }
+{
+    let end = without_waiting(alloc, command, input, output);
+    ended_with(alloc, end, None)
+}

@@ -1,51 +1,84 @@
 //! The words of the command line.
-ghost use Rattle.std.specs.Prelude.{◌≡◌, ◌↔◌, ℕ, map, IsTrue, IfOk, IfSome, IfNone};
+ghost use Rattle.std.specs.Prelude.{◌≡◌, map, IfOk, IfSome};
 ghost use Rattle.std.specs.String.{string_bytes};
-ghost use Rattle.pt_cli.specs.Words.{IsReplay, IsReport, IsSession};
+ghost use Rattle.pt_cli.specs.Words.{meant, replay_in, is_report, session_number, Fits};
 
+use crate::trace_words::{Asked, asked_of};
 use ep_plan::number;
 use pt_words::session_text;
 use std::alloc::{AllocError, Global};
 
-/// The session whose stream the words ask for, where they are `replay` with a session or without one.
-pub(crate) fn session_of(alloc: Global, words: &[String]) -> Result<Option<u32>, AllocError>
-    ensures some { IfOk result (λ answer. IfSome answer (IsReplay (map string_bytes words.now))) }
-    ensures none { IfOk result (λ answer. IfNone answer ((session : ℕ)
-        → IsReplay (map string_bytes words.now) session → ⊥)) }
+/// What the words of the command line ask for.
+#[derive(Debug, Drop)]
+pub enum Command<'a> {
+    /// For the stream of a session after a schedule.
+    Replay { session: u32 },
+    /// For the report of a stream.
+    Report,
+    /// For a schedule that is made and summed up.
+    Gen(pt_gen::Asked),
+    /// For a trace of the sample program.
+    Trace(Asked),
+    /// For something of a peer.
+    Client(pt_client::Command<'a>),
+}
+
+/// What the words of the command line, without the program's name, ask for.
+pub(crate) fn command_of<'a>(
+    alloc: Global,
+    words: &'a [String],
+) -> Result<Option<Command<'a>>, AllocError>
+    ensures meant { IfOk result (λ command. command ≡ meant (map string_bytes words.now)) }
+    ensures fits { IfOk result (λ command. IfSome command Fits) }
 {
-    let [command, rest @ ..] = words else {
-        return Ok(None);
-    };
-    if !is_word(command, "replay") {
-        return Ok(None);
+    if let Some(session) = session_of(alloc, words)? {
+        return Ok(Some(Command::Replay { session }));
     }
-    match session_text(alloc, rest)? {
-        Some(None) => Ok(Some(1)),
-        Some(Some(digits)) => Ok(session(digits.as_bytes())),
+    if is_report(words) {
+        return Ok(Some(Command::Report));
+    }
+    if let Some(asked) = pt_gen::asked_of(alloc, words)? {
+        return Ok(Some(Command::Gen(asked)));
+    }
+    if let Some(asked) = asked_of(alloc, words)? {
+        return Ok(Some(Command::Trace(asked)));
+    }
+    match pt_client::command_of(alloc, words)? {
+        Some(command) => Ok(Some(Command::Client(command))),
         None => Ok(None),
     }
 }
 
-/// Whether the words are `report`.
-pub(crate) fn is_report(words: &[String]) -> bool
-    ensures { IsTrue result ↔ IsReport (map string_bytes words.now) }
+// The session whose stream the words ask for.
+fn session_of(alloc: Global, words: &[String]) -> Result<Option<u32>, AllocError>
+    ensures { IfOk result (λ session. session ≡ replay_in (map string_bytes words.now)) }
+{
+    let [name, rest @ ..] = words else {
+        return Ok(None);
+    };
+    if name.as_str() != "replay" {
+        return Ok(None);
+    }
+    match session_text(alloc, rest)? {
+        Some(Some(digits)) => Ok(session_number(digits.as_bytes())),
+        Some(None) => Ok(Some(1)),
+        None => Ok(None),
+    }
+}
+
+// Whether the words are `report`.
+fn is_report(words: &[String]) -> bool
+    ensures { result ≡ is_report (map string_bytes words.now) }
 {
     match words {
-        [command] => is_word(command, "report"),
+        [name] => name.as_str() == "report",
         _ => false,
     }
 }
 
-fn is_word(word: &String, text: &str) -> bool
-    ensures { IsTrue result ↔ (string_bytes word.now ≡ text.now) }
-{
-    word.as_str() == text
-}
-
-// The number of a session.
-fn session(digits: &[u8]) -> Option<u32>
-    ensures some { IfSome result (IsSession digits.now) }
-    ensures none { IfNone result ((session : ℕ) → IsSession digits.now session → ⊥) }
+// From 1 on.
+fn session_number(digits: &[u8]) -> Option<u32>
+    ensures { result ≡ session_number digits.now }
 {
     match u32::try_from(number(digits, u64::MAX)?) {
         Ok(0) | Err(_) => None,

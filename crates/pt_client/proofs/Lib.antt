@@ -1,1 +1,2 @@
-mod Silent
+pub mod InVain
+pub mod Silent

@@ -3,7 +3,7 @@ use Rattle.std.proofs.Common.{◌≡◌, ℕ, List, [], Bool, Result, Ok, Err, O
 use Rattle.std.proofs.lemmas.List.{append-nil}
 use Rattle.pt_io.specs.Taken.{TookPart}
 
-none-taken : {S : Type 0} (tells : S → Bool) (taken : S → List ℕ) (old new : S) (bytes : List ℕ) → new ≡ old → TookPart tells taken old new bytes
+pub none-taken : {S : Type 0} (tells : S → Bool) (taken : S → List ℕ) (old new : S) (bytes : List ℕ) → new ≡ old → TookPart tells taken old new bytes
 none-taken tells taken old new bytes same = λ told. ([], (bytes, refl), ap taken same ∙ sym (append-nil (taken old)))
 
 -- The same of a call that failed.

@@ -1,7 +1,12 @@
 -- What a client's command answers to the bytes of a peer, and what it writes (this project's profile).
-use Rattle.std.specs.Prelude.{◌≡◌, ℕ, ◌≤◌, Bool, true, false, ◌⊎◌, List, [], length, Result, Ok, Err}
+use Rattle.std.specs.Prelude.{◌≡◌, ◌≢◌, ℕ, ◌+◌, ◌<◌, ◌≤◌, ◌++◌, Bool, true, false, ◌⊎◌, List, [], length, Result, Ok, Err, Option, Some, IsTrue, IfSome, IfNone}
+use Rattle.pt_io.specs.declared.caller.Caller.{Ghosts as Caller}
+use Rattle.pt_io.specs.declared.sink.Sink.{Ghosts as Sink}
+use Rattle.pt_io.specs.declared.source.Source.{Ghosts as Source}
 use Rattle.pt_io.specs.Faults.{HasRisen}
-use Rattle.pt_io.specs.Taken.{TookAll, TookPart}
+use Rattle.pt_io.specs.Taken.{TookAll, TookPart, IsPrefix}
+use Rattle.pt_command.specs.declared.end.End.{End}
+use Rattle.pt_command.specs.declared.end.End.TheVariants as ends
 use Rattle.ipc_frame.specs.declared.limits.TheConstants.{MESSAGE_BYTES}
 use Rattle.ipc_body.specs.Asking.{collect_request, stop_request, info_request}
 use Rattle.ipc_body.specs.Reply.{reply_of}
@@ -10,8 +15,6 @@ use Rattle.ipc_body.specs.declared.reply.Reply.TheVariants as reply
 use Rattle.ipc_take.specs.Own.{own_bytes, later_bytes}
 use Rattle.pt_client.specs.declared.words.Command.{Command}
 use Rattle.pt_client.specs.declared.words.Command.TheVariants as command
-use Rattle.pt_client.specs.declared.calling.End.{End}
-use Rattle.pt_client.specs.declared.status.TheConstants.{DONE, WRITE_FAULT, LINK_FAULT, PEER_ERROR, BAD_REPLY, OUT_OF_MEMORY}
 use Rattle.pt_client.specs.Lines.{stopped_line, process_line, peer_error, reply_error}
 
 -- ---- what is asked
@@ -47,21 +50,17 @@ pub record Answer : Type 0 where
   pub end : End
   pub text : List ℕ
 
--- An end without a code and an offset.
-abbrev pub ended : ℕ → End
-ended status = record { status = status; code = 0; at = 0 }
-
 -- The answer to an OK reply.
 abbrev pub done_with : List ℕ → Answer
-done_with text = record { end = ended DONE; text = text }
+done_with text = record { end = ends.Done; text = text }
 
 -- The answer to an error.
 abbrev pub to_peer_error : ℕ → Answer
-to_peer_error code = record { end = record { status = PEER_ERROR; code = code; at = 0 }; text = peer_error code }
+to_peer_error code = record { end = ends.PeerError code; text = peer_error code }
 
 -- The answer to what is no reply, with the offset of its first wrong field.
 abbrev pub to_bad_reply : ℕ → Answer
-to_bad_reply at = record { end = record { status = BAD_REPLY; code = 0; at = at }; text = reply_error at }
+to_bad_reply at = record { end = ends.BadReply at; text = reply_error at }
 
 -- The text for an OK reply in these bytes: the stream after it, or a line.
 abbrev pub text_for : Command → List ℕ → Reply → List ℕ
@@ -91,22 +90,46 @@ stream_of (command.Ps target) bytes = []
 
 -- The answer is an OK reply's, and was written whole.
 abbrev pub IsDone : {S : Type 0} → (S → Bool) → (S → List ℕ) → S → S → Answer → Type 0
-IsDone tells taken old new answer = (answer.end ≡ ended DONE) × TookAll tells taken old new answer.text
-
--- The command ended with this answer.
-abbrev pub EndsWith : {S : Type 0} → (S → Bool) → (S → List ℕ) → S → S → Answer → End → Type 0
-EndsWith tells taken old new answer end = (end ≡ answer.end) × TookAll tells taken old new answer.text
+IsDone tells taken old new answer = (answer.end ≡ ends.Done) × TookAll tells taken old new answer.text
 
 -- The command ended with the answer to the bytes, or an output, a link or memory failed before.
-abbrev pub Answers : {S : Type 0} → (S → Bool) → (S → List ℕ) → S → S → Command → List ℕ → End → Type 0
-Answers tells taken old new command bytes end =
-    EndsWith tells taken old new (answer_of command bytes) end
-    ⊎ ((end ≡ ended WRITE_FAULT) × TookPart tells taken old new (answer_of command bytes).text)
-    ⊎ (((end ≡ ended LINK_FAULT) ⊎ (end ≡ ended OUT_OF_MEMORY)) × TookPart tells taken old new (stream_of command bytes))
+abbrev pub IsAnsweredTo : {O : Type 0} → Sink O → O → O → Command → List ℕ → End → Type 0
+IsAnsweredTo sink old new command bytes end =
+    ((end ≡ (answer_of command bytes).end) × TookAll sink.tells_taken sink.taken old new (answer_of command bytes).text)
+    ⊎ ((end ≡ ends.WriteFault) × TookPart sink.tells_taken sink.taken old new (answer_of command bytes).text)
+    ⊎ (((end ≡ ends.LinkFault) ⊎ (end ≡ ends.OutOfMemory)) × TookPart sink.tells_taken sink.taken old new (stream_of command bytes))
 
--- A line was written, or the output or memory failed before.
-abbrev pub WritesLine : {S : Type 0} → (S → Bool) → (S → List ℕ) → (S → ℕ) → S → S → Answer → End → Type 0
-WritesLine tells taken faults old new answer end =
-    (EndsWith tells taken old new answer end × (faults new ≡ faults old))
-    ⊎ ((end ≡ ended WRITE_FAULT) × TookPart tells taken old new answer.text × HasRisen (faults old) (faults new))
-    ⊎ ((end ≡ ended OUT_OF_MEMORY) × (new ≡ old))
+-- The link's peer is one that a call of the target gave, and has still what it had to give.
+pub record IsPeerOf {L : Type 0} (source : Source L) (LeadsTo : List ℕ → L → Type 0) (target : List ℕ) (link : L) : Type 0 where
+  pub fresh : L
+  pub leads : LeadsTo target fresh
+  pub told : source.tells_given link ≡ source.tells_given fresh
+  pub whole : IsTrue (source.tells_given fresh) → source.given link ++ source.left link ≡ source.left fresh
+
+-- A read or a write of the link failed.
+abbrev pub HasFaults : {L : Type 0} → Source L → Sink L → L → Type 0
+HasFaults source sink link = (0 < source.read_faults link) ⊎ (0 < sink.write_faults link)
+
+-- The command ended so, with the link to the peer that was called.
+pub record Asks {O K L : Type 0} (sink : Sink O) (caller : Caller K L) (source : Source L) (takes : Sink L) (command : Command)
+    (output_old output_new : O) (caller_old caller_new : K) (peer : Option L) (end : End) : Type 0 where
+  -- the answer to what the peer says, where the link tells it
+  pub answered : IfSome peer (λ link. IsTrue (source.tells_given link)
+      → IsAnsweredTo sink output_old output_new command (source.given link ++ source.left link) end)
+  pub peer_line : (code : ℕ) → end ≡ ends.PeerError code → TookAll sink.tells_taken sink.taken output_old output_new (peer_error code)
+  pub reply_line : (at : ℕ) → end ≡ ends.BadReply at → TookAll sink.tells_taken sink.taken output_old output_new (reply_error at)
+  -- the peer is the one at the target, and took the request
+  pub target : IfSome peer (IsPeerOf source caller.leads_to (target_of command))
+  pub asked : end ≡ ends.Done → (link : L) × (peer ≡ Some link) × (IsTrue (takes.tells_taken link) → takes.taken link ≡ request_of command)
+  pub asked_part : IfSome peer (λ link. IsTrue (takes.tells_taken link) → IsPrefix (takes.taken link) (request_of command))
+  pub called : IfSome peer (λ _. caller.links caller_new ≡ caller.links caller_old + 1)
+  pub uncalled : IfNone peer (((end ≡ ends.LinkFault) ⊎ (end ≡ ends.OutOfMemory)) × (caller.links caller_new ≡ caller.links caller_old) × (output_new ≡ output_old))
+  -- a fault comes only from the object that was handed in, in this call, or from its link
+  pub link_fault : end ≡ ends.LinkFault → HasRisen (caller.call_faults caller_old) (caller.call_faults caller_new)
+      ⊎ ((link : L) × (peer ≡ Some link) × HasFaults source takes link)
+  pub sound : end ≢ ends.LinkFault → (caller.call_faults caller_new ≡ caller.call_faults caller_old)
+      × IfSome peer (λ link. (source.read_faults link ≡ 0) × (takes.write_faults link ≡ 0))
+  pub write_fault : end ≡ ends.WriteFault → HasRisen (sink.write_faults output_old) (sink.write_faults output_new)
+  pub all_written : end ≢ ends.WriteFault → sink.write_faults output_new ≡ sink.write_faults output_old
+  pub ends : (end ≡ ends.Done) ⊎ (end ≡ ends.WriteFault) ⊎ (end ≡ ends.LinkFault)
+      ⊎ ((code : ℕ) × (end ≡ ends.PeerError code)) ⊎ ((at : ℕ) × (end ≡ ends.BadReply at)) ⊎ (end ≡ ends.OutOfMemory)

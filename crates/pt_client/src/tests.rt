@@ -47,9 +47,9 @@ fn run_words(alloc: Global, words: &[&str], bytes: &[u8], fails: Vec<u64>) -> Re
         None => None,
     };
     Ok(Run {
-        status: called.end.status,
-        code: called.end.code,
-        at: called.end.at,
+        status: called.end.status(),
+        code: called.end.code(),
+        at: called.end.at(),
         written: output.taken().to_vec(alloc)?,
         sent,
     })

@@ -3,7 +3,7 @@ use Rattle.std.proofs.Common.{◌≡◌, ◌≤◌, ◌∷◌, ◌++◌, List, [
 use Rattle.std.proofs.lemmas.List.{append-nil, reverse-append, reverse-reverse, length-reverse}
 use Rattle.ep_model.specs.declared.step.Step.{Step}
 use Rattle.ep_model.specs.History.{Past}
-use Rattle.ep_gen.specs.Schedule.{Gives}
+use Rattle.pt_gen.specs.Schedule.{Gives}
 
 -- One step more was made.
 pub one_more : (all : List Step) (past : Past) (step : Step) (now later : List Step) → all ≡ reverse past ++ now → now ≡ step ∷ later

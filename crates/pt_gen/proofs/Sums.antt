@@ -5,7 +5,7 @@ use Rattle.ep_model.specs.Chunks.{refused, written}
 use Rattle.ep_model.specs.History.{Past, admitted, opened}
 use Rattle.ep_model.specs.Lawful.{was_opened}
 use Rattle.ep_model.specs.Marks.{marks_of, marks_on}
-use Rattle.ep_gen.specs.Schedule.{threads}
+use Rattle.pt_gen.specs.Schedule.{threads}
 use Rattle.pt_load.specs.Sample.{sample}
 use Rattle.pt_gen.specs.Summary.{counts_after}
 use Rattle.pt_gen.specs.state.Counted.{counted}

@@ -1,5 +1,7 @@
 -- to be believed
 pub mod Words
+pub mod Schedule
 pub mod Summary
--- what private functions answer
+pub mod Command
+-- what private fields stand for, and private functions answer
 pub mod state

@@ -3,8 +3,8 @@ use Rattle.std.specs.Prelude.{ℕ, List, [], ◌∷◌, codes, length, reverse}
 use Rattle.std.specs.List.{concat, sum_by}
 use Rattle.ep_model.specs.Chunks.{refused, written}
 use Rattle.ep_model.specs.History.{Past, admitted}
-use Rattle.ep_gen.specs.declared.limits.TheConstants.{NARROW, WIDE}
-use Rattle.ep_gen.specs.Schedule.{generated, threads}
+use Rattle.pt_gen.specs.declared.limits.TheConstants.{NARROW, WIDE}
+use Rattle.pt_gen.specs.Schedule.{generated, threads}
 use Rattle.pt_load.specs.Sample.{sample}
 use Rattle.pt_print.specs.Printed.{number_part}
 use Rattle.pt_gen.specs.declared.summary.Counts.{Counts}

@@ -2,15 +2,15 @@
 ghost use Rattle.std.specs.Prelude.{◌≤◌, reverse, IfOk};
 ghost use Rattle.ep_defs.specs.Session.{standard_info_of};
 ghost use Rattle.ep_core.specs.Machine.{Follows};
-ghost use Rattle.ep_gen.specs.Schedule.{generated};
+ghost use Rattle.pt_gen.specs.Schedule.{generated};
 ghost use Rattle.pt_gen.specs.declared.limits.TheConstants.{MOST_WRITES};
 ghost use Rattle.pt_load.specs.Sample.{sample};
 
 use crate::words::Asked;
 use ep_core::{Machine, StepFault};
 use ep_defs::standard_info;
-use ep_gen::Gen;
-use ep_gen::laws::a_schedule_can_be_made;
+use crate::Gen;
+use crate::laws::a_schedule_can_be_made;
 use pt_load::laws::sample_events_are_valid;
 use pt_load::sample_events;
 use std::alloc::{AllocError, Global};

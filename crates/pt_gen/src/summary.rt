@@ -1,6 +1,6 @@
 //! What the sessions of a schedule came to, and its lines.
 ghost use Rattle.std.specs.Prelude.{◌≡◌, ◌≤◌, ◌++◌, ℕ, length, IfOk, OnOk};
-ghost use Rattle.ep_gen.specs.declared.limits.TheConstants.{NARROW, WIDE, THREADS};
+ghost use Rattle.pt_gen.specs.declared.limits.TheConstants.{NARROW, WIDE, THREADS};
 ghost use Rattle.pt_gen.specs.declared.limits.TheConstants.{MOST_WRITES};
 ghost use Rattle.pt_gen.specs.Summary.{counts_of, session_line, summary_text};
 ghost use Rattle.pt_gen.specs.state.Counted.{counted};
@@ -9,8 +9,8 @@ use crate::run::run;
 use crate::words::Asked;
 use ep_core::Machine;
 use ep_defs::Marks;
-use ep_gen::laws::a_schedule_can_be_made;
-use ep_gen::limits::{NARROW, WIDE};
+use crate::laws::a_schedule_can_be_made;
+use crate::limits::{NARROW, WIDE};
 use ep_model::laws::finished_sessions_are_faithful;
 use pt_print::{put_end, put_number, put_word};
 use std::alloc::{AllocError, Global};

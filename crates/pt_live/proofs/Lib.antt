@@ -4,4 +4,5 @@ pub mod Hands
 pub mod Steps
 pub mod Ending
 pub mod Fresh
+pub mod Long
 pub mod Answering

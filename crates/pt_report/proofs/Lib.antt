@@ -1,4 +1,11 @@
+mod Ascending
+mod Balance
 pub mod Counted
+mod ThreadLines
+mod Numbers
+pub mod Placed
 pub mod Printed
+mod Sessions
 pub mod Steps
 pub mod Tallies
+pub mod Whole

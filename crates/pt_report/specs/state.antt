@@ -1,5 +1,6 @@
 pub mod Counts
 pub mod Events
-pub mod Reports
+pub mod Read
 pub mod Shows
 pub mod Stacks
+pub mod Taken

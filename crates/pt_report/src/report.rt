@@ -23,12 +23,12 @@ pub struct Report {
 }
 
 impl Report {
-    ghost use Rattle.pt_report.specs.state.Reports.{Reports, has_failed};
+    ghost use Rattle.pt_report.specs.state.Taken.{HasTaken, has_failed};
     ghost use Rattle.pt_report.specs.Report.{report_text};
 
     /// A report of no items. It takes no memory.
     pub fn new(alloc: Global) -> Report
-        ensures { Reports [] result }
+        ensures { HasTaken [] result }
     {
         Report {
             alloc,
@@ -41,13 +41,13 @@ impl Report {
     /// Takes one more item. It is refused exactly where it can't stand after the items that were taken, and then the
     /// report is one of the same items. A report that found no memory answers so from then on.
     pub fn item(&mut self, kind: &ItemKind) -> Result<(), CheckFault>
-        ensures taken { OnOk result ((kinds : List ItemKind) → Reports kinds self.old
-            → Reports (kinds ++ kind.now ∷ []) self.new) }
-        ensures refused { (kinds : List ItemKind) → Reports kinds self.old → (fault : CheckKind)
+        ensures taken { OnOk result ((kinds : List ItemKind) → HasTaken kinds self.old
+            → HasTaken (kinds ++ kind.now ∷ []) self.new) }
+        ensures refused { (kinds : List ItemKind) → HasTaken kinds self.old → (fault : CheckKind)
             → (result ≡ Err (Bad fault))
             ↔ (told_after no_names (kinds ++ kind.now ∷ []) ≡ Err (disorder_of fault)) }
-        ensures unchanged { (kinds : List ItemKind) → (fault : CheckKind) → Reports kinds self.old
-            → result ≡ Err (Bad fault) → Reports kinds self.new }
+        ensures unchanged { (kinds : List ItemKind) → (fault : CheckKind) → HasTaken kinds self.old
+            → result ≡ Err (Bad fault) → HasTaken kinds self.new }
         ensures stays { has_failed self.old ≡ true
             → (result ≡ Err OutOfMemory) × (has_failed self.new ≡ true) }
         ensures failed { result ≡ Err OutOfMemory → has_failed self.new ≡ true }
@@ -69,7 +69,7 @@ impl Report {
     /// The report of the items that were taken.
     pub fn print(&self) -> Result<Vec<u8>, AllocError>
         ensures { IfOk result (λ text. (kinds : List ItemKind) → (entries : List Entry)
-            → Reports kinds self.now → told_after no_names kinds ≡ Ok entries
+            → HasTaken kinds self.now → told_after no_names kinds ≡ Ok entries
             → text.items ≡ report_text kinds entries) }
     {
         let mut out = Vec::new(self.alloc);

@@ -1,8 +1,9 @@
 //! The program: it makes the real objects of the outside and hands them to the logic.
 //!
-//! It stands on pt_cli, whose call `tracepipe` it makes, and on pt_io, whose traits it fulfils. What it adds is the
-//! trusted edge: standard input and output as a source and a sink, Unix sockets as links, that tell nothing of content,
-//! and the system's clock. Everything that can be said of bytes is said below it, over any source, sink and link.
+//! It stands on pt_cli, whose call `tracepipe` it makes, on pt_command, for the statuses, and on pt_io, whose traits it
+//! fulfils. What it adds is the trusted edge: standard input and output as a source and a sink, Unix sockets as links,
+//! that tell nothing of content, and the system's clock. Everything that can be said of bytes is said below it, over any
+//! source, sink and link.
 //!
 //! Its one contract: the adapters keep the clauses of the traits.
 #![tactic(auto)]
@@ -15,14 +16,12 @@ mod standard;
 use arguments::words;
 use clock::SystemClock;
 use pt_cli::tracepipe;
+use pt_command::status;
 use pt_io::OpenGate;
 use socket::SocketCaller;
 use standard::{StandardInput, StandardOutput};
 use std::io;
 use std::process::ExitCode;
-
-// The status where the words themselves found no memory.
-const OUT_OF_MEMORY: u8 = 9;
 
 fn main(rt: HostRuntime) -> ExitCode {
     let mut input = StandardInput::new(rt.reader());
@@ -43,7 +42,8 @@ fn main(rt: HostRuntime) -> ExitCode {
             )
             .status
         }
-        Err(_) => OUT_OF_MEMORY,
+        // The words themselves found no memory.
+        Err(_) => status::OUT_OF_MEMORY,
     };
     ExitCode::from(status)
 }

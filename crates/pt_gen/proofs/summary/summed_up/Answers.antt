@@ -3,8 +3,8 @@ use Rattle.std.proofs.Common.{◌≡◌, ◌≤◌, Bool, true, false, List, len
 use Rattle.ep_defs.specs.declared.limits.TheConstants.{SCHEDULE_WRITES}
 use Rattle.ep_defs.specs.Session.{standard_info_of}
 use Rattle.ep_defs.specs.declared.session.Marks.{Marks}
-use Rattle.ep_gen.specs.declared.limits.TheConstants.{NARROW, WIDE, THREADS}
-use Rattle.ep_gen.specs.Schedule.{generated}
+use Rattle.pt_gen.specs.declared.limits.TheConstants.{NARROW, WIDE, THREADS}
+use Rattle.pt_gen.specs.Schedule.{generated}
 use Rattle.pt_load.specs.Sample.{sample}
 use Rattle.pt_gen.specs.state.Counted.{counted}
 use Rattle.pt_gen.proofs.Sums.{marks_are_few, marks_sum_up}

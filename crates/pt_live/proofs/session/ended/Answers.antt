@@ -19,32 +19,41 @@ end-requires-clause-given g c = none-out g.P.Program.rows c.args.opened c.args.o
 pub finish-requires-clause-closed : goal.finish-requires-clause-closed
 finish-requires-clause-closed g c = closed-hands g.P.Program.rows c.args.opened c.close_all.new.rows c.close_all.new.session c.close_all.ensures.is_open
 
-pub returns-clause-traced : goal.returns-clause-traced
-returns-clause-traced g c before info config traced =
+pub returns : goal.returns
+returns g c to is =
     let session = c.close_all.new.session in
-    let t = c.close_all.ensures.goes.traced before info config traced in
+    let run = g.P.Run.run in
+    let events = g.P.Program.events in
+    let writes = g.P.Program.writes in
+    let opened = c.args.opened in
+    let tells = g.S.Sink.tells_taken in
+    let taken = g.S.Sink.taken in
+    let t = c.close_all.ensures.told in
     let none = closed-hands g.P.Program.rows c.args.opened c.close_all.new.rows session c.close_all.ensures.is_open in
     let few : (thread : ℕ) → length (g.P.Program.writes thread) ≤ WRITES =
-    λ thread. let long = ap length (c.requires.run.writes_are thread) ∙ count-writes g.P.Run.plan thread in let most = c.requires.run.few_writes in omega (arith, long, most) in
+    λ thread.
+    let long = ap length (c.args.around.now.is_run.writes_are thread) ∙ count-writes c.args.around.now.plan.now thread in
+    let most = c.args.around.now.is_run.few_writes in
+    omega (arith, long, most)
+    in
     let law = c.a_session_that_ends_has_traced.ensures in
     let marks = sym c.finish.ensures.marks in
     record {
-      marks_are = subst (AreMarks g.P.Program.events config g.P.Program.writes c.args.opened) marks (law.marks g.P.Program.events g.P.Program.writes before info config c.args.opened t.0 session t.1 none);
-      whole = λ is. subst (λ m. TookTraced g.S.Sink.tells_taken g.S.Sink.taken before info g.P.Program.events config g.P.Program.writes m c.finish.result.sink) marks
-          (law.whole g.P.Program.events g.P.Program.writes before info config c.args.opened t.0 session c.now.result fate.ProgramEnd c.finish.result.fate c.finish.result.sink few t.1 none c.finish.ensures.ended is);
-      part = λ is. subst (λ m. TookTracedPart g.S.Sink.tells_taken g.S.Sink.taken before info g.P.Program.events config g.P.Program.writes m c.finish.result.sink) marks
-          (law.part g.P.Program.events g.P.Program.writes before info config c.args.opened t.0 session c.now.result fate.ProgramEnd c.finish.result.fate c.finish.result.sink t.1 none c.finish.ensures.ended refl is);
-      too_long = λ is. subst (λ m. FRAMED_EVENTS < taken_of m) marks
-          (law.too_long g.P.Program.events g.P.Program.writes before info config c.args.opened t.0 session c.now.result fate.ProgramEnd c.finish.result.fate c.finish.result.sink t.1 none c.finish.ensures.ended not_long is);
+      before = t.before;
+      begins = t.begins;
+      whole = subst (AllByRecursion (IsWhole to)) marks (c.close_all.ensures.marks to is (subst (AllByRecursion (IsWhole to)) (sym c.requires.marks) (record {})));
+      traced =
+          record {
+            marks_are = subst (AreMarks events run.config writes opened) marks (law.marks events writes t.before run.info run.config opened t.told session t.tracing none);
+            whole = λ fine. subst (λ m. TookTraced tells taken t.before run.info events run.config writes m c.finish.result.sink) marks
+                (law.whole events writes t.before run.info run.config opened t.told session c.now.result fate.ProgramEnd c.finish.result.fate c.finish.result.sink few t.tracing none c.finish.ensures.ended fine);
+            part = λ failed. subst (λ m. TookTracedPart tells taken t.before run.info events run.config writes m c.finish.result.sink) marks
+                (law.part events writes t.before run.info run.config opened t.told session c.now.result fate.ProgramEnd c.finish.result.fate c.finish.result.sink t.tracing none c.finish.ensures.ended refl failed);
+            too_long = λ long. subst (λ m. FRAMED_EVENTS < taken_of m) marks
+                (law.too_long events writes t.before run.info run.config opened t.told session c.now.result fate.ProgramEnd c.finish.result.fate c.finish.result.sink t.tracing none c.finish.ensures.ended not_long long);
+          };
+      well = ends-well tells taken g.S.Sink.write_faults run.faults c.now.result session c.finish.result.fate c.finish.result.sink c.finish.ensures.ended c.finish.ensures.later t.says;
     }
   where
     not_long : fate.ProgramEnd ≡ fate.TooLong → ⊥
     not_long e = cc
-
-pub returns-clause-whole : goal.returns-clause-whole
-returns-clause-whole g c to is all = subst (AllByRecursion (IsWhole to)) (sym c.finish.ensures.marks) (c.close_all.ensures.marks to is all)
-
-pub returns-clause-well : goal.returns-clause-well
-returns-clause-well g c was says =
-    ends-well g.S.Sink.tells_taken g.S.Sink.taken g.S.Sink.write_faults was c.now.result c.close_all.new.session c.finish.result.fate c.finish.result.sink
-    c.finish.ensures.ended c.finish.ensures.later (c.close_all.ensures.goes.faults_are was says)

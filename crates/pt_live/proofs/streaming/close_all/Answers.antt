@@ -2,7 +2,7 @@ use Rattle.std.proofs.Common.{◌∙◌, ◌+◌, None, refl, sym, ap, subst, ar
 use Rattle.std.specs.List.{AllByRecursion}
 use Rattle.ep_stream.specs.Session.{Rest, rest_of}
 use Rattle.pt_live.specs.Trace.{IsWhole}
-use Rattle.pt_live.proofs.Steps.{detached-weaker, goes-by, goes-more, goes-on, marks-more, open-closed}
+use Rattle.pt_live.proofs.Steps.{detached-weaker, marks-more, open-closed, told-by, told-more}
 use Rattle.pt_live.proofs.streaming.close_all.Goals as goal
 
 pub loop-place-preserved : goal.loop-place-preserved
@@ -13,9 +13,7 @@ loop-place-preserved g c =
     let place = c.loop-place.place in
     let inv = c.loop-place.invariant in
     let d = c.detach.ensures.detached in
-    let tells = g.S.Sink.tells_taken in
-    let taken = g.S.Sink.taken in
-    let faults = g.S.Sink.write_faults in
+    let run = g.P.Run.run in
     let events = g.P.Program.events in
     let writes = g.P.Program.writes in
     let opened = c.args.opened in
@@ -32,16 +30,15 @@ loop-place-preserved g c =
           (marks-more (IsWhole to) d.marks (rest_of old).marks
           (record { from = d.marked.from ∙ inv.is_open.hands.from (place + 1) d.hand d.was; to_is = d.tested_marks.1 to (inv.stands ∙ is) })
           (inv.marks to is all));
-      goes =
-          goes-on tells taken faults events writes opened opened opened c.args.session.now old new inv.goes
-          (goes-on tells taken faults events writes opened opened opened old mid new
-          (goes-more tells taken faults events writes opened old mid c.detach.result
-          (λ before info config told t. c.a_closed_row_is_traced.ensures events c.args.events.now writes before info config opened told (place + 1) None None old mid c.detach.result
-          (c.requires.events ∙ sym c.requires.run) t
-          (detached-weaker _ _ _ _ _ c.args.events.now (place + 1) old mid (λ marks passed. passed.0) d)
+      told =
+          told-by g.S.Sink run g.P.Program.events g.P.Program.writes opened opened mid new
+          (λ before told t. c.a_call_that_takes_nothing_changes_no_trace.ensures events writes before run.info run.config opened told mid new 0 t c.give.ensures.hands c.give.ensures.rest c.give.ensures.writer)
+          c.give.ensures.writer
+          (told-more g.S.Sink run g.P.Program.events g.P.Program.writes opened old mid c.detach.result
+          (λ before told t. c.a_closed_row_is_traced.ensures events c.args.around.now.events.now writes before run.info run.config opened told (place + 1) None None old mid c.detach.result
+          (c.args.around.now.events_are ∙ sym c.args.around.now.is_run.events_are) t
+          (detached-weaker _ _ _ _ _ c.args.around.now.events.now (place + 1) old mid (λ marks passed. passed.0) d)
           c.detach.ensures.faulty)
-          c.detach.ensures.faulty)
-          (goes-by tells taken faults events writes opened opened mid new
-          (λ before info config told t. c.a_call_that_takes_nothing_changes_no_trace.ensures events writes before info config opened told mid new 0 t c.give.ensures.hands c.give.ensures.rest c.give.ensures.writer)
-          c.give.ensures.writer));
+          c.detach.ensures.faulty
+          inv.told);
     }

@@ -1,8 +1,0 @@
-use Rattle.std.proofs.Common.{refl}
-use Rattle.std.proofs.Math.Nat.{sub-zero}
-use Rattle.ep_gen.specs.Schedule.{generated}
-use Rattle.ep_gen.proofs.generator.Gen.new.Goals as goal
-
-pub returns : goal.returns
-unfolding generated
-returns c = rw (sub-zero c.args.rounds) refl

@@ -1,0 +1,122 @@
+-- A fault has its cause, whatever the command is.
+use Rattle.std.proofs.Common.{◌≡◌, ℕ, ◌⊎◌, refl, ap, inl, inr, Option, Some, None}
+use Rattle.std.specs.Prelude.{true, false, ◌≢◌}
+use Rattle.pt_io.specs.declared.caller.Caller.{Ghosts as Caller}
+use Rattle.pt_io.specs.declared.sink.Sink.{Ghosts as Sink}
+use Rattle.pt_io.specs.declared.source.Source.{Ghosts as Source}
+use Rattle.pt_io.specs.Faults.{HasRisen}
+use Rattle.pt_command.specs.declared.end.End.{End}
+use Rattle.pt_command.specs.declared.end.End.TheVariants as ends
+use Rattle.pt_command.specs.Answers.{HasCauses}
+use Rattle.pt_command.specs.Says.{SaysLine}
+use Rattle.pt_cli.specs.declared.words.Command.{Command}
+use Rattle.pt_cli.specs.declared.words.Command.TheVariants as command
+use Rattle.pt_cli.specs.Errors.{words_error}
+use Rattle.pt_cli.specs.Program.{Around, ComesTo, HasFaults, PlainComesTo}
+use Rattle.pt_cli.specs.Words.{is_plain, reads_input}
+
+-- A command that left the input alone.
+unread-causes : {I O : Type 0} (source : Source I) (sink : Sink O) (input_old input_new : I) (old new : O) (end : End)
+    → input_new ≡ input_old → end ≢ ends.ReadFault
+    → (end ≡ ends.WriteFault → HasRisen (sink.write_faults old) (sink.write_faults new))
+    → (end ≢ ends.WriteFault → sink.write_faults new ≡ sink.write_faults old)
+    → HasCauses source sink input_old input_new old new end
+unread-causes source sink input_old input_new old new end same read fault sound =
+    record { read_fault = λ is. absurd (read is); all_read = λ _. ap source.read_faults same; write_fault = fault; all_written = sound }
+
+line-unread : {O : Type 0} (sink : Sink O) (old new : O) (end : End) → SaysLine sink old new words_error ends.Words end → end ≢ ends.ReadFault
+line-unread sink old new end (inl (inl said)) other = let is = said.0 in cc
+line-unread sink old new end (inl (inr broke)) other = let is = broke.0 in cc
+line-unread sink old new end (inr none) other = let is = none.0 in cc
+
+line-fault : {O : Type 0} (sink : Sink O) (old new : O) (end : End) → SaysLine sink old new words_error ends.Words end
+    → end ≡ ends.WriteFault → HasRisen (sink.write_faults old) (sink.write_faults new)
+line-fault sink old new end (inl (inl said)) other = let is = said.0 in absurd (cc)
+line-fault sink old new end (inl (inr broke)) other = broke.1.fault
+line-fault sink old new end (inr none) other = let is = none.0 in absurd (cc)
+
+line-sound : {O : Type 0} (sink : Sink O) (old new : O) (end : End) → SaysLine sink old new words_error ends.Words end
+    → end ≢ ends.WriteFault → sink.write_faults new ≡ sink.write_faults old
+line-sound sink old new end (inl (inl said)) other = said.1.sound
+line-sound sink old new end (inl (inr broke)) other = absurd (other broke.0)
+line-sound sink old new end (inr none) other = ap sink.write_faults none.1
+
+line-causes : {I O : Type 0} (source : Source I) (sink : Sink O) (input_old input_new : I) (old new : O) (end : End)
+    → input_new ≡ input_old → SaysLine sink old new words_error ends.Words end → HasCauses source sink input_old input_new old new end
+line-causes source sink input_old input_new old new end same line =
+    unread-causes source sink input_old input_new old new end same (line-unread sink old new end line) (line-fault sink old new end line) (line-sound sink old new end line)
+
+gen-unread : (end : End) → (end ≡ ends.Done) ⊎ (end ≡ ends.WriteFault) ⊎ (end ≡ ends.OutOfMemory) → end ≢ ends.ReadFault
+gen-unread end (inl is) other = cc
+gen-unread end (inr (inl is)) other = cc
+gen-unread end (inr (inr is)) other = cc
+
+pub plain-causes : {I O : Type 0} (source : Source I) (sink : Sink O) (asked : Option Command) (input_old input_new : I) (old new : O) (end : End)
+    → PlainComesTo source sink asked input_old input_new old new end → (reads_input asked ≡ false → input_new ≡ input_old)
+    → HasCauses source sink input_old input_new old new end
+plain-causes source sink (Some (command.Replay session)) input_old input_new old new end comes alone = comes.answers.causes
+plain-causes source sink (Some command.Report) input_old input_new old new end comes alone = comes.answers.causes
+plain-causes source sink (Some (command.Gen asked)) input_old input_new old new end comes alone =
+    unread-causes source sink input_old input_new old new end (alone refl) (gen-unread end comes.ends) comes.write_fault comes.all_written
+plain-causes source sink (Some (command.Trace asked)) input_old input_new old new end comes alone = line-causes source sink input_old input_new old new end (alone refl) comes
+plain-causes source sink (Some (command.Client asked)) input_old input_new old new end comes alone = line-causes source sink input_old input_new old new end (alone refl) comes
+plain-causes source sink None input_old input_new old new end comes alone = line-causes source sink input_old input_new old new end (alone refl) comes
+
+-- A command that waits for somebody is refused there.
+pub plain-words : {I O : Type 0} (source : Source I) (sink : Sink O) (asked : Option Command) (input_old input_new : I) (old new : O) (end : End)
+    → is_plain asked ≡ false → PlainComesTo source sink asked input_old input_new old new end → SaysLine sink old new words_error ends.Words end
+plain-words source sink (Some (command.Replay session)) input_old input_new old new end is comes = absurd (cc)
+plain-words source sink (Some command.Report) input_old input_new old new end is comes = absurd (cc)
+plain-words source sink (Some (command.Gen asked)) input_old input_new old new end is comes = absurd (cc)
+plain-words source sink (Some (command.Trace asked)) input_old input_new old new end is comes = comes
+plain-words source sink (Some (command.Client asked)) input_old input_new old new end is comes = comes
+plain-words source sink None input_old input_new old new end is comes = comes
+
+trace-unread : (end : End) → (end ≡ ends.Done) ⊎ (end ≡ ends.WriteFault) ⊎ (end ≡ ends.OutOfMemory) ⊎ (end ≡ ends.TooLong) → end ≢ ends.ReadFault
+trace-unread end (inl is) other = cc
+trace-unread end (inr (inl is)) other = cc
+trace-unread end (inr (inr (inl is))) other = cc
+trace-unread end (inr (inr (inr is))) other = cc
+
+client-unread : (end : End) → (end ≡ ends.Done) ⊎ (end ≡ ends.WriteFault) ⊎ (end ≡ ends.LinkFault)
+    ⊎ ((code : ℕ) × (end ≡ ends.PeerError code)) ⊎ ((at : ℕ) × (end ≡ ends.BadReply at)) ⊎ (end ≡ ends.OutOfMemory) → end ≢ ends.ReadFault
+client-unread end (inl is) other = cc
+client-unread end (inr (inl is)) other = cc
+client-unread end (inr (inr (inl is))) other = cc
+client-unread end (inr (inr (inr (inl error)))) other = let is = error.1 in cc
+client-unread end (inr (inr (inr (inr (inl bad))))) other = let is = bad.1 in cc
+client-unread end (inr (inr (inr (inr (inr is))))) other = cc
+
+-- The causes of a command that reads the input, or leaves it alone.
+reading-faults : {I O : Type 0} (source : Source I) (sink : Sink O) (asked : Option Command) (input_old input_new : I) (old new : O) (end : End)
+    → (end ≡ ends.ReadFault → reads_input asked ≡ true) → HasCauses source sink input_old input_new old new end → HasFaults source sink asked input_old input_new old new end
+reading-faults source sink asked input_old input_new old new end reads causes =
+    record { reads = reads; read_fault = causes.read_fault; all_read = causes.all_read; write_fault = causes.write_fault; all_written = λ _. causes.all_written }
+
+pub comes-faults : {I O K L : Type 0} (source : Source I) (sink : Sink O) (caller : Caller K L) (reads : Source L) (takes : Sink L) (asked : Option Command) (a : Around I O K L) (end : End)
+    → ComesTo source sink caller reads takes asked a end → (reads_input asked ≡ false → a.input_new ≡ a.input_old)
+    → HasFaults source sink asked a.input_old a.input_new a.output_old a.output_new end
+comes-faults source sink caller reads takes (Some (command.Replay session)) a end comes alone =
+    reading-faults source sink (Some (command.Replay session)) a.input_old a.input_new a.output_old a.output_new end (λ _. refl) comes.answers.causes
+comes-faults source sink caller reads takes (Some command.Report) a end comes alone =
+    reading-faults source sink (Some command.Report) a.input_old a.input_new a.output_old a.output_new end (λ _. refl) comes.answers.causes
+comes-faults source sink caller reads takes (Some (command.Gen asked)) a end comes alone =
+    let read = gen-unread end comes.ends in
+    reading-faults source sink (Some (command.Gen asked)) a.input_old a.input_new a.output_old a.output_new end (λ is. absurd (read is))
+    (unread-causes source sink a.input_old a.input_new a.output_old a.output_new end (alone refl) read comes.write_fault comes.all_written)
+comes-faults source sink caller reads takes (Some (command.Trace asked)) a end comes alone =
+    let read = trace-unread end comes.ends in
+    record {
+      reads = λ is. absurd (read is);
+      read_fault = λ is. absurd (read is);
+      all_read = λ _. ap source.read_faults (alone refl);
+      write_fault = comes.write_fault;
+      all_written = λ runs other. absurd (cc);
+    }
+comes-faults source sink caller reads takes (Some (command.Client asked)) a end comes alone =
+    let read = client-unread end comes.ends in
+    reading-faults source sink (Some (command.Client asked)) a.input_old a.input_new a.output_old a.output_new end (λ is. absurd (read is))
+    (unread-causes source sink a.input_old a.input_new a.output_old a.output_new end (alone refl) read comes.write_fault comes.all_written)
+comes-faults source sink caller reads takes None a end comes alone =
+    reading-faults source sink None a.input_old a.input_new a.output_old a.output_new end (λ is. absurd (line-unread sink a.output_old a.output_new end comes is))
+    (line-causes source sink a.input_old a.input_new a.output_old a.output_new end (alone refl) comes)

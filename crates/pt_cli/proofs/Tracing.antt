@@ -1,0 +1,101 @@
+-- What the command `trace` comes to by how its session ended.
+use Rattle.std.proofs.Common.{◌≡◌, ℕ, ◌≤◌, refl, sym, ap, ◌∙◌, inl, inr, subst, arith}
+use Rattle.std.specs.Prelude.{true}
+use Rattle.ep_defs.specs.Session.{standard_info_of}
+use Rattle.ep_live_laws.specs.Tracing.{is_fault}
+use Rattle.ep_stream.specs.declared.session.Fate.{Fate}
+use Rattle.ep_stream.specs.declared.session.Fate.TheVariants as fates
+use Rattle.pt_io.specs.declared.sink.Sink.{Ghosts as Sink}
+use Rattle.pt_command.specs.declared.end.End.{End}
+use Rattle.pt_command.specs.declared.end.End.TheVariants as ends
+use Rattle.pt_live.specs.declared.trace.TraceEnd.{TraceEnd}
+use Rattle.pt_live.specs.Trace.{AreWhole, HasMarks, Traced}
+use Rattle.pt_cli.specs.declared.trace_words.Asked.{Asked}
+use Rattle.pt_cli.specs.Traced.{IsEndOf, TracesTo}
+
+pub traces-to : {O : Type 0} (sink : Sink O) (asked : Asked) (old new : O) (run : TraceEnd) (fate : Fate) (end : End) → run.fate ≡ fate → IsEndOf fate end
+    → Traced sink (standard_info_of 1 1) asked.plan asked.config old new run → TracesTo sink asked old new run.rows.items run.marks end
+traces-to sink asked old new run fates.ProgramEnd end fate_is is traced =
+    record {
+      done = λ _. traced.whole fate_is;
+      part = λ either. elim either [
+        | inl other ↦ absurd (cc)
+        | inr other ↦ absurd (cc)
+      ];
+      memory = λ other. absurd (cc);
+      written = λ _. traced.rows;
+      whole = λ _. elim traced.marks [
+        | inl whole ↦ whole
+        | inr none ↦ let failed = none.0 in absurd (cc)
+      ];
+      whole_or_none = λ either. elim either [
+        | inl other ↦ absurd (cc)
+        | inr other ↦ absurd (cc)
+      ];
+      too_long = λ other. absurd (cc);
+      short = λ few other. cc;
+      write_fault = λ other. absurd (cc);
+      ends = inl is;
+    }
+traces-to sink asked old new run fates.LinkFault end fate_is is traced =
+    record {
+      done = λ other. absurd (cc);
+      part = λ _. traced.part (ap is_fault fate_is);
+      memory = λ other. absurd (cc);
+      written = λ _. traced.rows;
+      whole = λ either. elim either [
+        | inl other ↦ absurd (cc)
+        | inr other ↦ absurd (cc)
+      ];
+      whole_or_none = λ _. elim traced.marks [
+        | inl whole ↦ inl whole
+        | inr none ↦ inr none.1
+      ];
+      too_long = λ other. absurd (cc);
+      short = λ few other. cc;
+      write_fault = λ _. traced.link_fault fate_is;
+      ends = inr (inl is);
+    }
+traces-to sink asked old new run fates.TooLong end fate_is is traced =
+    let long = traced.too_long fate_is in
+    record {
+      done = λ other. absurd (cc);
+      part = λ _. traced.part (ap is_fault fate_is);
+      memory = λ other. absurd (cc);
+      written = λ _. traced.rows;
+      whole = λ _. elim traced.marks [
+        | inl whole ↦ whole
+        | inr none ↦ let failed = none.0 in absurd (cc)
+      ];
+      whole_or_none = λ either. elim either [
+        | inl other ↦ absurd (cc)
+        | inr other ↦ absurd (cc)
+      ];
+      too_long = λ _. long;
+      short = λ few _. omega (arith, few, long.taken, long.admitted, long.written);
+      write_fault = λ other. absurd (cc);
+      ends = inr (inr (inr is));
+    }
+traces-to sink asked old new run fates.OutOfMemory end fate_is is traced =
+    record {
+      done = λ other. absurd (cc);
+      part = λ either. elim either [
+        | inl other ↦ absurd (cc)
+        | inr other ↦ absurd (cc)
+      ];
+      memory = λ _ tells. inl (traced.part (ap is_fault fate_is) tells);
+      written = λ other. absurd (other is);
+      whole = λ either. elim either [
+        | inl other ↦ absurd (cc)
+        | inr other ↦ absurd (cc)
+      ];
+      whole_or_none = λ _. elim traced.marks [
+        | inl whole ↦ inl whole
+        | inr none ↦ inr none.1
+      ];
+      too_long = λ other. absurd (cc);
+      short = λ few other. cc;
+      write_fault = λ other. absurd (cc);
+      ends = inr (inr (inl is));
+    }
+traces-to sink asked old new run (fates.Requested conn) end fate_is is traced = absurd is

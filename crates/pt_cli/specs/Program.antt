@@ -1,0 +1,59 @@
+-- What the program comes to, and what holds of it whatever the command is.
+use Rattle.std.specs.Prelude.{◌≡◌, ◌≢◌, ℕ, true, false, List, [], Option, Some, None}
+use Rattle.ep_defs.specs.declared.session.Marks.{Marks}
+use Rattle.pt_io.specs.declared.caller.Caller.{Ghosts as Caller}
+use Rattle.pt_io.specs.declared.sink.Sink.{Ghosts as Sink}
+use Rattle.pt_io.specs.declared.source.Source.{Ghosts as Source}
+use Rattle.pt_io.specs.Faults.{HasRisen}
+use Rattle.pt_command.specs.declared.end.End.{End}
+use Rattle.pt_command.specs.declared.end.End.TheVariants as ends
+use Rattle.pt_command.specs.Says.{SaysLine}
+use Rattle.pt_client.specs.Answers.{Asks}
+use Rattle.pt_gen.specs.Command.{Generates}
+use Rattle.pt_replay.specs.Command.{Replays}
+use Rattle.pt_report.specs.Command.{Reports}
+use Rattle.pt_cli.specs.declared.words.Command.{Command}
+use Rattle.pt_cli.specs.declared.words.Command.TheVariants as command
+use Rattle.pt_cli.specs.Errors.{words_error}
+use Rattle.pt_cli.specs.Traced.{TracesTo}
+use Rattle.pt_cli.specs.Words.{reads_input, calls_peer, runs_threads}
+
+-- What a command comes to that waits for nobody. All others are refused there, as words are that ask for nothing.
+abbrev pub PlainComesTo : {I O : Type 0} → Source I → Sink O → Option Command → I → I → O → O → End → Type 0
+PlainComesTo source sink (Some (command.Replay session)) input_old input_new old new end = Replays source sink session input_old input_new old new end
+PlainComesTo source sink (Some command.Report) input_old input_new old new end = Reports source sink input_old input_new old new end
+PlainComesTo source sink (Some (command.Gen asked)) input_old input_new old new end = Generates sink asked old new end
+PlainComesTo source sink asked input_old input_new old new end = SaysLine sink old new words_error ends.Words end
+
+-- What the objects around the program are before it and after it, and what it answers beside its end.
+pub record Around (I O K L : Type 0) : Type 0 where
+  pub input_old : I
+  pub input_new : I
+  pub output_old : O
+  pub output_new : O
+  pub caller_old : K
+  pub caller_new : K
+  pub peer : Option L
+  pub rows : List (ℕ × ℕ)
+  pub marks : List Marks
+
+-- What any command comes to.
+abbrev pub ComesTo : {I O K L : Type 0} → Source I → Sink O → Caller K L → Source L → Sink L → Option Command → Around I O K L → End → Type 0
+ComesTo source sink caller reads takes (Some (command.Trace asked)) a end = TracesTo sink asked a.output_old a.output_new a.rows a.marks end
+ComesTo source sink caller reads takes (Some (command.Client asked)) a end =
+    Asks sink caller reads takes asked a.output_old a.output_new a.caller_old a.caller_new a.peer end
+ComesTo source sink caller reads takes asked a end = PlainComesTo source sink asked a.input_old a.input_new a.output_old a.output_new end
+
+-- A fault of the input or the output comes only from the object that was handed in, in this call.
+pub record HasFaults {I O : Type 0} (source : Source I) (sink : Sink O) (asked : Option Command) (input_old input_new : I) (output_old output_new : O) (end : End) : Type 0 where
+  pub reads : end ≡ ends.ReadFault → reads_input asked ≡ true
+  pub read_fault : end ≡ ends.ReadFault → HasRisen (source.read_faults input_old) (source.read_faults input_new)
+  pub all_read : end ≢ ends.ReadFault → source.read_faults input_new ≡ source.read_faults input_old
+  pub write_fault : end ≡ ends.WriteFault → HasRisen (sink.write_faults output_old) (sink.write_faults output_new)
+  pub all_written : runs_threads asked ≡ false → end ≢ ends.WriteFault → sink.write_faults output_new ≡ sink.write_faults output_old
+
+-- What a command has no use for is left alone.
+pub record LeavesAlone {I K L : Type 0} (asked : Option Command) (input_old input_new : I) (caller_old caller_new : K) (peer : Option L) (rows : List (ℕ × ℕ)) (marks : List Marks) : Type 0 where
+  pub unread : reads_input asked ≡ false → input_new ≡ input_old
+  pub nobody : calls_peer asked ≡ false → (peer ≡ None) × (caller_new ≡ caller_old)
+  pub untraced : runs_threads asked ≡ false → (rows ≡ []) × (marks ≡ [])

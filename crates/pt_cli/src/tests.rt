@@ -1,0 +1,4 @@
+//! The program as a whole, and its words.
+mod program;
+mod trace_words;
+mod words;

@@ -1,5 +1,0 @@
-pub mod Answers
-pub mod Errors
-pub mod Found
-pub mod Input
-pub mod state

@@ -1,0 +1,34 @@
+-- What was read of a stream.
+use Rattle.std.specs.Prelude.{◌≡◌, ℕ, List, [], Option, Some, None}
+use Rattle.ep_defs.specs.declared.item.Item.{Item}
+use Rattle.nt_blocks.specs.Ordered.{kinds_of}
+use Rattle.nt_blocks.specs.Verdict.{verdict}
+use Rattle.nt_read.specs.Answers.{items_of}
+use Rattle.nt_read.specs.Reading as reader
+use Rattle.pt_report.specs.declared.report.Report.{Report}
+use Rattle.pt_report.specs.state.Taken.{HasTaken}
+use Rattle.pt_report.specs.declared.reading.Misplaced.{Misplaced}
+use Rattle.pt_report.specs.declared.reading.Reading.{Reading}
+use Rattle.pt_report.specs.declared.reading.Outcome.{Outcome}
+use Rattle.pt_report.specs.declared.reading.Outcome.TheVariants as outcome
+use Rattle.pt_report.specs.Found.{IsMisplaced, IsReported, IsRefused}
+
+-- The report has taken the items, or one of them is the first that can't stand where it does.
+abbrev pub IsChecked : List Item → Report → Option Misplaced → Type 0
+IsChecked items report None = HasTaken (kinds_of items) report
+IsChecked items report (Some misplaced) = IsMisplaced items misplaced.at misplaced.kind
+
+-- These bytes were read.
+pub record HasRead (bytes : List ℕ) (reading : Reading) : Type 0 where
+  pub read : reader.HasRead bytes reading.reader
+  pub checked : IsChecked (items_of (verdict bytes)) reading.report reading.misplaced
+  pub no_items : reading.items.items ≡ []
+
+-- How many bytes were read.
+abbrev pub used : Reading → ℕ
+used reading = reader.used reading.reader
+
+-- The bytes come to this.
+abbrev pub IsOutcome : List ℕ → Outcome → Type 0
+IsOutcome bytes (outcome.Report text) = IsReported bytes text.items
+IsOutcome bytes (outcome.Refused refusal) = IsRefused bytes refusal

@@ -1,5 +1,0 @@
-mod Ascending
-mod Balance
-mod Lines
-mod Numbers
-mod Sessions

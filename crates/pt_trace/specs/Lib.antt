@@ -1,3 +1,0 @@
--- to be believed
-pub mod Words
-pub mod Traced
