@@ -17,7 +17,7 @@ use Rattle.ep_model.specs.Entries.{entries}
 use Rattle.ep_model.specs.Faithful.{shares_of}
 use Rattle.ep_model.specs.History.{Past, is_finished}
 use Rattle.ep_model.specs.Marks.{marks_of}
-use Rattle.ep_faithful.specs.Faithful.{Faithful}
+use Rattle.nt_laws.specs.Faithful.{Faithful}
 use Rattle.ep_core.specs.declared.ended.Ended.{Ended}
 use Rattle.ep_core.specs.state.Works.{EndedFollows, EndedAt}
 use Rattle.ep_core.specs.Streams.{IsStreamOf}

@@ -8,7 +8,7 @@ use Rattle.nt_write.specs.Canonical.{IsCanonical}
 use Rattle.ep_model.specs.Entries.{entries}
 use Rattle.ep_model.specs.Faithful.{shares_of}
 use Rattle.ep_model.specs.History.{Past}
-use Rattle.ep_faithful.specs.Faithful.{Faithful}
+use Rattle.nt_laws.specs.Faithful.{Faithful}
 
 -- The bytes are the one stream of the session's entries. They are found to be a whole stream, in whose items each name is
 -- defined before its use, and the items tell of each thread exactly the writes that the session admitted, less those that

@@ -2,7 +2,7 @@
 //!
 //! `work` makes a step in the tables of sessions, threads and rows, and `machine` asks first what stands against it and
 //! keeps what is left of finished sessions (`ended`). It stands on ep_made, for the steps, ep_judge, for what stands
-//! against them, and on the laws of ep_stands, ep_rests, ep_stream_laws and ep_faithful. `specs/Machine` says what the machine has
+//! against them, and on the laws of ep_stands, ep_rests, ep_stream_laws and nt_laws. `specs/Machine` says what the machine has
 //! come to, and `specs/Streams` what the stream of a finished session is.
 //!
 //! Its one contract: after every lawful list of steps the stream of a finished session is the canonical one of its

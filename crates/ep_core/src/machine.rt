@@ -14,7 +14,7 @@ ghost use Rattle.ep_core.specs.state.Works.{Works, CanGoOn, EndedFollow, Standin
 use crate::ended::Ended;
 use crate::work::Work;
 use ep_defs::{EventDef, Marks, TraceInfo};
-use ep_faithful::a_faithful_stream_is_found;
+use nt_laws::a_faithful_stream_is_found;
 use ep_judge::objection;
 use ep_model::laws::{finished_sessions_are_faithful, other_sessions_steps_do_not_matter};
 use ep_model::{Step, Unlawful};

@@ -1,12 +1,11 @@
 -- What a session had of the threads, and what each call makes of it.
-use Rattle.std.proofs.Common.{◌≡◌, ℕ, zero, suc, ◌+◌, ◌<◌, ◌≤◌, true, false, inl, inr, arith}
-use Rattle.std.specs.Prelude.{◌==◌, if◌then◌else◌}
-use Rattle.std.specs.List.{range_with_len}
-use Rattle.std.proofs.lemmas.Bool.{ne_eqb, eqb-true, eqb-false, or_cases, false_from_ne_true}
-use Rattle.ep_model.proofs.Ascending.{AreAbove, IsAscending}
-use Rattle.ep_model.proofs.Lists.{has, has_within}
-use Rattle.ep_stream.specs.Rows.{IsRow}
-use Rattle.ep_live_laws.specs.Tracing.{Account}
+use Rattle.std.proofs.Common.{◌≡◌, ℕ, ◌+◌, ◌<◌, ◌≤◌, true, false, inl, inr, List, [], ◌∷◌, refl, sym, ◌∙◌, subst, arith}
+use Rattle.std.specs.Prelude.{◌==◌, if◌then◌else◌, nat_lt}
+use Rattle.std.proofs.lemmas.Bool.{cases_eq, eq-eqb, ne_eqb, eqb-true, eqb-false, ltb-true, ltb-false, or_cases, or_left, or_right}
+use Rattle.ep_model.specs.History.{insert_ascending}
+use Rattle.ep_model.proofs.Ascending.{AreAbove, IsAscending, above_less}
+use Rattle.ep_model.proofs.Lists.{any_inserted, has}
+use Rattle.ep_live_laws.specs.Tracing.{Account, AreAscending, IsOneOf}
 
 -- ---- changes
 
@@ -42,39 +41,48 @@ with_point accounts t = let account = accounts t in record account { is_named = 
 
 -- ---- threads
 
-pub range-has : (t first count : ℕ) → has t (range_with_len first count) ≡ true → (first ≤ t) × (t < first + count)
-range-has t first zero is = cc
-range-has t first (suc count) is =
-    elim (or_cases (first == t) (has t (range_with_len (first + 1) count)) is) [
-      | inl same ↦ let e = eqb-true first t same in (omega arith, omega arith)
-      | inr later ↦ let h = range-has t (first + 1) count later in (omega arith, omega arith)
+-- One thread more is put among the others, and these stay.
+pub one-here : (n : ℕ) (threads : List ℕ) → IsOneOf (insert_ascending n threads) n
+one-here n threads = any_inserted (λ t. t == n) n threads ∙ or_left (n == n) (has n threads) (eq-eqb n n refl)
+
+pub one-more : (n t : ℕ) (threads : List ℕ) → IsOneOf threads t → IsOneOf (insert_ascending n threads) t
+one-more n t threads is = any_inserted (λ x. x == t) n threads ∙ or_right (n == t) (has t threads) is
+
+-- One of one thread more is that one or was one before.
+pub one-before : (n t : ℕ) (threads : List ℕ) → IsOneOf (insert_ascending n threads) t → (t == n) ≡ false → IsOneOf threads t
+one-before n t threads is other =
+    elim (or_cases (n == t) (has t threads) (sym (any_inserted (λ x. x == t) n threads) ∙ is)) [
+      | inl same ↦ absurd (eqb-false t n other (sym (eqb-true n t same)))
+      | inr later ↦ later
     ]
 
--- The threads on which a session was opened are numbered from 1.
-pub row-has : (opened t : ℕ) → IsRow opened t → has t (range_with_len 1 opened) ≡ true
-row-has opened t row = has_within t 1 opened (omega (arith, row.0)) (omega (arith, row.1))
+-- A thread that stands in the list is no other that does not.
+pub one-apart : (n t : ℕ) (threads : List ℕ) → (IsOneOf threads n → ⊥) → IsOneOf threads t → (t == n) ≡ false
+one-apart n t threads none is = ne_eqb t n (λ same. none (subst (IsOneOf threads) same is))
 
-pub has-row : (opened t : ℕ) → has t (range_with_len 1 opened) ≡ true → IsRow opened t
-has-row opened t is = let h = range-has t 1 opened is in (omega (arith, h.0), omega (arith, h.1))
+-- ---- threads that ascend
 
-range-above : (n first count : ℕ) → n < first → AreAbove n (range_with_len first count)
-range-above n first zero less = tt
-range-above n first (suc count) less = (less, range-above n (first + 1) count (omega arith))
+pub ascending-same : (threads : List ℕ) → AreAscending threads → IsAscending threads
+ascending-same [] up = tt
+ascending-same (t ∷ threads) up = (up.0, ascending-same threads up.1)
 
-pub range-ascending : (first count : ℕ) → IsAscending (range_with_len first count)
-range-ascending first zero = tt
-range-ascending first (suc count) = (range-above first (first + 1) count (omega arith), range-ascending (first + 1) count)
+-- They ascend with one more in its place.
+pub ascending-insert : (n : ℕ) (threads : List ℕ) → (IsOneOf threads n → ⊥) → AreAscending threads → AreAscending (insert_ascending n threads)
+ascending-insert n [] none up = (tt, tt)
+ascending-insert n (t ∷ threads) none up =
+    elim (nat_lt n t) as (λ v. nat_lt n t ≡ v → AreAscending (if v then n ∷ t ∷ threads else t ∷ insert_ascending n threads)) [
+      | true ↦ λ is. let less = ltb-true n t is in ((less, above_less n t threads less up.0), up)
+      | false ↦ λ is.
+          let most = ltb-false n t is in
+          let less : t < n = le-apart t n most (λ same. none (or_left (t == n) (has n threads) (eq-eqb t n same))) in
+          (above-insert t n threads less up.0, ascending-insert n threads (λ later. none (or_right (t == n) (has n threads) later)) up.1)
+    ] refl
+  where
+    le-apart : (t n : ℕ) → t ≤ n → (t ≡ n → ⊥) → t < n
+    le-apart t n most apart = elim (cases_eq t n) [ inl same ↦ absurd (apart same) | inr other ↦ omega (arith, most, other) ]
 
--- The next thread is none of them.
-pub row-next : (opened t : ℕ) → IsRow opened t → (t == opened + 1) ≡ false
-row-next opened t row = ne_eqb t (opened + 1) (λ same. omega (arith, row.1, same))
-
--- One of one thread more is the last of them or was one before.
-pub row-before : (opened t : ℕ) → IsRow (opened + 1) t → (t == opened + 1) ≡ false → IsRow opened t
-row-before opened t row other = let apart = eqb-false t (opened + 1) other in (row.0, omega (arith, row.1, apart))
-
-pub row-more : (opened t : ℕ) → IsRow opened t → IsRow (opened + 1) t
-row-more opened t row = (row.0, omega (arith, row.1))
-
-pub next-fresh : (opened : ℕ) → has (opened + 1) (range_with_len 1 opened) ≡ false
-next-fresh opened = false_from_ne_true (has (opened + 1) (range_with_len 1 opened)) (λ is. let row = has-row opened (opened + 1) is in omega (arith, row.1))
+    above-insert : (t n : ℕ) (xs : List ℕ) → t < n → AreAbove t xs → AreAbove t (insert_ascending n xs)
+    above-insert t n [] less above = (less, tt)
+    above-insert t n (x ∷ xs) less above =
+        elim (nat_lt n x) as (λ v. AreAbove t (if v then n ∷ x ∷ xs else x ∷ insert_ascending n xs))
+        [ true ↦ (less, above) | false ↦ (above.0, above-insert t n xs less above.1) ]

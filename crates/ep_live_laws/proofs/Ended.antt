@@ -1,14 +1,13 @@
 -- What a session's sink took once the session was ended.
-use Rattle.std.proofs.Common.{◌≡◌, ℕ, ◌<◌, ◌≤◌, Bool, true, false, List, [], ◌∷◌, ◌++◌, length, Option, Some, None, refl, ap, sym, ◌∙◌, subst, arith, append_assoc}
+use Rattle.std.proofs.Common.{◌≡◌, ℕ, ◌<◌, ◌≤◌, false, List, [], ◌∷◌, ◌++◌, length, Option, Some, None, refl, ap, sym, ◌∙◌, subst, arith, append_assoc}
 use Rattle.std.specs.Prelude.{Result, Ok, Err, OnOk, OnErr}
 use Rattle.std.specs.List.{sum_by}
+use Rattle.std.proofs.lemmas.List.{append-nil}
 use Rattle.ep_defs.specs.declared.limits.TheConstants.{WRITES}
-use Rattle.ep_defs.specs.declared.event.EventDef.{EventDef}
-use Rattle.ep_defs.specs.declared.session.Config.{Config}
 use Rattle.ep_defs.specs.declared.session.Marks.{Marks}
 use Rattle.ep_defs.specs.declared.session.TraceInfo.{TraceInfo}
-use Rattle.ep_defs.specs.declared.session.Write.{Write}
 use Rattle.ep_defs.specs.Entry.{Entry, Point}
+use Rattle.pt_io.specs.declared.sink.Sink.{Ghosts as Sink}
 use Rattle.nt_write.specs.declared.fault.Fault.{Fault}
 use Rattle.nt_write.specs.declared.fault.Fault.TheVariants.{WriteFault, TooLong, OutOfMemory}
 use Rattle.nt_write.specs.declared.limits.TheConstants.{FRAMED_EVENTS}
@@ -18,9 +17,10 @@ use Rattle.ep_stream.specs.declared.session.Fate.TheVariants as fates
 use Rattle.ep_stream.specs.declared.session.Session.{Session}
 use Rattle.ep_stream.specs.Fates.{fate_after}
 use Rattle.ep_stream.specs.Named.{numbers_of}
-use Rattle.ep_stream.specs.Session.{Ended, fault_of, hand_on, rest_of}
+use Rattle.ep_stream.specs.Session.{fault_of, hand_on, rest_of}
 use Rattle.ep_live_laws.specs.Traced.{AreMarks}
-use Rattle.ep_live_laws.specs.Tracing.{IsTracing, TellsPart, TookTraced, TookTracedPart, is_fault}
+use Rattle.ep_live_laws.specs.Calls.{EndsOver, IsOutcome}
+use Rattle.ep_live_laws.specs.Tracing.{TellsPart, TookTraced, TookTracedPart, Watch, is_fault}
 use Rattle.ep_live_laws.proofs.Ends.{all-shut, are-marks, are-part, are-traced}
 use Rattle.ep_live_laws.proofs.Framed.{framed-taken}
 use Rattle.ep_live_laws.proofs.Part.{part-front}
@@ -45,10 +45,6 @@ ended-ok (Err WriteFault) handed P none p = cc
 ended-ok (Err TooLong) handed P none p = cc
 ended-ok (Err OutOfMemory) handed P none p = cc
 
-ended-err : (answer : Result (Unit {0}) Fault) (handed : Fate) (P : Type 0) → is_fault handed ≡ false → is_fault (fate_after answer handed) ≡ true → OnErr answer P → P
-ended-err (Ok u) handed P sound failed p = cc
-ended-err (Err fault) handed P sound failed p = p
-
 ended-too-long : (answer : Result (Unit {0}) Fault) (handed : Fate) → (handed ≡ fates.TooLong → ⊥) → fate_after answer handed ≡ fates.TooLong → answer ≡ Err TooLong
 ended-too-long (Ok u) handed other is = absurd (other is)
 ended-too-long (Err WriteFault) handed other is = absurd (cc)
@@ -57,62 +53,80 @@ ended-too-long (Err OutOfMemory) handed other is = absurd (cc)
 
 -- ---- a session that ends
 
-pub ended-marks : {S : Type 0} (tells : S → Bool) (taken : S → List ℕ) (events : List EventDef) (writes : ℕ → List Write) (before : List ℕ) (info : TraceInfo) (config : Config) (opened : ℕ) (told : List Entry) (session : Session S)
-    → IsTracing tells taken before info events config writes opened told session → ((row : ℕ) → hand_on session row ≡ None) → AreMarks events config writes opened (rest_of session).marks
-ended-marks tells taken events writes before info config opened told session h none =
-    are-marks events config writes opened h.traces.accounts (hand_on session) (rest_of session).named (rest_of session).marks h.traces.keeps none
+-- The whole of a stream is a part of it.
+whole-part : {S : Type 0} (side : Sink S) (before : List ℕ) (info : TraceInfo) (entries : List Entry) (sink : S)
+    → TookStream side.tells_taken side.taken before info entries sink → TookPart side.tells_taken side.taken before info entries sink
+whole-part side before info entries sink took told =
+    let (bytes, canonical, is) = took told in (bytes, bytes, canonical, ([], append-nil bytes), is)
 
-pub ended-whole : {S : Type 0} (tells : S → Bool) (taken : S → List ℕ) (faults : S → ℕ) (events : List EventDef) (writes : ℕ → List Write) (before : List ℕ) (info : TraceInfo) (config : Config) (opened : ℕ) (told : List Entry) (session : Session S) (stamp : ℕ) (handed fate : Fate) (sink : S)
-    → ((thread : ℕ) → length (writes thread) ≤ WRITES)
-    → IsTracing tells taken before info events config writes opened told session → ((row : ℕ) → hand_on session row ≡ None)
-    → Ended tells taken faults stamp handed session fate sink → is_fault fate ≡ false
-    → TookTraced tells taken before info events config writes (rest_of session).marks sink
-ended-whole tells taken faults events writes before info config opened told session stamp handed fate sink few h none e sound =
-    let point = point_of stamp (numbers_of (rest_of session).named) in
-    let ends = e.stream before events info told h.telling in
-    let no_fault : is_fault (fate_after e.answer handed) ≡ false = ap is_fault (sym e.fate_is) ∙ sound in
-    let not_failed : fault_of session ≡ None = ended-sound e.answer handed (fault_of session) e.stays no_fault in
-    let last = pointed events config writes opened (fault_of session ≡ None) (hand_on session) (rest_of session).named (rest_of session).marks told stamp h.traces in
-    let shut = all-shut events config writes opened last.0.accounts (hand_on session) _ (rest_of session).marks last.0.keeps none in
-    record {
-      entries = told ++ Point point ∷ [];
-      stream = ended-ok e.answer handed (TookStream tells taken before info (told ++ Point point ∷ []) sink) no_fault ends.whole;
-      traced = are-traced events config writes opened last.0.accounts (hand_on session) _ (rest_of session).marks told point few last.0.keeps none (λ t row. last.1 t ∙ shut t row) last.0.part (last.0.all not_failed);
-    }
+module _ {S : Type 0} (side : Sink S) (watch : Watch) (opened : List ℕ) (handed : Fate) (session : Session S) (fate : Fate) (sink : S) (h : EndsOver side watch opened handed session fate sink) where
+  ended-marks : AreMarks watch.events watch.config watch.writes opened (rest_of session).marks
+  ended-marks =
+      let traces = h.tracing.traces in
+      are-marks watch opened traces.accounts (hand_on session) (rest_of session).named (rest_of session).marks traces.keeps h.shut
 
--- What was told before the stream broke off is of the writes that the session gets.
-told-part : {S : Type 0} (tells : S → Bool) (taken : S → List ℕ) (faults : S → ℕ) (events : List EventDef) (writes : ℕ → List Write) (before : List ℕ) (info : TraceInfo) (config : Config) (opened : ℕ) (told : List Entry) (session : Session S) (stamp : ℕ) (handed fate : Fate) (sink : S)
-    → (h : IsTracing tells taken before info events config writes opened told session) → (e : Ended tells taken faults stamp handed session fate sink)
-    → TellsPart events config writes opened h.traces.accounts (told ++ (e.stream before events info told h.telling).done)
-told-part tells taken faults events writes before info config opened told session stamp handed fate sink h e =
-    let accounts = h.traces.accounts in
-    let point = point_of stamp (numbers_of (rest_of session).named) in
-    let ends = e.stream before events info told h.telling in
-    let whole = pointed-part events config writes opened (fault_of session ≡ None) (hand_on session) (rest_of session).named (rest_of session).marks told stamp h.traces in
-    let parts : told ++ Point point ∷ [] ≡ (told ++ ends.done) ++ ends.front.0 = ap (λ es. told ++ es) (sym ends.front.1) ∙ sym (append_assoc told ends.done ends.front.0) in
-    part-front events config writes opened accounts (told ++ ends.done) ends.front.0 (subst (TellsPart events config writes opened accounts) parts whole)
+  ended-whole : is_fault fate ≡ false → ((thread : ℕ) → length (watch.writes thread) ≤ WRITES)
+      → TookTraced side watch.before watch.info watch.events watch.config watch.writes (rest_of session).marks sink
+  ended-whole sound few =
+      let e = h.ended in
+      let traces = h.tracing.traces in
+      let point = point_of h.stamp (numbers_of (rest_of session).named) in
+      let ends = e.stream watch.before watch.events watch.info h.told h.tracing.telling in
+      let no_fault : is_fault (fate_after e.answer handed) ≡ false = ap is_fault (sym e.fate_is) ∙ sound in
+      let not_failed : fault_of session ≡ None = ended-sound e.answer handed (fault_of session) e.stays no_fault in
+      let last = pointed watch opened (fault_of session ≡ None) (hand_on session) (rest_of session).named (rest_of session).marks h.told h.stamp traces in
+      let shut = all-shut watch opened last.0.accounts (hand_on session) _ (rest_of session).marks last.0.keeps h.shut in
+      record {
+        entries = h.told ++ Point point ∷ [];
+        stream = ended-ok e.answer handed (TookStream side.tells_taken side.taken watch.before watch.info (h.told ++ Point point ∷ []) sink) no_fault ends.whole;
+        traced = are-traced watch opened last.0.accounts (hand_on session) _ (rest_of session).marks h.told point few last.0.keeps h.shut (λ t is. last.1 t ∙ shut t is) last.0.part (last.0.all not_failed);
+      }
 
-pub ended-part : {S : Type 0} (tells : S → Bool) (taken : S → List ℕ) (faults : S → ℕ) (events : List EventDef) (writes : ℕ → List Write) (before : List ℕ) (info : TraceInfo) (config : Config) (opened : ℕ) (told : List Entry) (session : Session S) (stamp : ℕ) (handed fate : Fate) (sink : S)
-    → IsTracing tells taken before info events config writes opened told session → ((row : ℕ) → hand_on session row ≡ None)
-    → Ended tells taken faults stamp handed session fate sink → is_fault handed ≡ false → is_fault fate ≡ true
-    → TookTracedPart tells taken before info events config writes (rest_of session).marks sink
-ended-part tells taken faults events writes before info config opened told session stamp handed fate sink h none e asked failed =
-    let accounts = h.traces.accounts in
-    let ends = e.stream before events info told h.telling in
-    let fault : is_fault (fate_after e.answer handed) ≡ true = ap is_fault (sym e.fate_is) ∙ failed in
-    let part = told-part tells taken faults events writes before info config opened told session stamp handed fate sink h e in
-    record {
-      entries = told ++ ends.done;
-      stream = ended-err e.answer handed (TookPart tells taken before info (told ++ ends.done) sink) asked fault ends.part;
-      part = are-part events config writes opened accounts (hand_on session) (rest_of session).named (rest_of session).marks (told ++ ends.done) h.traces.keeps none part;
-    }
+  -- What was told with the last point is of the writes that the session gets.
+  told-whole : TellsPart watch opened h.tracing.traces.accounts (h.told ++ Point (point_of h.stamp (numbers_of (rest_of session).named)) ∷ [])
+  told-whole = pointed-part watch opened (fault_of session ≡ None) (hand_on session) (rest_of session).named (rest_of session).marks h.told h.stamp h.tracing.traces
 
-pub ended-spent : {S : Type 0} (tells : S → Bool) (taken : S → List ℕ) (faults : S → ℕ) (events : List EventDef) (writes : ℕ → List Write) (before : List ℕ) (info : TraceInfo) (config : Config) (opened : ℕ) (told : List Entry) (session : Session S) (stamp : ℕ) (handed fate : Fate) (sink : S)
-    → IsTracing tells taken before info events config writes opened told session → ((row : ℕ) → hand_on session row ≡ None)
-    → Ended tells taken faults stamp handed session fate sink → (handed ≡ fates.TooLong → ⊥) → fate ≡ fates.TooLong
-    → FRAMED_EVENTS < sum_by (λ (m : Marks). m.taken) (rest_of session).marks
-ended-spent tells taken faults events writes before info config opened told session stamp handed fate sink h none e other is =
-    let ends = e.stream before events info told h.telling in
-    let spent = ends.spent (ended-too-long e.answer handed other (sym e.fate_is ∙ is)) in
-    let part = told-part tells taken faults events writes before info config opened told session stamp handed fate sink h e in
-    omega (arith, spent, framed-taken events config writes opened h.traces.accounts (hand_on session) (rest_of session).named (rest_of session).marks (told ++ ends.done) h.traces.keeps none part)
+  -- So is what was told before the stream broke off.
+  told-part : TellsPart watch opened h.tracing.traces.accounts (h.told ++ (h.ended.stream watch.before watch.events watch.info h.told h.tracing.telling).done)
+  told-part =
+      let accounts = h.tracing.traces.accounts in
+      let point = point_of h.stamp (numbers_of (rest_of session).named) in
+      let ends = h.ended.stream watch.before watch.events watch.info h.told h.tracing.telling in
+      let parts : h.told ++ Point point ∷ [] ≡ (h.told ++ ends.done) ++ ends.front.0 = ap (λ es. h.told ++ es) (sym ends.front.1) ∙ sym (append_assoc h.told ends.done ends.front.0) in
+      part-front watch opened accounts (h.told ++ ends.done) ends.front.0 (subst (TellsPart watch opened accounts) parts told-whole)
+
+  -- What the sink took of such entries.
+  part-of : (entries : List Entry) → TookPart side.tells_taken side.taken watch.before watch.info entries sink → TellsPart watch opened h.tracing.traces.accounts entries
+      → TookTracedPart side watch.before watch.info watch.events watch.config watch.writes (rest_of session).marks sink
+  part-of entries took part =
+      let traces = h.tracing.traces in
+      record {
+        entries = entries;
+        stream = took;
+        part = are-part watch opened traces.accounts (hand_on session) (rest_of session).named (rest_of session).marks entries traces.keeps h.shut part;
+      }
+
+  -- After its last point, or a fault before it.
+  part-by : (answer : Result (Unit {0}) Fault) (done : List Entry)
+      → OnOk answer (TookStream side.tells_taken side.taken watch.before watch.info (h.told ++ Point (point_of h.stamp (numbers_of (rest_of session).named)) ∷ []) sink)
+      → OnErr answer (TookPart side.tells_taken side.taken watch.before watch.info (h.told ++ done) sink)
+      → TellsPart watch opened h.tracing.traces.accounts (h.told ++ done)
+      → TookTracedPart side watch.before watch.info watch.events watch.config watch.writes (rest_of session).marks sink
+  part-by (Ok u) done whole part told = part-of _ (whole-part side watch.before watch.info _ sink whole) told-whole
+  part-by (Err fault) done whole part told = part-of (h.told ++ done) part told
+
+  ended-part : TookTracedPart side watch.before watch.info watch.events watch.config watch.writes (rest_of session).marks sink
+  ended-part =
+      let ends = h.ended.stream watch.before watch.events watch.info h.told h.tracing.telling in
+      part-by h.ended.answer ends.done ends.whole ends.part told-part
+
+  ended-spent : (handed ≡ fates.TooLong → ⊥) → fate ≡ fates.TooLong → FRAMED_EVENTS < sum_by (λ (m : Marks). m.taken) (rest_of session).marks
+  ended-spent other is =
+      let e = h.ended in
+      let traces = h.tracing.traces in
+      let ends = e.stream watch.before watch.events watch.info h.told h.tracing.telling in
+      let spent = ends.spent (ended-too-long e.answer handed other (sym e.fate_is ∙ is)) in
+      omega (arith, spent, framed-taken watch opened traces.accounts (hand_on session) (rest_of session).named (rest_of session).marks (h.told ++ ends.done) traces.keeps h.shut told-part)
+
+  pub ended-outcome : IsOutcome side watch opened handed (rest_of session).marks fate sink
+  ended-outcome = record { marks_are = ended-marks; whole = ended-whole; part = ended-part; too_long = ended-spent }

@@ -1,7 +1,7 @@
 -- What a session has told that was closed on each of its rows, and then ended.
 use Rattle.std.proofs.Common.{◌≡◌, ℕ, zero, suc, ◌+◌, ◌-◌, ◌^◌, ◌<◌, ◌≤◌, Bool, true, false, List, [], ◌∷◌, ◌++◌, length, map, filter, take, drop, Option, Some, None, refl, ap, sym, ◌∙◌, subst, arith}
 use Rattle.std.specs.Prelude.{not, ◌||◌, ◌==◌, slice_get}
-use Rattle.std.specs.List.{list_any, list_all, range_with_len, AllByRecursion}
+use Rattle.std.specs.List.{list_any, list_all, AllByRecursion}
 use Rattle.std.proofs.lemmas.Bool.{eq-eqb, or_left, or_right, and_parts, and_from}
 use Rattle.std.proofs.lemmas.List.{append-nil, drop-append-le, length-take, length-drop, map-id, take-append-drop}
 use Rattle.std.proofs.lemmas.List.Elements.{filter-append}
@@ -20,10 +20,8 @@ use Rattle.ep_slot.specs.Hand.{HandState}
 use Rattle.ep_guarded.specs.Tied.{AreCounted}
 use Rattle.ep_stream_laws.proofs.Lists.{filter-all, map-mapped}
 use Rattle.ep_stream.specs.declared.opened.Named.{Named}
-use Rattle.ep_stream.specs.Rows.{IsRow}
 use Rattle.ep_live_laws.specs.Traced.{AreInPlace, AreMarks, ArePart, AreRising, AreTraced, admitted_by, contents_from, refused_by, share_by, shares_by}
-use Rattle.ep_live_laws.specs.Tracing.{Account, IsHeld, Keeps, TellsAll, TellsPart, marks_by, speaks_of}
-use Rattle.ep_live_laws.proofs.Accounts.{has-row}
+use Rattle.ep_live_laws.specs.Tracing.{Account, IsHeld, IsOneOf, Keeps, TellsAll, TellsPart, Watch, marks_by, speaks_of}
 use Rattle.ep_live_laws.proofs.Numbered.{contents-from, contents-length}
 use Rattle.ep_live_laws.proofs.Shares.{rising-up, unseen-count, unseen-kept}
 
@@ -73,26 +71,26 @@ admitted-few events config from to writes =
 
 -- ---- a session that is open nowhere
 
-pub all-shut : (events : List EventDef) (config : Config) (writes : ℕ → List Write) (opened : ℕ) (accounts : ℕ → Account) (hands : ℕ → Option HandState) (named : List Named) (marks : List Marks) → Keeps events config writes opened accounts hands named marks → ((row : ℕ) → hands row ≡ None)
-    → (t : ℕ) → IsRow opened t → (accounts t).is_open ≡ false
-all-shut events config writes opened accounts hands named marks keeps none t row = subst (IsHeld opened (accounts t) t) (none t) (keeps.held t) row
+pub all-shut : (watch : Watch) (opened : List ℕ) (accounts : ℕ → Account) (hands : ℕ → Option HandState) (named : List Named) (marks : List Marks) → Keeps watch opened accounts hands named marks → ((row : ℕ) → hands row ≡ None)
+    → (t : ℕ) → IsOneOf opened t → (accounts t).is_open ≡ false
+all-shut watch opened accounts hands named marks keeps none t is = subst (IsHeld watch.home opened accounts (watch.home t)) (none (watch.home t)) (keeps.held (watch.home t)) t is refl
 
 -- It has its marks of each thread.
-pub marks-all : (events : List EventDef) (config : Config) (writes : ℕ → List Write) (opened : ℕ) (accounts : ℕ → Account) (hands : ℕ → Option HandState) (named : List Named) (marks : List Marks) → Keeps events config writes opened accounts hands named marks → ((row : ℕ) → hands row ≡ None)
-    → marks ≡ map (marks_by accounts) (range_with_len 1 opened)
-marks-all events config writes opened accounts hands named marks keeps none =
+pub marks-all : (watch : Watch) (opened : List ℕ) (accounts : ℕ → Account) (hands : ℕ → Option HandState) (named : List Named) (marks : List Marks) → Keeps watch opened accounts hands named marks → ((row : ℕ) → hands row ≡ None)
+    → marks ≡ map (marks_by accounts) opened
+marks-all watch opened accounts hands named marks keeps none =
     keeps.marks_are
-    ∙ ap (map (marks_by accounts)) (filter-all (λ t. not (accounts t).is_open) (range_with_len 1 opened) (λ t is. ap not (all-shut events config writes opened accounts hands named marks keeps none t (has-row opened t is))))
+    ∙ ap (map (marks_by accounts)) (filter-all (λ t. not (accounts t).is_open) opened (λ t is. ap not (all-shut watch opened accounts hands named marks keeps none t is)))
 
-pub are-marks : (events : List EventDef) (config : Config) (writes : ℕ → List Write) (opened : ℕ) (accounts : ℕ → Account) (hands : ℕ → Option HandState) (named : List Named) (marks : List Marks) → Keeps events config writes opened accounts hands named marks → ((row : ℕ) → hands row ≡ None)
-    → AreMarks events config writes opened marks
-are-marks events config writes opened accounts hands named marks keeps none =
-    let all = marks-all events config writes opened accounts hands named marks keeps none in
-    subst (AreMarks events config writes opened) (sym all)
+pub are-marks : (watch : Watch) (opened : List ℕ) (accounts : ℕ → Account) (hands : ℕ → Option HandState) (named : List Named) (marks : List Marks) → Keeps watch opened accounts hands named marks → ((row : ℕ) → hands row ≡ None)
+    → AreMarks watch.events watch.config watch.writes opened marks
+are-marks watch opened accounts hands named marks keeps none =
+    let all = marks-all watch opened accounts hands named marks keeps none in
+    subst (AreMarks watch.events watch.config watch.writes opened) (sym all)
     record {
-      threads = map-mapped (λ (m : Marks). m.thread) (marks_by accounts) (range_with_len 1 opened) ∙ map-id (range_with_len 1 opened);
-      counted = each-of (AreCounted events writes config) (marks_by accounts) (range_with_len 1 opened)
-          (λ t is. let row = has-row opened t is in keeps.counted t row (all-shut events config writes opened accounts hands named marks keeps none t row));
+      threads = map-mapped (λ (m : Marks). m.thread) (marks_by accounts) opened ∙ map-id opened;
+      counted = each-of (AreCounted watch.events watch.writes watch.config) (marks_by accounts) opened
+          (λ t is. keeps.counted t is (all-shut watch opened accounts hands named marks keeps none t is));
     }
 
 -- ---- one thread
@@ -105,11 +103,14 @@ record IsClosed (events : List EventDef) (config : Config) (writes : ℕ → Lis
   rising : AreRising 0 (accounts t).last (events_of t told)
   in_place : AreInPlace (admitted_by events config writes (marks_by accounts t)) (events_of t told)
 
-is-closed : (events : List EventDef) (config : Config) (writes : ℕ → List Write) (opened : ℕ) (accounts : ℕ → Account) (hands : ℕ → Option HandState) (named : List Named) (marks : List Marks) (told : List Entry) → Keeps events config writes opened accounts hands named marks → ((row : ℕ) → hands row ≡ None)
-    → TellsPart events config writes opened accounts told → (t : ℕ) → IsRow opened t → IsClosed events config writes accounts told t
-is-closed events config writes opened accounts hands named marks told keeps none part t row =
+is-closed : (watch : Watch) (opened : List ℕ) (accounts : ℕ → Account) (hands : ℕ → Option HandState) (named : List Named) (marks : List Marks) (told : List Entry) → Keeps watch opened accounts hands named marks → ((row : ℕ) → hands row ≡ None)
+    → TellsPart watch opened accounts told → (t : ℕ) → IsOneOf opened t → IsClosed watch.events watch.config watch.writes accounts told t
+is-closed watch opened accounts hands named marks told keeps none part t row =
+    let events = watch.events in
+    let config = watch.config in
+    let writes = watch.writes in
     let mark = marks_by accounts t in
-    let shut = all-shut events config writes opened accounts hands named marks keeps none t row in
+    let shut = all-shut watch opened accounts hands named marks keeps none t row in
     let counted = keeps.counted t row shut in
     let within = keeps.within t row shut in
     let total : (accounts t).taken + mark.refused ≡ (accounts t).last = omega arith in
@@ -154,17 +155,20 @@ all-among events config writes entries accounts threads (Point point ∷ told) a
 
 -- ---- a session that failed
 
-pub are-part : (events : List EventDef) (config : Config) (writes : ℕ → List Write) (opened : ℕ) (accounts : ℕ → Account) (hands : ℕ → Option HandState) (named : List Named) (marks : List Marks) (told : List Entry) → Keeps events config writes opened accounts hands named marks → ((row : ℕ) → hands row ≡ None)
-    → TellsPart events config writes opened accounts told → ArePart events config writes marks told
-are-part events config writes opened accounts hands named marks told keeps none part =
-    let all = marks-all events config writes opened accounts hands named marks keeps none in
-    let closed = λ (t : ℕ) (is : has t (range_with_len 1 opened) ≡ true). is-closed events config writes opened accounts hands named marks told keeps none part t (has-row opened t is) in
+pub are-part : (watch : Watch) (opened : List ℕ) (accounts : ℕ → Account) (hands : ℕ → Option HandState) (named : List Named) (marks : List Marks) (told : List Entry) → Keeps watch opened accounts hands named marks → ((row : ℕ) → hands row ≡ None)
+    → TellsPart watch opened accounts told → ArePart watch.events watch.config watch.writes marks told
+are-part watch opened accounts hands named marks told keeps none part =
+    let events = watch.events in
+    let config = watch.config in
+    let writes = watch.writes in
+    let all = marks-all watch opened accounts hands named marks keeps none in
+    let closed = λ (t : ℕ) (is : has t opened ≡ true). is-closed watch opened accounts hands named marks told keeps none part t is in
     subst (λ ms. ArePart events config writes ms told) (sym all)
     record {
-      rising = each-of _ (marks_by accounts) (range_with_len 1 opened)
+      rising = each-of _ (marks_by accounts) opened
           (λ t is. let h = closed t is in subst (λ n. AreRising 0 n (events_of t told)) (sym h.total) h.rising);
-      in_place = each-of _ (marks_by accounts) (range_with_len 1 opened) (λ t is. (closed t is).in_place);
-      alone = all-among events config writes told accounts (range_with_len 1 opened) told part.alone;
+      in_place = each-of _ (marks_by accounts) opened (λ t is. (closed t is).in_place);
+      alone = all-among events config writes told accounts opened told part.alone;
     }
 
 -- ---- a session that did not fail
@@ -192,32 +196,33 @@ has-told events config writes accounts told t off h all =
       refused = omega (arith, count, all.taken, h.long, h.total);
     }
 
-pub are-traced : (events : List EventDef) (config : Config) (writes : ℕ → List Write) (opened : ℕ) (accounts : ℕ → Account) (hands : ℕ → Option HandState) (named : List Named) (marks : List Marks) (front : List Entry) (point : PointEntry) → ((t : ℕ) → length (writes t) ≤ WRITES)
-    → Keeps events config writes opened accounts hands named marks → ((row : ℕ) → hands row ≡ None) → ((t : ℕ) → IsRow opened t → (accounts t).is_named ≡ false)
-    → TellsPart events config writes opened accounts (front ++ Point point ∷ [])
-    → ((t : ℕ) → IsRow opened t → (accounts t).last < 2 ^ 32 → TellsAll t (accounts t) (front ++ Point point ∷ []))
-    → AreTraced events config writes marks (front ++ Point point ∷ [])
-are-traced events config writes opened accounts hands named marks front point few keeps none off part all =
+pub are-traced : (watch : Watch) (opened : List ℕ) (accounts : ℕ → Account) (hands : ℕ → Option HandState) (named : List Named) (marks : List Marks) (front : List Entry) (point : PointEntry) → ((t : ℕ) → length (watch.writes t) ≤ WRITES)
+    → Keeps watch opened accounts hands named marks → ((row : ℕ) → hands row ≡ None) → ((t : ℕ) → IsOneOf opened t → (accounts t).is_named ≡ false)
+    → TellsPart watch opened accounts (front ++ Point point ∷ [])
+    → ((t : ℕ) → IsOneOf opened t → (accounts t).last < 2 ^ 32 → TellsAll t (accounts t) (front ++ Point point ∷ []))
+    → AreTraced watch.events watch.config watch.writes marks (front ++ Point point ∷ [])
+are-traced watch opened accounts hands named marks front point few keeps none off part all =
+    let events = watch.events in
+    let config = watch.config in
+    let writes = watch.writes in
     let told = front ++ Point point ∷ [] in
-    let marks_are = marks-all events config writes opened accounts hands named marks keeps none in
-    let range = range_with_len 1 opened in
-    let has_told = λ (t : ℕ) (is : has t range ≡ true).
-    let row = has-row opened t is in
-    let closed = is-closed events config writes opened accounts hands named marks told keeps none part t row in
-    has-told events config writes accounts told t (off t row) closed (all t row (omega (arith, closed.up_to, few t))) in
-    let shares = map-mapped (share_by events config writes told) (marks_by accounts) range in
+    let marks_are = marks-all watch opened accounts hands named marks keeps none in
+    let has_told = λ (t : ℕ) (is : has t opened ≡ true).
+    let closed = is-closed watch opened accounts hands named marks told keeps none part t is in
+    has-told events config writes accounts told t (off t is) closed (all t is (omega (arith, closed.up_to, few t))) in
+    let shares = map-mapped (share_by events config writes told) (marks_by accounts) opened in
     let share : ℕ → Share = λ t. share_by events config writes told (marks_by accounts t) in
     subst (λ ms. AreTraced events config writes ms told) (sym marks_are)
     record {
       faithful = record {
-        complete = subst (AllByRecursion _) (sym shares) (each-of _ share range (λ t is. (has_told t is).complete));
-        alone = all-among events config writes told accounts range told part.alone;
-        missing = subst (AllByRecursion _) (sym shares) (each-of _ share range (λ t is. (has_told t is).missing_is));
-        told = subst (AllByRecursion _) (sym shares) (each-of _ share range (λ t is. (has_told t is).last_is));
+        complete = subst (AllByRecursion _) (sym shares) (each-of _ share opened (λ t is. (has_told t is).complete));
+        alone = all-among events config writes told accounts opened told part.alone;
+        missing = subst (AllByRecursion _) (sym shares) (each-of _ share opened (λ t is. (has_told t is).missing_is));
+        told = subst (AllByRecursion _) (sym shares) (each-of _ share opened (λ t is. (has_told t is).last_is));
         front = front;
         last = point;
         ended = refl;
       };
-      taken = each-of _ (marks_by accounts) range (λ t is. (has_told t is).taken);
-      refused = each-of _ (marks_by accounts) range (λ t is. (has_told t is).refused);
+      taken = each-of _ (marks_by accounts) opened (λ t is. (has_told t is).taken);
+      refused = each-of _ (marks_by accounts) opened (λ t is. (has_told t is).refused);
     }

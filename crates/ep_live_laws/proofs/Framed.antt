@@ -1,13 +1,10 @@
 -- No more events with a stack were told than events were taken of all threads.
 use Rattle.std.proofs.Common.{◌≡◌, ℕ, ◌+◌, ◌<◌, ◌≤◌, true, false, inl, inr, List, [], ◌∷◌, ◌++◌, length, map, Option, None, refl, sym, subst, arith}
 use Rattle.std.specs.Prelude.{fold, ◌==◌, if◌then◌else◌}
-use Rattle.std.specs.List.{range_with_len, sum_by, AllByRecursion}
+use Rattle.std.specs.List.{sum_by, AllByRecursion}
 use Rattle.std.proofs.lemmas.Bool.{eq-eqb, eqb-true, or_cases, or_left, or_right}
 use Rattle.std.proofs.lemmas.List.Sums.{sum_by-cons, sum_by-le-sum_by}
-use Rattle.ep_defs.specs.declared.event.EventDef.{EventDef}
-use Rattle.ep_defs.specs.declared.session.Config.{Config}
 use Rattle.ep_defs.specs.declared.session.Marks.{Marks}
-use Rattle.ep_defs.specs.declared.session.Write.{Write}
 use Rattle.ep_defs.specs.Entry.{EventEntry, Entry, Event, Point}
 use Rattle.ep_model.specs.Faithful.{contents_of, events_of}
 use Rattle.ep_model.proofs.Lists.{has}
@@ -16,8 +13,7 @@ use Rattle.nt_write.specs.Value.{framed_with}
 use Rattle.nt_write.specs.Writable.{framed, framed_after}
 use Rattle.nt_write.proofs.Entries.{framed_one}
 use Rattle.ep_stream.specs.declared.opened.Named.{Named}
-use Rattle.ep_live_laws.specs.Tracing.{Account, Keeps, TellsPart, marks_by, speaks_of}
-use Rattle.ep_live_laws.proofs.Accounts.{has-row}
+use Rattle.ep_live_laws.specs.Tracing.{Account, Keeps, TellsPart, Watch, marks_by, speaks_of}
 use Rattle.ep_live_laws.proofs.Ends.{marks-all}
 
 -- A sum is less where one of its terms is less and none is more.
@@ -67,11 +63,10 @@ told-taken accounts told (t ∷ threads) few =
     let marks = sum_by-cons (λ (m : Marks). m.taken) (marks_by accounts t) (map (marks_by accounts) threads) in
     omega (arith, here, later, counts, marks)
 
-pub framed-taken : (events : List EventDef) (config : Config) (writes : ℕ → List Write) (opened : ℕ) (accounts : ℕ → Account) (hands : ℕ → Option HandState) (named : List Named) (marks : List Marks) (told : List Entry) → Keeps events config writes opened accounts hands named marks → ((row : ℕ) → hands row ≡ None)
-    → TellsPart events config writes opened accounts told → framed told ≤ sum_by (λ (m : Marks). m.taken) marks
-framed-taken events config writes opened accounts hands named marks told keeps none part =
-    let all = marks-all events config writes opened accounts hands named marks keeps none in
-    let range = range_with_len 1 opened in
-    let taken = told-taken accounts told range (λ t is. part.few t (has-row opened t is)) in
-    let count = framed-told 0 range told part.alone in
+pub framed-taken : (watch : Watch) (opened : List ℕ) (accounts : ℕ → Account) (hands : ℕ → Option HandState) (named : List Named) (marks : List Marks) (told : List Entry) → Keeps watch opened accounts hands named marks → ((row : ℕ) → hands row ≡ None)
+    → TellsPart watch opened accounts told → framed told ≤ sum_by (λ (m : Marks). m.taken) marks
+framed-taken watch opened accounts hands named marks told keeps none part =
+    let all = marks-all watch opened accounts hands named marks keeps none in
+    let taken = told-taken accounts told opened (λ t is. part.few t is) in
+    let count = framed-told 0 opened told part.alone in
     subst (λ ms. framed told ≤ sum_by (λ (m : Marks). m.taken) ms) (sym all) (omega (arith, taken, count))

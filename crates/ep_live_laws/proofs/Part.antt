@@ -1,23 +1,20 @@
 -- What was told of each thread is of its writes, in their order, whatever was left out after a fault.
-use Rattle.std.proofs.Common.{◌≡◌, ℕ, ◌+◌, ◌≤◌, true, false, inl, inr, List, [], ◌∷◌, ◌++◌, length, map, filter, refl, ap, sym, ◌∙◌, arith}
+use Rattle.std.proofs.Common.{◌≡◌, ℕ, ◌≤◌, true, false, inl, inr, List, [], ◌∷◌, ◌++◌, length, map, filter, refl, ap, sym, ◌∙◌, arith}
 use Rattle.std.specs.Prelude.{◌==◌}
-use Rattle.std.specs.List.{list_all, range_with_len, AllByRecursion}
-use Rattle.std.proofs.lemmas.Bool.{cases_eq, eq-eqb, ne_eqb, and_parts, and_from, true≢false}
+use Rattle.std.specs.List.{list_all, AllByRecursion}
+use Rattle.std.proofs.lemmas.Bool.{cases_eq, eq-eqb, ne_eqb, and_parts, false_from_ne_true, true≢false, false≢true}
 use Rattle.std.proofs.lemmas.Grind.{flat_map-append}
 use Rattle.std.proofs.lemmas.List.{append-nil, length-append, length-map}
-use Rattle.ep_defs.specs.declared.event.EventDef.{EventDef}
-use Rattle.ep_defs.specs.declared.session.Config.{Config}
-use Rattle.ep_defs.specs.declared.session.Write.{Write}
 use Rattle.ep_defs.specs.Entry.{EventEntry, PointEntry, Entry, Event, Point}
 use Rattle.ep_defs.specs.Gaps.{sightings, sightings_in}
 use Rattle.ep_model.specs.Faithful.{Contents, contents_of, events_in, events_of}
-use Rattle.ep_model.proofs.Lists.{has}
+use Rattle.ep_model.specs.History.{insert_ascending}
+use Rattle.ep_model.proofs.Lists.{all_more, has}
 use Rattle.ep_model.proofs.Numbers.{AreOwn}
 use Rattle.ep_model.proofs.Tally.{events_of-own, events_of-other}
-use Rattle.ep_stream.specs.Rows.{IsRow}
 use Rattle.ep_live_laws.specs.Traced.{AreRising, contents_from}
-use Rattle.ep_live_laws.specs.Tracing.{Account, TellsPart, speaks_of}
-use Rattle.ep_live_laws.proofs.Accounts.{with_opened, with_taken, row-has, has-row, row-before, row-more, next-fresh}
+use Rattle.ep_live_laws.specs.Tracing.{Account, IsOneOf, TellsPart, Watch, speaks_of}
+use Rattle.ep_live_laws.proofs.Accounts.{with_opened, with_taken, one-before, one-more}
 use Rattle.ep_live_laws.proofs.Batches.{AreToldOf}
 use Rattle.ep_live_laws.proofs.Shares.{rising-up}
 
@@ -83,16 +80,16 @@ own-alone threads thread (event ∷ told) is own = (ap (λ t. has t threads) own
 -- ---- each call
 
 -- Nothing was told of no thread.
-pub part-none : (events : List EventDef) (config : Config) (writes : ℕ → List Write) (accounts : ℕ → Account) → TellsPart events config writes 0 accounts []
-part-none events config writes accounts =
-    record { rising = λ thread row. absurd (omega (arith, row.0, row.1)); in_place = λ thread row. tt; few = λ thread row. omega arith; alone = tt }
+pub part-none : (watch : Watch) (accounts : ℕ → Account) → TellsPart watch [] accounts []
+part-none watch accounts =
+    record { rising = λ thread is. absurd (false≢true is); in_place = λ thread is. tt; few = λ thread is. omega arith; alone = tt }
 
 -- A batch of a thread's events more.
-pub part-taken : (events : List EventDef) (config : Config) (writes : ℕ → List Write) (opened : ℕ) (accounts : ℕ → Account) (told : List Entry) (thread count last : ℕ) (more : List EventEntry)
-    → IsRow opened thread → TellsPart events config writes opened accounts told
-    → AreToldOf thread (accounts thread).last last (contents_from events config (accounts thread).from (writes thread)) count more
-    → TellsPart events config writes opened (with_taken accounts thread count last) (told ++ map Event more)
-part-taken events config writes opened accounts told thread count last more row part batch =
+pub part-taken : (watch : Watch) (opened : List ℕ) (accounts : ℕ → Account) (told : List Entry) (thread count last : ℕ) (more : List EventEntry)
+    → IsOneOf opened thread → TellsPart watch opened accounts told
+    → AreToldOf thread (accounts thread).last last (contents_from watch.events watch.config (accounts thread).from (watch.writes thread)) count more
+    → TellsPart watch opened (with_taken accounts thread count last) (told ++ map Event more)
+part-taken watch opened accounts told thread count last more row part batch =
     record {
       rising = λ t is.
           rw (events-append t told (map Event more))
@@ -125,13 +122,13 @@ part-taken events config writes opened accounts told thread count last more row 
                 let apart = ne_eqb thread t (λ e. other (sym e)) in
                 rw (ne_eqb t thread other, events_of-other t thread more apart batch.own, append-nil (events_of t told)) (part.few t is)
           ]);
-      alone = each-append _ told (map Event more) part.alone (own-alone (range_with_len 1 opened) thread more (row-has opened thread row) batch.own);
+      alone = each-append _ told (map Event more) part.alone (own-alone opened thread more row batch.own);
     }
 
 -- A point more.
-pub part-pointed : (events : List EventDef) (config : Config) (writes : ℕ → List Write) (opened : ℕ) (accounts : ℕ → Account) (told : List Entry) (point : PointEntry)
-    → speaks_of (range_with_len 1 opened) (Point point) ≡ true → TellsPart events config writes opened accounts told → TellsPart events config writes opened accounts (told ++ Point point ∷ [])
-part-pointed events config writes opened accounts told point speaks part =
+pub part-pointed : (watch : Watch) (opened : List ℕ) (accounts : ℕ → Account) (told : List Entry) (point : PointEntry)
+    → speaks_of opened (Point point) ≡ true → TellsPart watch opened accounts told → TellsPart watch opened accounts (told ++ Point point ∷ [])
+part-pointed watch opened accounts told point speaks part =
     record {
       rising = λ t is. rw (events-append t told (Point point ∷ []), append-nil (events_of t told)) (part.rising t is);
       in_place = λ t is. rw (events-append t told (Point point ∷ []), append-nil (events_of t told)) (part.in_place t is);
@@ -140,8 +137,8 @@ part-pointed events config writes opened accounts told point speaks part =
     }
 
 -- The first of the entries.
-pub part-front : (events : List EventDef) (config : Config) (writes : ℕ → List Write) (opened : ℕ) (accounts : ℕ → Account) (told more : List Entry) → TellsPart events config writes opened accounts (told ++ more) → TellsPart events config writes opened accounts told
-part-front events config writes opened accounts told more part =
+pub part-front : (watch : Watch) (opened : List ℕ) (accounts : ℕ → Account) (told more : List Entry) → TellsPart watch opened accounts (told ++ more) → TellsPart watch opened accounts told
+part-front watch opened accounts told more part =
     record {
       rising = λ t is. rising-front 0 (accounts t).last (events_of t told) (events_of t more) (rw (events-append t told more) at (part.rising t is));
       in_place = λ t is. each-front _ (events_of t told) (events_of t more) (rw (events-append t told more) at (part.in_place t is));
@@ -152,38 +149,30 @@ part-front events config writes opened accounts told more part =
     }
 
 -- One thread more, of which nothing was told.
-pub part-opened : (events : List EventDef) (config : Config) (writes : ℕ → List Write) (opened from : ℕ) (accounts : ℕ → Account) (told : List Entry) → TellsPart events config writes opened accounts told → TellsPart events config writes (opened + 1) (with_opened accounts (opened + 1) from) told
-part-opened events config writes opened from accounts told part =
-    let fresh = next-fresh opened in
-    let nothing : events_of (opened + 1) told ≡ [] = unspoken-events (range_with_len 1 opened) (opened + 1) told fresh part.alone in
+pub part-opened : (watch : Watch) (opened : List ℕ) (thread from : ℕ) (accounts : ℕ → Account) (told : List Entry) → (IsOneOf opened thread → ⊥) → TellsPart watch opened accounts told
+    → TellsPart watch (insert_ascending thread opened) (with_opened accounts thread from) told
+part-opened watch opened thread from accounts told fresh part =
+    let nothing : events_of thread told ≡ [] = unspoken-events opened thread told (false_from_ne_true (has thread opened) fresh) part.alone in
     record {
       rising = λ t is.
-          elim (cases_eq t (opened + 1)) [
-            | inl same ↦ rw (eq-eqb t (opened + 1) same, same, nothing) (omega arith)
-            | inr other ↦ rw (ne_eqb t (opened + 1) other) (part.rising t (row-before opened t is (ne_eqb t (opened + 1) other)))
+          elim (cases_eq t thread) [
+            | inl same ↦ rw (eq-eqb t thread same, same, nothing) (omega arith)
+            | inr other ↦ let off = ne_eqb t thread other in rw off (part.rising t (one-before thread t opened is off))
           ];
       in_place = λ t is.
-          elim (cases_eq t (opened + 1)) [
+          elim (cases_eq t thread) [
             | inl same ↦ rw (same, nothing) tt
-            | inr other ↦ rw (ne_eqb t (opened + 1) other) (part.in_place t (row-before opened t is (ne_eqb t (opened + 1) other)))
+            | inr other ↦ let off = ne_eqb t thread other in rw off (part.in_place t (one-before thread t opened is off))
           ];
       few = λ t is.
-          elim (cases_eq t (opened + 1)) [
-            | inl same ↦ rw (eq-eqb t (opened + 1) same, same, nothing) (omega arith)
-            | inr other ↦ rw (ne_eqb t (opened + 1) other) (part.few t (row-before opened t is (ne_eqb t (opened + 1) other)))
+          elim (cases_eq t thread) [
+            | inl same ↦ rw (eq-eqb t thread same, same, nothing) (omega arith)
+            | inr other ↦ let off = ne_eqb t thread other in rw off (part.few t (one-before thread t opened is off))
           ];
-      alone = each-more _ _ told (speaks-more opened) part.alone;
+      alone = each-more _ _ told speaks-more part.alone;
     }
   where
-    has-more : (opened t : ℕ) → has t (range_with_len 1 opened) ≡ true → has t (range_with_len 1 (opened + 1)) ≡ true
-    has-more opened t is = row-has (opened + 1) t (row-more opened t (has-row opened t is))
-
-    all-more : (opened : ℕ) (named : List (ℕ × ℕ)) → list_all (λ (n : ℕ × ℕ). has n.0 (range_with_len 1 opened)) named ≡ true → list_all (λ (n : ℕ × ℕ). has n.0 (range_with_len 1 (opened + 1))) named ≡ true
-    all-more opened [] all = refl
-    all-more opened (n ∷ named) all =
-        let parts = and_parts (has n.0 (range_with_len 1 opened)) (list_all (λ (m : ℕ × ℕ). has m.0 (range_with_len 1 opened)) named) all in
-        and_from (has n.0 (range_with_len 1 (opened + 1))) (list_all (λ (m : ℕ × ℕ). has m.0 (range_with_len 1 (opened + 1))) named) (has-more opened n.0 parts.0) (all-more opened named parts.1)
-
-    speaks-more : (opened : ℕ) (entry : Entry) → speaks_of (range_with_len 1 opened) entry ≡ true → speaks_of (range_with_len 1 (opened + 1)) entry ≡ true
-    speaks-more opened (Event event) is = has-more opened event.thread is
-    speaks-more opened (Point point) is = all-more opened point.threads is
+    speaks-more : (entry : Entry) → speaks_of opened entry ≡ true → speaks_of (insert_ascending thread opened) entry ≡ true
+    speaks-more (Event event) is = one-more thread event.thread opened is
+    speaks-more (Point point) is =
+        all_more (λ (n : ℕ × ℕ). has n.0 opened) (λ (n : ℕ × ℕ). has n.0 (insert_ascending thread opened)) (λ n there. one-more thread n.0 opened there) point.threads is

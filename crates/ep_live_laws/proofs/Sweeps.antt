@@ -5,10 +5,7 @@ use Rattle.std.specs.List.{All, AllByRecursion}
 use Rattle.std.proofs.lemmas.Bool.{cases_eq, eq-eqb, ne_eqb}
 use Rattle.std.proofs.lemmas.List.{append-nil}
 use Rattle.std.proofs.lemmas.List.Elements.{All-head, All-tail}
-use Rattle.ep_defs.specs.declared.event.EventDef.{EventDef}
-use Rattle.ep_defs.specs.declared.session.Config.{Config}
 use Rattle.ep_defs.specs.declared.session.Marks.{Marks}
-use Rattle.ep_defs.specs.declared.session.Write.{Write}
 use Rattle.ep_defs.specs.Entry.{EventEntry, Entry, Event}
 use Rattle.ep_chunk.specs.Record.{Record}
 use Rattle.ep_model.specs.Faithful.{Contents}
@@ -18,12 +15,12 @@ use Rattle.ep_slot.specs.Hand.{HandState}
 use Rattle.ep_guarded.specs.Tied.{AreCounted}
 use Rattle.ep_stream.specs.declared.opened.Named.{Named}
 use Rattle.ep_stream.specs.Named.{with_number, with_marks}
-use Rattle.ep_stream.specs.Rows.{IsRow, IsMarked, hand_after}
+use Rattle.ep_stream.specs.Rows.{IsMarked, hand_after}
 use Rattle.ep_stream.specs.Session.{Batched}
 use Rattle.ep_stream.specs.Sweep.{Taking, rows_of, open_rows, with_taking, hands_after, named_after, entries_in}
 use Rattle.ep_stream.specs.Telling.{entries_of}
 use Rattle.ep_live_laws.specs.Traced.{contents_from}
-use Rattle.ep_live_laws.specs.Tracing.{Account, IsAdmittedAs, IsHandBy, IsHeld, TellsAll, Traces}
+use Rattle.ep_live_laws.specs.Tracing.{Account, IsAdmittedAs, IsHandBy, IsHeld, IsOneOf, TellsAll, Traces, Watch}
 use Rattle.ep_live_laws.proofs.Accounts.{with_taken}
 use Rattle.ep_live_laws.proofs.All.{all-other, all-taken}
 use Rattle.ep_live_laws.proofs.Batches.{AreToldOf, Batch, batch-told}
@@ -35,27 +32,29 @@ use Rattle.ep_live_laws.proofs.Shares.{rising-up}
 -- ---- one batch
 
 -- The records of a batch are told as events of its thread, numbered on from the account's last number.
-batch-of : (events : List EventDef) (writes : ℕ → List Write) (config : Config) (opened last row : ℕ) (account : Account) (hand : HandState) (records : List Record)
-    → IsHandBy opened account row hand → Batched (IsAdmittedAs events writes config) events hand records last
-    → Batch events config.stackwalk row account.last last (contents_from events config account.from (writes row)) records
-batch-of events writes config opened last row account hand records by batched =
+batch-of : (watch : Watch) (opened : List ℕ) (last row : ℕ) (accounts : ℕ → Account) (hand : HandState) (records : List Record)
+    → IsHandBy watch.home opened accounts row hand → Batched (IsAdmittedAs watch.events watch.writes watch.config) watch.events hand records last
+    → Batch watch.events watch.config.stackwalk hand.thread (accounts hand.thread).last last (contents_from watch.events watch.config (accounts hand.thread).from (watch.writes hand.thread)) records
+batch-of watch opened last row accounts hand records by batched =
+    let events = watch.events in
+    let config = watch.config in
+    let writes = watch.writes in
     let b = batched.batch in
     let told = batch-told events writes config hand.thread hand.from hand.last last records b.of_thread b.rising b.defined batched.tested in
-    let At : ℕ → ℕ → ℕ → Type 0 = λ thread from below. Batch events config.stackwalk thread below last (contents_from events config from (writes thread)) records in
-    subst (λ thread. At thread account.from account.last) by.thread
-    (subst (λ from. At hand.thread from account.last) by.from (subst (λ below. At hand.thread hand.from below) by.last told))
+    let At : ℕ → ℕ → Type 0 = λ from below. Batch events config.stackwalk hand.thread below last (contents_from events config from (writes hand.thread)) records in
+    subst (λ from. At from (accounts hand.thread).last) by.from (subst (λ below. At hand.from below) by.last told)
 
 -- All that was taken of each thread was told, with one batch more of one of them.
-all-batch : (opened thread count last : ℕ) (accounts now : ℕ → Account) (told : List Entry) (all : List Contents) (more : List EventEntry) → AreToldOf thread (accounts thread).last last all count more → (accounts thread).last ≤ last
+all-batch : (opened : List ℕ) (thread count last : ℕ) (accounts now : ℕ → Account) (told : List Entry) (all : List Contents) (more : List EventEntry) → AreToldOf thread (accounts thread).last last all count more → (accounts thread).last ≤ last
     → (now thread).taken ≡ (accounts thread).taken + count → (now thread).last ≡ last → (now thread).is_named ≡ true
     → ((t : ℕ) → (t == thread) ≡ false → now t ≡ accounts t)
-    → ((t : ℕ) → IsRow opened t → (accounts t).last < 2 ^ 32 → TellsAll t (accounts t) told)
-    → (t : ℕ) → IsRow opened t → (now t).last < 2 ^ 32 → TellsAll t (now t) (told ++ map Event more)
+    → ((t : ℕ) → IsOneOf opened t → (accounts t).last < 2 ^ 32 → TellsAll t (accounts t) told)
+    → (t : ℕ) → IsOneOf opened t → (now t).last < 2 ^ 32 → TellsAll t (now t) (told ++ map Event more)
 all-batch opened thread count last accounts now told all more batch up taken last_is named others before t is small =
     elim (cases_eq t thread) [
       | inl same ↦
           let Tells : ℕ → Type 0 = λ n. TellsAll n (now n) (told ++ map Event more) in
-          let row : IsRow opened thread = subst (IsRow opened) same is in
+          let row : IsOneOf opened thread = subst (IsOneOf opened) same is in
           let small_there : (now thread).last < 2 ^ 32 = subst (λ n. (now n).last < 2 ^ 32) same small in
           let few : last < 2 ^ 32 = omega (arith, small_there, last_is) in
           subst Tells (sym same) (all-taken thread count last (accounts thread) (now thread) told all more batch few taken last_is named (before thread row (omega (arith, up, few))))
@@ -68,56 +67,56 @@ all-batch opened thread count last accounts now told all more batch up taken las
     ]
 
 -- The hand of a row on which the session is open.
-hand-by : (opened row : ℕ) (account : Account) (found : Option HandState) (hand : HandState) → IsHeld opened account row found → found ≡ Some hand → IsHandBy opened account row hand
-hand-by opened row account found hand held is = subst (IsHeld opened account row) is held
+hand-by : (home : ℕ → ℕ) (opened : List ℕ) (accounts : ℕ → Account) (row : ℕ) (found : Option HandState) (hand : HandState) → IsHeld home opened accounts row found → found ≡ Some hand → IsHandBy home opened accounts row hand
+hand-by home opened accounts row found hand held is = subst (IsHeld home opened accounts row) is held
 
 -- A batch was taken of a row.
-pub taken-traces : (events : List EventDef) (config : Config) (writes : ℕ → List Write) (opened : ℕ) (Sound : Type 0) (hands new : ℕ → Option HandState) (named : List Named) (marks : List Marks) (told : List Entry) (row last chunks : ℕ) (hand : HandState) (records : List Record)
-    → hands row ≡ Some hand → Batched (IsAdmittedAs events writes config) events hand records last
+pub taken-traces : (watch : Watch) (opened : List ℕ) (Sound : Type 0) (hands new : ℕ → Option HandState) (named : List Named) (marks : List Marks) (told : List Entry) (row last chunks : ℕ) (hand : HandState) (records : List Record)
+    → hands row ≡ Some hand → Batched (IsAdmittedAs watch.events watch.writes watch.config) watch.events hand records last
     → ((r : ℕ) → new r ≡ (if r == row then Some (hand_after hand (length records) last chunks) else hands r))
-    → Traces events config writes opened Sound hands named marks told
-    → Traces events config writes opened Sound new (with_number hand.thread last true named) marks (told ++ entries_of events config.stackwalk records)
-taken-traces events config writes opened Sound hands new named marks told row last chunks hand records was batched sets h =
+    → Traces watch opened Sound hands named marks told
+    → Traces watch opened Sound new (with_number hand.thread last true named) marks (told ++ entries_of watch.events watch.config.stackwalk records)
+taken-traces watch opened Sound hands new named marks told row last chunks hand records was batched sets h =
     let accounts = h.accounts in
-    let by = hand-by opened row (accounts row) (hands row) hand (h.keeps.held row) was in
-    let batch = batch-of events writes config opened last row (accounts row) hand records by batched in
-    let now = with_taken accounts row (length records) last in
-    let here = eq-eqb row row refl in
-    let up = rising-up (accounts row).last last _ batch.are.rising in
-    let Is : List Entry → Type 0 = λ more. Traces events config writes opened Sound new (with_number hand.thread last true named) marks (told ++ more) in
-    let At : ℕ → Type 0 = λ thread. Traces events config writes opened Sound new (with_number thread last true named) marks (told ++ map Event batch.told) in
-    subst Is (sym batch.entries_are) (subst At (sym by.thread)
+    let thread = hand.thread in
+    let by = hand-by watch.home opened accounts row (hands row) hand (h.keeps.held row) was in
+    let batch = batch-of watch opened last row accounts hand records by batched in
+    let now = with_taken accounts thread (length records) last in
+    let here = eq-eqb thread thread refl in
+    let up = rising-up (accounts thread).last last _ batch.are.rising in
+    let Is : List Entry → Type 0 = λ more. Traces watch opened Sound new (with_number hand.thread last true named) marks (told ++ more) in
+    subst Is (sym batch.entries_are)
     record {
       accounts = now;
-      keeps = keeps-taken events config writes opened (length records) last chunks row accounts hands new named marks hand by sets h.keeps;
-      part = part-taken events config writes opened accounts told row (length records) last batch.told by.row_is h.part batch.are;
+      keeps = keeps-taken watch opened (length records) last chunks row accounts hands new named marks hand by sets h.keeps;
+      part = part-taken watch opened accounts told thread (length records) last batch.told by.is_opened h.part batch.are;
       all = λ sound.
-          all-batch opened row (length records) last accounts now told _ batch.told batch.are up (rw here refl) (rw here refl) (h.keeps.open_named row by.is_open) (λ x off. rw off refl) (h.all sound);
-    })
+          all-batch opened thread (length records) last accounts now told _ batch.told batch.are up (rw here refl) (rw here refl) (h.keeps.open_named thread by.is_open) (λ x off. rw off refl) (h.all sound);
+    }
 
 -- The last batch was taken of a row, on which the session was closed.
-pub closed-traces : (events : List EventDef) (config : Config) (writes : ℕ → List Write) (opened : ℕ) (Sound : Type 0) (hands new : ℕ → Option HandState) (named : List Named) (marks : List Marks) (told : List Entry) (row last : ℕ) (hand : HandState) (records : List Record) (mark : Marks)
-    → hands row ≡ Some hand → Batched (IsAdmittedAs events writes config) events hand records last → IsMarked hand records last mark → AreCounted events writes config mark
+pub closed-traces : (watch : Watch) (opened : List ℕ) (Sound : Type 0) (hands new : ℕ → Option HandState) (named : List Named) (marks : List Marks) (told : List Entry) (row last : ℕ) (hand : HandState) (records : List Record) (mark : Marks)
+    → hands row ≡ Some hand → Batched (IsAdmittedAs watch.events watch.writes watch.config) watch.events hand records last → IsMarked hand records last mark → AreCounted watch.events watch.writes watch.config mark
     → ((r : ℕ) → new r ≡ (if r == row then None else hands r))
-    → Traces events config writes opened Sound hands named marks told
-    → Traces events config writes opened Sound new (with_number hand.thread last false named) (with_marks mark marks) (told ++ entries_of events config.stackwalk records)
-closed-traces events config writes opened Sound hands new named marks told row last hand records mark was batched marked counted sets h =
+    → Traces watch opened Sound hands named marks told
+    → Traces watch opened Sound new (with_number hand.thread last false named) (with_marks mark marks) (told ++ entries_of watch.events watch.config.stackwalk records)
+closed-traces watch opened Sound hands new named marks told row last hand records mark was batched marked counted sets h =
     let accounts = h.accounts in
-    let by = hand-by opened row (accounts row) (hands row) hand (h.keeps.held row) was in
-    let batch = batch-of events writes config opened last row (accounts row) hand records by batched in
-    let now = with_last accounts row (length records) last mark.to in
-    let here = eq-eqb row row refl in
-    let up = rising-up (accounts row).last last _ batch.are.rising in
-    let Is : List Entry → Type 0 = λ more. Traces events config writes opened Sound new (with_number hand.thread last false named) (with_marks mark marks) (told ++ more) in
-    let At : ℕ → Type 0 = λ thread. Traces events config writes opened Sound new (with_number thread last false named) (with_marks mark marks) (told ++ map Event batch.told) in
-    subst Is (sym batch.entries_are) (subst At (sym by.thread)
+    let thread = hand.thread in
+    let by = hand-by watch.home opened accounts row (hands row) hand (h.keeps.held row) was in
+    let batch = batch-of watch opened last row accounts hand records by batched in
+    let now = with_last accounts thread (length records) last mark.to in
+    let here = eq-eqb thread thread refl in
+    let up = rising-up (accounts thread).last last _ batch.are.rising in
+    let Is : List Entry → Type 0 = λ more. Traces watch opened Sound new (with_number hand.thread last false named) (with_marks mark marks) (told ++ more) in
+    subst Is (sym batch.entries_are)
     record {
       accounts = now;
-      keeps = keeps-closed events config writes opened (length records) last row accounts hands new named marks hand mark by marked.thread marked.from marked.taken marked.refused counted sets h.keeps;
-      part = (let part = part-taken events config writes opened accounts told row (length records) last batch.told by.row_is h.part batch.are in record { rising = part.rising; in_place = part.in_place; few = part.few; alone = part.alone });
+      keeps = keeps-closed watch opened (length records) last row accounts hands new named marks hand mark by marked.thread marked.from marked.taken marked.refused counted sets h.keeps;
+      part = (let part = part-taken watch opened accounts told thread (length records) last batch.told by.is_opened h.part batch.are in record { rising = part.rising; in_place = part.in_place; few = part.few; alone = part.alone });
       all = λ sound.
-          all-batch opened row (length records) last accounts now told _ batch.told batch.are up (rw here refl) (rw here refl) (h.keeps.open_named row by.is_open) (λ x off. rw off refl) (h.all sound);
-    })
+          all-batch opened thread (length records) last accounts now told _ batch.told batch.are up (rw here refl) (rw here refl) (h.keeps.open_named thread by.is_open) (λ x off. rw off refl) (h.all sound);
+    }
 
 -- ---- batches of rows that ascend
 
@@ -176,19 +175,19 @@ later-were hands t (u ∷ takings) above were (suc k) d small =
     later-were hands t takings above.1 (λ i e less. were (suc i) e (omega (arith, less))) k d (omega (arith, small))
 
 -- Batches were taken of rows that ascend.
-pub swept-traces : (events : List EventDef) (config : Config) (writes : ℕ → List Write) (opened : ℕ) (Sound : Type 0) (hands : ℕ → Option HandState) (named : List Named) (marks : List Marks) (told : List Entry) (takings : List Taking)
-    → IsAscending (rows_of takings) → All (λ t. hands t.row ≡ Some t.hand) takings → All (λ t. Batched (IsAdmittedAs events writes config) events t.hand t.records t.last) takings
-    → Traces events config writes opened Sound hands named marks told
-    → Traces events config writes opened Sound (hands_after hands takings) (named_after named takings) marks (told ++ entries_in events config.stackwalk takings)
-swept-traces events config writes opened Sound hands named marks told [] up were batched h =
-    let Is : List Entry → Type 0 = λ es. Traces events config writes opened Sound hands named marks es in
+pub swept-traces : (watch : Watch) (opened : List ℕ) (Sound : Type 0) (hands : ℕ → Option HandState) (named : List Named) (marks : List Marks) (told : List Entry) (takings : List Taking)
+    → IsAscending (rows_of takings) → All (λ t. hands t.row ≡ Some t.hand) takings → All (λ t. Batched (IsAdmittedAs watch.events watch.writes watch.config) watch.events t.hand t.records t.last) takings
+    → Traces watch opened Sound hands named marks told
+    → Traces watch opened Sound (hands_after hands takings) (named_after named takings) marks (told ++ entries_in watch.events watch.config.stackwalk takings)
+swept-traces watch opened Sound hands named marks told [] up were batched h =
+    let Is : List Entry → Type 0 = λ es. Traces watch opened Sound hands named marks es in
     subst Is (sym (append-nil told)) h
-swept-traces events config writes opened Sound hands named marks told (t ∷ takings) up were batched h =
-    let first = taken-traces events config writes opened Sound hands (with_taking hands t) named marks told t.row t.last t.chunks t.hand t.records
+swept-traces watch opened Sound hands named marks told (t ∷ takings) up were batched h =
+    let first = taken-traces watch opened Sound hands (with_taking hands t) named marks told t.row t.last t.chunks t.hand t.records
     (All-head (λ (u : Taking). hands u.row ≡ Some u.hand) t takings were)
-    (All-head (λ (u : Taking). Batched (IsAdmittedAs events writes config) events u.hand u.records u.last) t takings batched) (λ r. refl) h in
-    let later = swept-traces events config writes opened Sound (with_taking hands t) (with_number t.hand.thread t.last true named) marks (told ++ entries_of events config.stackwalk t.records) takings up.1
+    (All-head (λ (u : Taking). Batched (IsAdmittedAs watch.events watch.writes watch.config) watch.events u.hand u.records u.last) t takings batched) (λ r. refl) h in
+    let later = swept-traces watch opened Sound (with_taking hands t) (with_number t.hand.thread t.last true named) marks (told ++ entries_of watch.events watch.config.stackwalk t.records) takings up.1
     (later-were hands t takings up.0 (All-tail (λ (u : Taking). hands u.row ≡ Some u.hand) t takings were))
-    (All-tail (λ (u : Taking). Batched (IsAdmittedAs events writes config) events u.hand u.records u.last) t takings batched) first in
-    let Is : List Entry → Type 0 = λ es. Traces events config writes opened Sound (hands_after hands (t ∷ takings)) (named_after named (t ∷ takings)) marks es in
-    subst Is (append_assoc told (entries_of events config.stackwalk t.records) (entries_in events config.stackwalk takings)) later
+    (All-tail (λ (u : Taking). Batched (IsAdmittedAs watch.events watch.writes watch.config) watch.events u.hand u.records u.last) t takings batched) first in
+    let Is : List Entry → Type 0 = λ es. Traces watch opened Sound (hands_after hands (t ∷ takings)) (named_after named (t ∷ takings)) marks es in
+    subst Is (append_assoc told (entries_of watch.events watch.config.stackwalk t.records) (entries_in watch.events watch.config.stackwalk takings)) later

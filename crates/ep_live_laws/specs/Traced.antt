@@ -30,7 +30,8 @@ unseen last contents = filter (λ number. not (has_number number contents)) (ran
 abbrev pub admitted_by : List EventDef → Config → (ℕ → List Write) → Marks → List Contents
 admitted_by events config writes marks = contents_from events config marks.from (take marks.to (writes marks.thread))
 
--- The numbers that no event of the thread has.
+-- The numbers that no event of the thread has: they count as those of refused writes. (Why a write was refused is said
+-- where it is shown to a session, and not here.)
 abbrev pub refused_by : List EventDef → Config → (ℕ → List Write) → List Entry → Marks → List ℕ
 refused_by events config writes entries marks =
     unseen (length (admitted_by events config writes marks)) (events_of marks.thread entries)
@@ -40,13 +41,14 @@ abbrev pub share_by : List EventDef → Config → (ℕ → List Write) → List
 share_by events config writes entries marks =
     record { thread = marks.thread; admitted = admitted_by events config writes marks; refused = refused_by events config writes entries marks }
 
+-- The shares of the threads of all marks.
 abbrev pub shares_by : List EventDef → Config → (ℕ → List Write) → List Entry → List Marks → List Share
 shares_by events config writes entries marks = map (share_by events config writes entries) marks
 
 -- ---- a session that did not fail
 
--- The entries are faithful to what the threads wrote in the run; as many events of each thread are there as its marks
--- say were taken, and as many of its numbers are missing as were refused.
+-- The entries are faithful to what the threads wrote in the run, less the events that are not there; as many events of
+-- each thread are there as its marks say were taken, and as many of its numbers are missing as they say were refused.
 pub record AreTraced (events : List EventDef) (config : Config) (writes : ℕ → List Write) (marks : List Marks) (entries : List Entry) : Type 0 where
   pub faithful : AreFaithful (shares_by events config writes entries marks) entries
   pub taken : AllByRecursion (λ mark. length (events_of mark.thread entries) ≡ mark.taken) marks
@@ -72,8 +74,8 @@ pub record ArePart (events : List EventDef) (config : Config) (writes : ℕ → 
 
 -- ---- the marks
 
--- The marks are those of the threads 1 up to the number of rows, in their order, and each counts what the session
+-- The marks are those of the threads on which the session was opened, in their order, and each counts what the session
 -- gets of its thread's writes.
-pub record AreMarks (events : List EventDef) (config : Config) (writes : ℕ → List Write) (rows : ℕ) (marks : List Marks) : Type 0 where
-  pub threads : map (λ mark. mark.thread) marks ≡ range_with_len 1 rows
+pub record AreMarks (events : List EventDef) (config : Config) (writes : ℕ → List Write) (opened : List ℕ) (marks : List Marks) : Type 0 where
+  pub threads : map (λ mark. mark.thread) marks ≡ opened
   pub counted : AllByRecursion (AreCounted events writes config) marks

@@ -5,10 +5,10 @@ ghost use Rattle.ep_model.specs.Schedules.{two_levels};
 ghost use Rattle.ep_live_laws.specs.Traced.{AreMarks, ArePart, AreTraced, refused_by};
 ghost use Rattle.ep_live_laws.specs.TwoThreads.{two_threads, two_marks, two_told, two_lost, two_begun, two_swapped};
 
-/// Of two threads what one session got is told with its numbers, less a write that was refused. Without one of the
-/// events it is not.
+/// Of two threads what one session got is told with its numbers, less a write whose number is missing and which counts
+/// as refused. Without one of the events it is not.
 pub fn two_threads_are_traced()
-    ensures marks { AreMarks two_levels (config_p 1) two_threads 2 two_marks }
+    ensures marks { AreMarks two_levels (config_p 1) two_threads (1 ∷ 2 ∷ []) two_marks }
     ensures refused { map (refused_by two_levels (config_p 1) two_threads two_told) two_marks ≡ (2 ∷ []) ∷ [] ∷ [] }
     ensures traced { AreTraced two_levels (config_p 1) two_threads two_marks two_told }
     ensures lost { AreTraced two_levels (config_p 1) two_threads two_marks two_lost → ⊥ }

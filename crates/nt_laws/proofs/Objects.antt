@@ -21,8 +21,8 @@ use Rattle.nt_blocks.specs.declared.limits.TheConstants.{READ_BYTES}
 use Rattle.nt_blocks.specs.Refusals.{body_at}
 use Rattle.nt_blocks.specs.Verdict.{Object, Stop, named_at, object_at, or_refused, payload_at}
 use Rattle.nt_write.specs.Trace.{body_begins, trace_item}
-use Rattle.nt_whole.proofs.Units.{closed-there, next, passed, unit-there}
-use Rattle.nt_whole.proofs.Infos.{info-there, number-there, payload-long}
+use Rattle.nt_laws.proofs.Units.{closed-there, next, passed, unit-there}
+use Rattle.nt_laws.proofs.Infos.{info-there, number-there, payload-long}
 
 -- ---- the parts of an object
 

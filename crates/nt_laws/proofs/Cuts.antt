@@ -22,11 +22,11 @@ use Rattle.nt_blocks.specs.declared.limits.TheConstants.{READ_BYTES}
 use Rattle.nt_blocks.specs.Refusals.{body_at}
 use Rattle.nt_blocks.specs.Verdict.{Cut, More, Verdict, closed, info_in, named_at, object_at, objects_at, or_refused, payload_at, unit, verdict}
 use Rattle.nt_write.specs.Trace.{BlocksHold, IsTrace, trace_item}
-use Rattle.nt_whole.specs.Reading.{IsBegun}
-use Rattle.nt_whole.proofs.Units.{next, passed, unit-there}
-use Rattle.nt_whole.proofs.Infos.{payload-long}
-use Rattle.nt_whole.proofs.Objects.{Parts, begun, block-begun, block-found, block-parts, block_behind, block_payload, ended, length-begun, parts-of, trace-begun, trace-found, trace-parts, trace_behind}
-use Rattle.nt_whole.proofs.Streams.{BodiesRead, headed, object-step, stream-grouped}
+use Rattle.nt_laws.specs.Reading.{IsBegun}
+use Rattle.nt_laws.proofs.Units.{next, passed, unit-there}
+use Rattle.nt_laws.proofs.Infos.{payload-long}
+use Rattle.nt_laws.proofs.Objects.{Parts, begun, block-begun, block-found, block-parts, block_behind, block_payload, ended, length-begun, parts-of, trace-begun, trace-found, trace-parts, trace_behind}
+use Rattle.nt_laws.proofs.Streams.{BodiesRead, headed, object-step, stream-grouped}
 
 -- ---- a cut
 

@@ -4,8 +4,8 @@ use Rattle.ep_defs.specs.Entry.{Entry}
 use Rattle.nt_blocks.specs.Ordered.{kinds_of}
 use Rattle.nt_write.specs.Canonical.{IsCanonical}
 use Rattle.ep_model.specs.Faithful.{Share, AreFaithful}
-use Rattle.ep_faithful.specs.Faithful.{Faithful}
-use Rattle.ep_faithful.proofs.laws.a_faithful_stream_is_found.Goals as goal
+use Rattle.nt_laws.specs.Faithful.{Faithful}
+use Rattle.nt_laws.proofs.laws.a_faithful_stream_is_found.Goals as goal
 
 pub returns-clause-found : goal.returns-clause-found
 returns-clause-found c info entries bytes canonical = (c.a_canonical_stream_is_read_whole.ensures.read info entries bytes canonical).found
@@ -16,6 +16,7 @@ returns-clause-ordered c info entries bytes canonical = (c.a_canonical_stream_is
 -- The items of a canonical stream of faithful entries tell of each thread what its share has.
 faithful_items : (info : TraceInfo) (shares : List Share) (entries : List Entry) (bytes : List ℕ) → AreFaithful shares entries → (canonical : IsCanonical info entries bytes) → Faithful shares canonical.items
 faithful_items info shares entries bytes faithful canonical =
+    let end = canonical.ended faithful.front faithful.last faithful.ended in
     record {
       info = info;
       others = kinds_of canonical.read.others;
@@ -25,6 +26,8 @@ faithful_items info shares entries bytes faithful canonical =
       told = canonical.told;
       plain = canonical.plain;
       faithful = faithful;
+      before = end.0;
+      ended = end.1;
     }
 
 pub returns-clause-faithful : goal.returns-clause-faithful

@@ -5,9 +5,9 @@ use Rattle.ep_defs.specs.Entry.{Entry}
 use Rattle.nt_blocks.specs.Verdict.{Good, Bad, More, Verdict, verdict}
 use Rattle.nt_write.specs.Trace.{IsTrace}
 use Rattle.nt_write.specs.Canonical.{IsCanonical}
-use Rattle.nt_whole.specs.Reading.{IsReadAs}
-use Rattle.nt_whole.proofs.Told.{told-ordered}
-use Rattle.nt_whole.proofs.laws.a_canonical_stream_is_read_whole.Goals as goal
+use Rattle.nt_laws.specs.Reading.{IsReadAs}
+use Rattle.nt_laws.proofs.Told.{told-ordered}
+use Rattle.nt_laws.proofs.laws.a_canonical_stream_is_read_whole.Goals as goal
 
 -- Well-formed streams are read whole.
 abbrev AreReadWhole : Type 0

@@ -1,5 +1,6 @@
--- A stream that tells of each thread the writes that were admitted, less those that were refused.
-use Rattle.std.specs.Prelude.{◌≡◌, true, false, List, ◌∷◌}
+-- A stream that tells of each thread the writes that were admitted, less those that were refused (this project's
+-- theorem; the items as in the NetTrace format document of PerfView, version 4).
+use Rattle.std.specs.Prelude.{◌≡◌, true, false, List, [], ◌∷◌, ◌++◌}
 use Rattle.std.specs.List.{AllByRecursion}
 use Rattle.ep_defs.specs.declared.session.TraceInfo.{TraceInfo}
 use Rattle.ep_defs.specs.declared.item.Item.{Item}
@@ -10,7 +11,7 @@ use Rattle.nt_blocks.specs.Ordered.{kinds_of, Tell}
 use Rattle.nt_write.specs.Canonical.{is_trace, is_plain}
 use Rattle.ep_model.specs.Faithful.{Share, AreFaithful}
 
--- A stream's items tell the shares of the threads.
+-- A stream's items tell the shares of the threads: the admitted writes less those that the shares have as refused.
 pub record Faithful (shares : List Share) (items : List Item) : Type 0 where
   pub info : TraceInfo
   pub others : List ItemKind
@@ -22,3 +23,6 @@ pub record Faithful (shares : List Share) (items : List Item) : Type 0 where
   pub told : Tell items entries
   pub plain : AllByRecursion (λ kind. is_plain kind ≡ true) others
   pub faithful : AreFaithful shares entries
+  -- the last item is a point, that of the last entry
+  pub before : List ItemKind
+  pub ended : kinds_of items ≡ before ++ item.Point faithful.last.stamp faithful.last.threads ∷ []

@@ -1,5 +1,5 @@
 -- What a reader finds in a stream that tells entries.
-use Rattle.std.specs.Prelude.{◌≡◌, ℕ, false, List, ◌∷◌, ◌++◌}
+use Rattle.std.specs.Prelude.{◌≡◌, ℕ, ◌⊎◌, false, List, ◌∷◌, ◌++◌}
 use Rattle.std.specs.List.{AllByRecursion}
 use Rattle.ep_defs.specs.declared.session.TraceInfo.{TraceInfo}
 use Rattle.ep_defs.specs.declared.item.Item.{Item}
@@ -34,6 +34,20 @@ pub record IsBegun (items : List Item) (bytes : List ℕ) : Type 0 where
 pub record IsBegunAs (entries : List Entry) (bytes : List ℕ) : Type 0 where
   pub items : List Item
   pub more : verdict bytes ≡ More items
+  pub ordered : AreOrdered items
+  pub first : List Entry
+  pub others : List Entry
+  pub told : Tell items first
+  pub all : entries ≡ first ++ others
+
+-- Nothing in the bytes is refused: they are found to be a whole stream, or to begin one, and these items are there.
+abbrev pub IsFound : List Item → List ℕ → Type 0
+IsFound items bytes = (verdict bytes ≡ Good items) ⊎ (verdict bytes ≡ More items)
+
+-- So it is, and the items stand in order and tell the first of these entries.
+pub record IsReadUpTo (entries : List Entry) (bytes : List ℕ) : Type 0 where
+  pub items : List Item
+  pub found : IsFound items bytes
   pub ordered : AreOrdered items
   pub first : List Entry
   pub others : List Entry

@@ -15,8 +15,8 @@ use Rattle.nt_blocks.specs.Bodies.{IsBody}
 use Rattle.nt_blocks.specs.Refusals.{body_at}
 use Rattle.nt_blocks.specs.Verdict.{Good, Object, object_at, objects_at, verdict}
 use Rattle.nt_write.specs.Trace.{BlocksHold, IsTrace, trace_item}
-use Rattle.nt_whole.proofs.Units.{unit-there}
-use Rattle.nt_whole.proofs.Objects.{block_behind, block-found, block-parts, parts-of, trace_behind, trace-found, trace-parts}
+use Rattle.nt_laws.proofs.Units.{unit-there}
+use Rattle.nt_laws.proofs.Objects.{block_behind, block-found, block-parts, parts-of, trace_behind, trace-found, trace-parts}
 
 -- What a body holds is read.
 pub record BodiesRead : Type 0 where

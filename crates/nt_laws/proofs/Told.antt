@@ -6,7 +6,7 @@ use Rattle.ep_defs.specs.declared.item.ItemKind.{ItemKind}
 use Rattle.ep_defs.specs.Entry.{Entry}
 use Rattle.pt_num.proofs.Steps.{bind_inv}
 use Rattle.nt_blocks.specs.Ordered.{AreOrdered, Names, Tell, kinds_of, names_after, no_names, tell, told_after}
-use Rattle.nt_whole.proofs.Units.{next}
+use Rattle.nt_laws.proofs.Units.{next}
 
 -- Equal answers have equal values.
 same : {E : Type 0} (x y : List Entry) → (let one : Result (List Entry) E = Ok x in one ≡ Ok y) → x ≡ y

@@ -2,11 +2,11 @@ use Rattle.std.proofs.Common.{ℕ, ◌<◌, List, ◌++◌, length}
 use Rattle.ep_defs.specs.declared.session.TraceInfo.{TraceInfo}
 use Rattle.ep_defs.specs.Entry.{Entry}
 use Rattle.nt_write.specs.Canonical.{IsCanonical}
-use Rattle.nt_whole.specs.Reading.{IsBegunAs}
-use Rattle.nt_whole.proofs.Cuts.{stream-cut}
-use Rattle.nt_whole.proofs.Streams.{BodiesRead}
-use Rattle.nt_whole.proofs.Told.{items-first, told-ordered}
-use Rattle.nt_whole.proofs.laws.a_stream_that_is_cut_is_not_refused.Goals as goal
+use Rattle.nt_laws.specs.Reading.{IsBegunAs}
+use Rattle.nt_laws.proofs.Cuts.{stream-cut}
+use Rattle.nt_laws.proofs.Streams.{BodiesRead}
+use Rattle.nt_laws.proofs.Told.{items-first, told-ordered}
+use Rattle.nt_laws.proofs.laws.a_stream_that_is_cut_is_not_refused.Goals as goal
 
 pub returns-clause-cut : goal.returns-clause-cut
 returns-clause-cut c = stream-cut (record { body = c.what_a_body_holds_is_read.ensures })

@@ -3,10 +3,14 @@ ghost use Rattle.std.specs.Prelude.{◌≡◌, ℕ, ◌<◌, List, ◌++◌, len
 ghost use Rattle.ep_defs.specs.declared.session.TraceInfo.{TraceInfo};
 ghost use Rattle.ep_defs.specs.declared.item.Item.{Item};
 ghost use Rattle.ep_defs.specs.Entry.{Entry};
+ghost use Rattle.nt_blocks.specs.Ordered.{AreOrdered};
 ghost use Rattle.nt_blocks.specs.Verdict.{Good, verdict};
 ghost use Rattle.nt_write.specs.Trace.{IsTrace};
 ghost use Rattle.nt_write.specs.Canonical.{IsCanonical};
-ghost use Rattle.nt_whole.specs.Reading.{IsBegun, IsBegunAs, IsReadAs};
+ghost use Rattle.ep_model.specs.Faithful.{Share, AreFaithful};
+ghost use Rattle.nt_laws.specs.Faithful.{Faithful};
+ghost use Rattle.nt_laws.specs.Reading.{IsBegun, IsBegunAs, IsReadAs, IsReadUpTo};
+ghost use Rattle.pt_io.specs.Taken.{IsPrefix};
 
 use nt_blocks::what_a_body_holds_is_read;
 
@@ -41,4 +45,28 @@ pub fn a_stream_that_is_cut_is_not_refused()
         → IsCanonical info entries (part ++ left) → 0 < length left → IsBegunAs entries part }
 {
     what_a_body_holds_is_read();
+}
+
+/// What begins the canonical stream of entries, or is all of it, is read as far as it goes: nothing in it is refused,
+/// and the items that are there stand in order and tell the first entries.
+pub fn a_part_of_a_stream_is_found()
+    ensures { (info : TraceInfo) (entries : List Entry) (part bytes : List ℕ)
+        → IsCanonical info entries bytes → IsPrefix part bytes → IsReadUpTo entries part }
+{
+    a_canonical_stream_is_read_whole();
+    a_stream_that_is_cut_is_not_refused();
+}
+
+/// The canonical stream of entries is found to be a whole one (`found`), in whose items each name is defined before
+/// its use (`ordered`); and where the entries are faithful the items tell of each thread what its share has
+/// (`faithful`).
+pub fn a_faithful_stream_is_found()
+    ensures found { (info : TraceInfo) (entries : List Entry) (bytes : List ℕ)
+        → (canonical : IsCanonical info entries bytes) → verdict bytes ≡ Good canonical.items }
+    ensures ordered { (info : TraceInfo) (entries : List Entry) (bytes : List ℕ)
+        → (canonical : IsCanonical info entries bytes) → AreOrdered canonical.items }
+    ensures faithful { (info : TraceInfo) (shares : List Share) (entries : List Entry) (bytes : List ℕ)
+        → AreFaithful shares entries → (canonical : IsCanonical info entries bytes) → Faithful shares canonical.items }
+{
+    a_canonical_stream_is_read_whole();
 }
