@@ -23,9 +23,10 @@ use Rattle.ep_guarded.specs.declared.agreed.Agreed.TheVariants as agreed
 use Rattle.ep_guarded.specs.declared.grant.Grant.{Grant}
 use Rattle.ep_guarded.specs.declared.kept.Kept.{Kept}
 use Rattle.ep_guarded.specs.Tied.{told_in, hand_in, grant_in, buffer_number, buffer_place, AreMarks, AreCounted}
-use Rattle.ep_guarded.specs.Resting.{RowOver, IsToldBy, RowRests, held_as}
+use Rattle.ep_guarded.specs.Resting.{RowOver, IsToldBy, RowRests, held_as, stand_as}
 use Rattle.ep_guarded.specs.Calls.{OpensRow, ClosesRow}
 use Rattle.ep_guarded.proofs.Resting.{each-set, told-kept, over-kept}
+use Rattle.ep_guarded.proofs.Lives.{first-life}
 
 -- ---- lists
 
@@ -75,11 +76,11 @@ over-opened events configs writes old new slot config over keeps masks index lef
     record {
       events_are = over.events_are ∙ sym masks;
       rest = subst (λ (n : ℕ). RowAtRest events (with_config configs slot config) (take n writes) new) (sym index) (keeps configs (take old.index writes) over.rest);
-      stays = left ∙ over.stays;
+      left = λ gone. index ∙ over.left (sym left ∙ gone);
     }
 
-pub row-opened : (rows : ℕ) (events : List EventDef) (writes : ℕ → List Write) (old new : RowState) (buffers : List (Tied Agreed)) (writer half now : Tied Agreed) (slot : ℕ) (told : Told) → RowRests rows events writes old buffers writer → slice_get buffers slot ≡ Some half → now.place ≡ half.place → now.value ≡ Some (agreed.Told told) → told.thread ≡ old.thread → OpensRow events slot told.grant.now.config told.opening old new → RowRests rows events writes new (slice_set buffers slot now) writer
-row-opened rows events writes old new buffers writer half now slot told rests at place tells thread_is opens =
+pub row-opened : (rows : ℕ) (events : List EventDef) (writes : ℕ → List Write) (life : ℕ) (old new : RowState) (buffers : List (Tied Agreed)) (writer half now : Tied Agreed) (slot : ℕ) (told : Told) → RowRests rows events writes life old buffers writer → slice_get buffers slot ≡ Some half → now.place ≡ half.place → now.value ≡ Some (agreed.Told told) → told.thread ≡ old.thread → OpensRow events slot told.grant.now.config told.opening old new → RowRests rows events writes life new (slice_set buffers slot now) writer
+row-opened rows events writes life old new buffers writer half now slot told rests at place tells thread_is opens =
     let is = opens.others in
     let config = told.grant.now.config in
     let configs : ℕ → Config = with_config rests.configs slot config in
@@ -101,14 +102,14 @@ row-opened rows events writes old new buffers writer half now slot told rests at
             thread = λ t is. ap (λ (t : Told). t.thread) (sym (same_told _ _ (sym inside ∙ is))) ∙ thread_is ∙ sym thread;
             config_is = λ t is. ap (λ (t : Told). t.grant.now.config) (sym (same_told _ _ (sym inside ∙ is))) ∙ sym (ap (λ (v : Bool). if v then config else rests.configs slot) (eq-eqb slot slot refl));
           });
-      stands = rests.stands ∙ ap (λ (r : RowState). Some (agreed.Stand (record { thread = r.thread; index = r.index }))) (sym is);
+      stands = rests.stands ∙ ap (λ (r : RowState). Some (stand_as r)) (sym is);
       thread_is = thread ∙ rests.thread_is;
     }
 
 -- ---- a closing
 
-pub row-closed : (rows : ℕ) (events : List EventDef) (writes : ℕ → List Write) (old new : RowState) (buffers : List (Tied Agreed)) (writer half now : Tied Agreed) (slot : ℕ) → RowRests rows events writes old buffers writer → slice_get buffers slot ≡ Some half → now.place ≡ half.place → now.value ≡ Some agreed.Nothing → ClosesRow slot old new → RowRests rows events writes new (slice_set buffers slot now) writer
-row-closed rows events writes old new buffers writer half now slot rests at place nothing closes =
+pub row-closed : (rows : ℕ) (events : List EventDef) (writes : ℕ → List Write) (life : ℕ) (old new : RowState) (buffers : List (Tied Agreed)) (writer half now : Tied Agreed) (slot : ℕ) → RowRests rows events writes life old buffers writer → slice_get buffers slot ≡ Some half → now.place ≡ half.place → now.value ≡ Some agreed.Nothing → ClosesRow slot old new → RowRests rows events writes life new (slice_set buffers slot now) writer
+row-closed rows events writes life old new buffers writer half now slot rests at place nothing closes =
     let is = closes.others in
     let thread : new.thread ≡ old.thread = ap (λ (r : RowState). r.thread) is in
     let over = over-kept events rests.configs (writes old.thread) old new rests.over closes.rest closes.masks (ap (λ (r : RowState). r.index) is) (ap (λ (r : RowState). r.left) is) in
@@ -126,7 +127,7 @@ row-closed rows events writes old new buffers writer half now slot rests at plac
             thread = λ t is. absurd (none-some t (sym inside ∙ is));
             config_is = λ t is. absurd (none-some t (sym inside ∙ is));
           });
-      stands = rests.stands ∙ ap (λ (r : RowState). Some (agreed.Stand (record { thread = r.thread; index = r.index }))) (sym is);
+      stands = rests.stands ∙ ap (λ (r : RowState). Some (stand_as r)) (sym is);
       thread_is = thread ∙ rests.thread_is;
     }
 
@@ -163,7 +164,7 @@ none-there (suc s) (suc n) = none-there s n
 no_config : Config
 no_config = record { rules = []; chunks = 0; stackwalk = false; rundown = false }
 
-pub row-new : (rows : ℕ) (events : List EventDef) (writes : ℕ → List Write) (number count : ℕ) (row : RowState) (buffers : List (Tied Agreed)) (writer : Tied Agreed) → row ≡ new_row (number + 1) count → RestsAnew row → count ≡ length events → writer.place ≡ number → length buffers ≡ 64 → ((s : ℕ) (half : Tied Agreed) → slice_get buffers s ≡ Some half → half.place ≡ buffer_place rows (buffer_number number s)) → ((s : ℕ) (half : Tied Agreed) → slice_get buffers s ≡ Some half → half.value ≡ Some agreed.Nothing) → writer.value ≡ Some (agreed.Stand (record { thread = number + 1; index = 0 })) → RowRests rows events writes row buffers writer
+pub row-new : (rows : ℕ) (events : List EventDef) (writes : ℕ → List Write) (number count : ℕ) (row : RowState) (buffers : List (Tied Agreed)) (writer : Tied Agreed) → row ≡ new_row (number + 1) count → RestsAnew row → count ≡ length events → writer.place ≡ number → length buffers ≡ 64 → ((s : ℕ) (half : Tied Agreed) → slice_get buffers s ≡ Some half → half.place ≡ buffer_place rows (buffer_number number s)) → ((s : ℕ) (half : Tied Agreed) → slice_get buffers s ≡ Some half → half.value ≡ Some agreed.Nothing) → writer.value ≡ Some (agreed.Stand (record { thread = number + 1; index = 0 })) → RowRests rows events writes 0 row buffers writer
 row-new rows events writes number count row buffers writer is rests many place full places nothing stands =
     let masks : length row.masks ≡ count = ap (λ (r : RowState). length r.masks) is ∙ length-replicate count 0 in
     let index : row.index ≡ 0 = ap (λ (r : RowState). r.index) is in
@@ -177,7 +178,7 @@ row-new rows events writes number count row buffers writer is rests many place f
           record {
             events_are = events_are;
             rest = subst (λ (n : ℕ). RowAtRest events (λ _. no_config) (take n (writes row.thread)) row) (sym index) (rests events (λ _. no_config) events_are);
-            stays = ap (λ (r : RowState). r.left) is;
+            left = λ gone. absurd (true≢false (sym gone ∙ ap (λ (r : RowState). r.left) is));
           };
       count = full;
       places = λ s half at. subst (λ (p : ℕ). half.place ≡ rows + 2 * (p * 64 + s)) (sym place) (places s half at);
@@ -188,9 +189,6 @@ row-new rows events writes number count row buffers writer is rests many place f
             thread = λ t told. absurd (none-some t (sym (tells s half at) ∙ told));
             config_is = λ t told. absurd (none-some t (sym (tells s half at) ∙ told));
           };
-      stands =
-          stands
-          ∙ ap (λ (t : ℕ). Some (agreed.Stand (record { thread = t; index = 0 }))) (sym thread)
-          ∙ ap (λ (i : ℕ). Some (agreed.Stand (record { thread = row.thread; index = i }))) (sym index);
-      thread_is = thread ∙ ap (λ (p : ℕ). p + 1) (sym place);
+      stands = stands ∙ ap (λ (r : RowState). Some (stand_as r)) (sym is);
+      thread_is = thread ∙ ap (λ (p : ℕ). p + 1) (sym place) ∙ sym (first-life rows writer.place);
     }

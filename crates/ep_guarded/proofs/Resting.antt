@@ -1,9 +1,9 @@
 -- What each call makes of a row with its halves is at rest.
-use Rattle.std.proofs.Common.{◌≡◌, ℕ, zero, suc, ◌+◌, ◌-◌, ◌*◌, ◌<◌, true, false, List, [], ◌∷◌, ◌++◌, length, take, Option, None, Some, refl, ap, sym, ◌∙◌, subst, arith, inl, inr, get_or}
-use Rattle.std.specs.Prelude.{option_map, is_some, slice_get, slice_set}
+use Rattle.std.proofs.Common.{◌≡◌, ℕ, zero, suc, ◌+◌, ◌-◌, ◌*◌, ◌<◌, Bool, true, false, List, [], ◌∷◌, ◌++◌, length, take, Option, None, Some, refl, ap, sym, ◌∙◌, subst, arith, inl, inr, get_or}
+use Rattle.std.specs.Prelude.{if◌then◌else◌, option_map, is_some, slice_get, slice_set, IsSome}
 use Rattle.std.specs.Int.{bit_at}
 use Rattle.std.proofs.Math.Seq.{take-suc}
-use Rattle.std.proofs.lemmas.Bool.{cases_eq}
+use Rattle.std.proofs.lemmas.Bool.{cases_eq, true≢false}
 use Rattle.std.proofs.lemmas.List.{get_or-set_other}
 use Rattle.std.proofs.Math.ListN.{length-set}
 use Rattle.std.proofs.lemmas.Option.{slice_get_within, get_or_from_slice_get}
@@ -17,8 +17,8 @@ use Rattle.ep_tie.specs.Tied.{Tied}
 use Rattle.ep_guarded.specs.declared.agreed.Told.{Told}
 use Rattle.ep_guarded.specs.declared.agreed.Agreed.{Agreed}
 use Rattle.ep_guarded.specs.declared.agreed.Agreed.TheVariants as agreed
-use Rattle.ep_guarded.specs.Tied.{told_in}
-use Rattle.ep_guarded.specs.Resting.{RowOver, IsToldBy, RowRests}
+use Rattle.ep_guarded.specs.Tied.{told_in, stand_in, left_in, thread_of}
+use Rattle.ep_guarded.specs.Resting.{RowOver, IsToldBy, RowRests, stand_of, stand_as}
 use Rattle.ep_guarded.specs.Calls.{raised, TellsDue, ShownBy}
 
 -- ---- lists with one place set
@@ -57,11 +57,11 @@ over-kept events configs writes old new over keeps masks index left =
     record {
       events_are = over.events_are ∙ sym masks;
       rest = subst (λ (n : ℕ). RowAtRest events configs (take n writes) new) (sym index) (keeps events configs (take old.index writes) over.events_are over.rest);
-      stays = left ∙ over.stays;
+      left = λ gone. index ∙ over.left (sym left ∙ gone);
     }
 
-over-begun : (events : List EventDef) (configs : ℕ → Config) (writes : List Write) (old : RowState) (stamp : ℕ) (write : Write) → RowOver events configs writes old → KeepsRestWith write old (with_begin old stamp write) → slice_get writes old.index ≡ Some write → RowOver events configs writes (with_begin old stamp write)
-over-begun events configs writes old stamp write over keeps next =
+over-begun : (events : List EventDef) (configs : ℕ → Config) (writes : List Write) (old : RowState) (stamp : ℕ) (write : Write) → RowOver events configs writes old → old.left ≡ false → KeepsRestWith write old (with_begin old stamp write) → slice_get writes old.index ≡ Some write → RowOver events configs writes (with_begin old stamp write)
+over-begun events configs writes old stamp write over stays keeps next =
     let within = slice_get_within writes old.index write next in
     let more : take (old.index + 1) writes ≡ take old.index writes ++ write ∷ [] =
     ap (λ (n : ℕ). take n writes) {x = old.index + 1} {y = suc old.index} (omega arith) ∙ take-suc writes old.index write within
@@ -70,8 +70,34 @@ over-begun events configs writes old stamp write over keeps next =
     record {
       events_are = over.events_are;
       rest = subst (λ (ws : List Write). RowAtRest events configs ws (with_begin old stamp write)) (sym more) (keeps events configs (take old.index writes) over.events_are over.rest);
-      stays = over.stays;
+      left = λ gone. absurd (true≢false (sym gone ∙ stays));
     }
+
+-- ---- the row and its thread
+
+-- A half that tells where the thread stands tells that it has not left.
+pub standing : (row : RowState) (value : Option Agreed) → value ≡ Some (stand_as row) → IsSome (stand_in value) → (row.left ≡ false) × (value ≡ Some (agreed.Stand (stand_of row)))
+standing row value is some =
+    elim row.left as (λ v. value ≡ Some (if v then agreed.Left (stand_of row) else agreed.Stand (stand_of row)) → (v ≡ false) × (value ≡ Some (agreed.Stand (stand_of row)))) [
+      | true ↦ λ e. absurd (no (subst (λ (o : Option Agreed). IsSome (stand_in o)) e some))
+      | false ↦ λ e. (refl, e)
+    ]
+    is
+  where
+    no : false ≡ true → ⊥
+    no e = cc
+
+-- A half that tells of a thread that has left tells that it has.
+pub leaving : (row : RowState) (value : Option Agreed) → value ≡ Some (stand_as row) → IsSome (left_in value) → (row.left ≡ true) × (value ≡ Some (agreed.Left (stand_of row)))
+leaving row value is some =
+    elim row.left as (λ v. value ≡ Some (if v then agreed.Left (stand_of row) else agreed.Stand (stand_of row)) → (v ≡ true) × (value ≡ Some (agreed.Left (stand_of row)))) [
+      | true ↦ λ e. (refl, e)
+      | false ↦ λ e. absurd (no (subst (λ (o : Option Agreed). IsSome (left_in o)) e some))
+    ]
+    is
+  where
+    no : false ≡ true → ⊥
+    no e = cc
 
 -- ---- the row with its halves
 
@@ -84,8 +110,8 @@ told-kept old new config s value slots thread told =
     }
 
 -- Nothing but the end of a write.
-pub row-ended : (rows : ℕ) (events : List EventDef) (writes : ℕ → List Write) (old new : RowState) (buffers : List (Tied Agreed)) (writer : Tied Agreed) → RowRests rows events writes old buffers writer → KeepsRest old new → new ≡ record old { in_write = false } → RowRests rows events writes new buffers writer
-row-ended rows events writes old new buffers writer rests keeps is =
+pub row-ended : (rows : ℕ) (events : List EventDef) (writes : ℕ → List Write) (life : ℕ) (old new : RowState) (buffers : List (Tied Agreed)) (writer : Tied Agreed) → RowRests rows events writes life old buffers writer → KeepsRest old new → new ≡ record old { in_write = false } → RowRests rows events writes life new buffers writer
+row-ended rows events writes life old new buffers writer rests keeps is =
     let thread : new.thread ≡ old.thread = ap (λ (r : RowState). r.thread) is in
     let index : new.index ≡ old.index = ap (λ (r : RowState). r.index) is in
     let over = over-kept events rests.configs (writes old.thread) old new rests.over keeps (ap (λ (r : RowState). length r.masks) is) index (ap (λ (r : RowState). r.left) is) in
@@ -95,23 +121,23 @@ row-ended rows events writes old new buffers writer rests keeps is =
       count = rests.count;
       places = rests.places;
       told = λ s half at. told-kept old new (rests.configs s) s half.value (ap (λ (r : RowState). slot_of r s) is) thread (rests.told s half at);
-      stands = rests.stands ∙ ap (λ (r : RowState). Some (agreed.Stand (record { thread = r.thread; index = r.index }))) (sym is);
+      stands = rests.stands ∙ ap (λ (r : RowState). Some (stand_as r)) (sym is);
       thread_is = thread ∙ rests.thread_is;
     }
 
-pub row-begun : (rows : ℕ) (events : List EventDef) (writes : ℕ → List Write) (old new : RowState) (stamp : ℕ) (write : Write) (buffers : List (Tied Agreed)) (writer now : Tied Agreed) → RowRests rows events writes old buffers writer → KeepsRestWith write old new → new ≡ with_begin old stamp write → slice_get (writes old.thread) old.index ≡ Some write → now.place ≡ writer.place → now.value ≡ Some (agreed.Stand (record { thread = old.thread; index = old.index + 1 })) → RowRests rows events writes new buffers now
-row-begun rows events writes old new stamp write buffers writer now rests keeps is next place stands =
+pub row-begun : (rows : ℕ) (events : List EventDef) (writes : ℕ → List Write) (life : ℕ) (old new : RowState) (stamp : ℕ) (write : Write) (buffers : List (Tied Agreed)) (writer now : Tied Agreed) → RowRests rows events writes life old buffers writer → old.left ≡ false → KeepsRestWith write old new → new ≡ with_begin old stamp write → slice_get (writes old.thread) old.index ≡ Some write → now.place ≡ writer.place → now.value ≡ Some (agreed.Stand (record { thread = old.thread; index = old.index + 1 })) → RowRests rows events writes life new buffers now
+row-begun rows events writes life old new stamp write buffers writer now rests stays keeps is next place stands =
     let begun : RowState = with_begin old stamp write in
-    let over = over-begun events rests.configs (writes old.thread) old stamp write rests.over (subst (KeepsRestWith write old) is keeps) next in
-    subst (λ (r : RowState). RowRests rows events writes r buffers now) (sym is)
+    let over = over-begun events rests.configs (writes old.thread) old stamp write rests.over stays (subst (KeepsRestWith write old) is keeps) next in
+    subst (λ (r : RowState). RowRests rows events writes life r buffers now) (sym is)
     (record {
       configs = rests.configs;
       over = over;
       count = rests.count;
       places = λ s half at. subst (λ (p : ℕ). half.place ≡ rows + 2 * (p * 64 + s)) (sym place) (rests.places s half at);
       told = λ s half at. told-kept old begun (rests.configs s) s half.value refl refl (rests.told s half at);
-      stands = stands;
-      thread_is = rests.thread_is ∙ ap (λ (p : ℕ). p + 1) (sym place);
+      stands = stands ∙ ap (λ (v : Bool). Some (if v then agreed.Left (stand_of begun) else agreed.Stand (stand_of begun))) (sym stays);
+      thread_is = rests.thread_is ∙ ap (λ (p : ℕ). thread_of rows p life) (sym place);
     })
 
 -- A slot that is on is told.
@@ -133,9 +159,13 @@ tells-on (Some (agreed.Stand stand)) on = absurd (no on)
   where
     no : false ≡ true → ⊥
     no e = cc
+tells-on (Some (agreed.Left stand)) on = absurd (no on)
+  where
+    no : false ≡ true → ⊥
+    no e = cc
 
-pub tells-due : (rows : ℕ) (events : List EventDef) (writes : ℕ → List Write) (row : RowState) (buffers : List (Tied Agreed)) (writer half : Tied Agreed) (slot : ℕ) (write : Write) → RowRests rows events writes row buffers writer → slot < 64 → bit_at row.due slot ≡ 1 → 0 < row.index → slice_get (writes row.thread) (row.index - 1) ≡ Some write → slice_get buffers slot ≡ Some half → TellsDue events (writes row.thread) slot write row half.value
-tells-due rows events writes row buffers writer half slot write rests within due begun last at =
+pub tells-due : (rows : ℕ) (events : List EventDef) (writes : ℕ → List Write) (life : ℕ) (row : RowState) (buffers : List (Tied Agreed)) (writer half : Tied Agreed) (slot : ℕ) (write : Write) → RowRests rows events writes life row buffers writer → slot < 64 → bit_at row.due slot ≡ 1 → 0 < row.index → slice_get (writes row.thread) (row.index - 1) ≡ Some write → slice_get buffers slot ≡ Some half → TellsDue events (writes row.thread) slot write row half.value
+tells-due rows events writes life row buffers writer half slot write rests within due begun last at =
     let told = rests.told slot half at in
     let on : is_some (slot_of row slot) ≡ true = (rests.over.rest.due slot within due).1 in
     let one = tells-on half.value (sym (ap (is_some {T = Opening}) told.slot_is) ∙ on) in
@@ -159,8 +189,8 @@ tells-due rows events writes row buffers writer half slot write rests within due
           };
     }
 
-pub row-shown : (rows : ℕ) (events : List EventDef) (writes : ℕ → List Write) (old new : RowState) (buffers : List (Tied Agreed)) (writer half now : Tied Agreed) (slot : ℕ) → RowRests rows events writes old buffers writer → slice_get buffers slot ≡ Some half → now.place ≡ half.place → ShownBy slot old new half.value now.value → RowRests rows events writes new (slice_set buffers slot now) writer
-row-shown rows events writes old new buffers writer half now slot rests at place shown =
+pub row-shown : (rows : ℕ) (events : List EventDef) (writes : ℕ → List Write) (life : ℕ) (old new : RowState) (buffers : List (Tied Agreed)) (writer half now : Tied Agreed) (slot : ℕ) → RowRests rows events writes life old buffers writer → slice_get buffers slot ≡ Some half → now.place ≡ half.place → ShownBy slot old new half.value now.value → RowRests rows events writes life new (slice_set buffers slot now) writer
+row-shown rows events writes life old new buffers writer half now slot rests at place shown =
     let is = shown.row_is.others in
     let thread : new.thread ≡ old.thread = ap (λ (r : RowState). r.thread) is in
     let index : new.index ≡ old.index = ap (λ (r : RowState). r.index) is in
@@ -182,7 +212,7 @@ row-shown rows events writes old new buffers writer half now slot rests at place
             thread = λ t is. ap (λ (t : Told). t.thread) (sym (raised_is t is)) ∙ was.thread shown.told inside ∙ sym thread;
             config_is = λ t is. ap (λ (t : Told). t.grant.now.config) (sym (raised_is t is)) ∙ was.config_is shown.told inside;
           });
-      stands = rests.stands ∙ ap (λ (r : RowState). Some (agreed.Stand (record { thread = r.thread; index = r.index }))) (sym is);
+      stands = rests.stands ∙ ap (λ (r : RowState). Some (stand_as r)) (sym is);
       thread_is = thread ∙ rests.thread_is;
     }
   where

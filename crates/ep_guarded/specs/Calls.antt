@@ -14,10 +14,12 @@ use Rattle.ep_slot.specs.Hand.{HandState, hand_of}
 use Rattle.ep_guarded.specs.declared.agreed.Told.{Told}
 use Rattle.ep_guarded.specs.declared.agreed.Agreed.{Agreed}
 use Rattle.ep_guarded.specs.declared.agreed.Agreed.TheVariants as agreed
-use Rattle.ep_guarded.specs.Tied.{hand_after, AreTaken}
+use Rattle.ep_slot.specs.declared.shown.Shown.{Shown}
+use Rattle.ep_slot.specs.Slot.{with_steal}
+use Rattle.ep_guarded.specs.Tied.{hand_after, AreTaken, IsAnswered}
 use Rattle.ep_guarded.specs.declared.grant.Grant.{Grant}
 use Rattle.ep_guarded.specs.declared.kept.Kept.{Kept}
-use Rattle.ep_guarded.specs.Resting.{KeptRests, RowOver, held_as}
+use Rattle.ep_guarded.specs.Resting.{KeptRests, RowOver, held_as, state_of}
 
 -- ---- a show
 
@@ -50,19 +52,20 @@ pub record ShowsRow (slot : ℕ) (opening : Opening) (old new : RowState) : Type
   pub rest : KeepsRest old new
 
 -- What is open was shown the row's write.
-pub record IsShown (events : List EventDef) (writes : ℕ → List Write) (slot : ℕ) (row new_row : RowState) (kept new_kept : Kept) : Type 0 where
+pub record IsShown (events : List EventDef) (writes : ℕ → List Write) (slot : ℕ) (write : Write) (shown : Shown) (row new_row : RowState) (kept new_kept : Kept) : Type 0 where
   pub told : new_kept.told ≡ raised kept.told
   pub held : held_as (Some new_kept) ≡ held_as (Some kept)
   pub rests : KeptRests events writes new_kept
   pub row_is : ShowsRow slot new_kept.told.opening row new_row
+  pub answered : IsAnswered row.stamp write shown (state_of kept) (state_of new_kept)
 
 -- What is open, if something is, was shown the row's write.
-pub record ShownIn (events : List EventDef) (writes : ℕ → List Write) (slot : ℕ) (row new_row : RowState) (kept new_kept : Option Kept) : Type 0 where
+pub record ShownIn (events : List EventDef) (writes : ℕ → List Write) (slot : ℕ) (write : Write) (shown : Shown) (row new_row : RowState) (kept new_kept : Option Kept) : Type 0 where
   pub one : Kept
   pub was : kept ≡ Some one
   pub next : Kept
   pub now : new_kept ≡ Some next
-  pub shown : IsShown events writes slot row new_row one next
+  pub is : IsShown events writes slot write shown row new_row one next
 
 -- The half of a tie tells the session that is due.
 pub record TellsDue (events : List EventDef) (writes : List Write) (slot : ℕ) (write : Write) (row : RowState) (value : Option Agreed) : Type 0 where
@@ -87,6 +90,10 @@ pub record IsStolen (events : List EventDef) (writes : ℕ → List Write) (reco
   pub rests : KeptRests events writes new_kept
   pub taken : AreTaken hand records last
   pub numbered : All (IsNumbered events kept.told.grant.now.config (writes hand.thread) hand.from) records
+  pub slot : new_kept.slot ≡ with_steal kept.slot
+  pub seat : new_kept.seat ≡ kept.seat
+  pub all : records ≡ kept.slot.records
+  pub last_is : last ≡ kept.slot.used
 
 -- The same of what is open, if something is.
 pub record StolenIn (events : List EventDef) (writes : ℕ → List Write) (records : List Record) (last chunks : ℕ) (hand new_hand : HandState) (kept new_kept : Option Kept) : Type 0 where

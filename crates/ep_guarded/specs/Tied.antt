@@ -1,7 +1,7 @@
 -- What contracts see of rows and buffers with their halves of ties. All of it is this project's own.
 use Rattle.std.specs.Prelude.{ℕ, ◌+◌, ◌*◌, ◌≤◌, List, length, take, Option, None, Some}
 use Rattle.std.specs.List.{All}
-use Rattle.std.specs.Prelude.{◌≡◌, IsTrue}
+use Rattle.std.specs.Prelude.{◌≡◌, ◌≢◌, ◌⊎◌, ◌↔◌, true, IsTrue}
 use Rattle.ep_defs.specs.declared.limits.TheConstants.{SESSIONS}
 use Rattle.ep_defs.specs.declared.event.EventDef.{EventDef}
 use Rattle.ep_defs.specs.declared.session.Config.{Config}
@@ -10,9 +10,13 @@ use Rattle.ep_defs.specs.declared.session.Write.{Write}
 use Rattle.ep_model.specs.History.{admitted_from}
 use Rattle.ep_defs.specs.Session.{fits}
 use Rattle.ep_chunk.specs.Record.{Record}
-use Rattle.ep_slot.specs.Slot.{AreRising}
+use Rattle.ep_model.specs.Budget.{needs_chunk, record_size}
+use Rattle.ep_pool.specs.Shared.{SeatState}
+use Rattle.ep_slot.specs.declared.shown.Shown.{Shown}
+use Rattle.ep_slot.specs.Slot.{SlotState, AreRising, shown_slot, with_steal, number_of, is_refused}
 use Rattle.ep_slot.specs.Hand.{HandState}
 use Rattle.ep_row.specs.AtRest.{write_of}
+use Rattle.ep_row.specs.Bits.{one_if}
 use Rattle.ep_row.specs.Row.{RowState}
 use Rattle.ep_guarded.specs.declared.agreed.Told.{Told}
 use Rattle.ep_guarded.specs.declared.agreed.Stand.{Stand}
@@ -42,6 +46,21 @@ abbrev pub stand_in : Option Agreed → Option Stand
 stand_in (Some (agreed.Stand stand)) = Some stand
 stand_in _ = None
 
+-- How far the thread had come that has left its row.
+abbrev pub left_in : Option Agreed → Option Stand
+left_in (Some (agreed.Left stand)) = Some stand
+left_in _ = None
+
+-- ---- threads and their rows
+
+-- The thread that a row serves in a life, both from 0: the threads of the first lives come first, by row.
+unfoldable pub thread_of : ℕ → ℕ → ℕ → ℕ
+thread_of rows number life = number + 1 + life * rows
+
+-- The next thread of a row, which has made no write.
+abbrev pub next_stand : ℕ → Stand → Stand
+next_stand rows stand = record { thread = stand.thread + rows; index = 0 }
+
 -- ---- numbers and places
 
 -- The number of a buffer, by its row, from 0, and its slot.
@@ -52,14 +71,58 @@ buffer_number row slot = row * SESSIONS + slot
 abbrev pub buffer_place : ℕ → ℕ → ℕ
 buffer_place rows number = rows + 2 * number
 
--- A row: its number, from 0, and itself.
+-- A row: its number, from 0, its life, from 0, and itself.
 pub record TiedRowState : Type 0 where
   pub number : ℕ
+  pub life : ℕ
   pub row : RowState
 
--- A buffer: where its tie to its row stands.
+-- A session that is to be opened on the row in this life finds that it has left, or serves another life.
+abbrev pub IsAway : ℕ → TiedRowState → Type 0
+IsAway life state = (state.row.left ≡ true) ⊎ (state.life ≢ life)
+
+-- The row serves this life, and its thread has begun so many writes.
+abbrev pub IsDone : ℕ → ℕ → TiedRowState → Type 0
+IsDone life writes state = (state.life ≡ life) × (state.row.index ≡ writes)
+
+-- What is open in a buffer: the session's slot on the row's thread, and a seat of the session's pool.
+pub record KeptState : Type 0 where
+  pub slot : SlotState
+  pub seat : SeatState
+
+-- A buffer: where its tie to its row stands, and what is open in it, if something is.
 pub record BufferState : Type 0 where
   pub place : ℕ
+  pub kept : Option KeptState
+
+-- ---- what is shown
+
+-- What became of a write that was shown with this stamp: it has the next number, and its record is kept, with the stamp,
+-- or it is refused. It is refused exactly where the record needs a chunk and the seat counts one dry take more, which it
+-- counts in no other case.
+pub record IsAnswered (stamp : ℕ) (write : Write) (shown : Shown) (old new : KeptState) : Type 0 where
+  pub number : number_of shown ≡ old.slot.used + 1
+  pub refused : IsTrue (is_refused shown) ↔ (IsTrue (needs_chunk old.slot.pending (record_size write)) × (new.seat.dry ≡ old.seat.dry + 1))
+  pub slot : new.slot ≡ shown_slot (is_refused shown) old.slot stamp write
+  pub seat : new.seat ≡ record old.seat { taken = new.seat.taken; dry = old.seat.dry + one_if (is_refused shown) }
+
+-- The same of what is open in a buffer.
+pub record AnswersShow (stamp : ℕ) (write : Write) (shown : Shown) (old new : Option KeptState) : Type 0 where
+  pub one : KeptState
+  pub was : old ≡ Some one
+  pub next : KeptState
+  pub now : new ≡ Some next
+  pub answered : IsAnswered stamp write shown one next
+
+-- ---- what is stolen
+
+-- All that was pending in a buffer was taken, up to the last number that was used, and nothing is pending.
+pub record TakesAll (records : List Record) (last : ℕ) (old new : Option KeptState) : Type 0 where
+  pub one : KeptState
+  pub was : old ≡ Some one
+  pub now : new ≡ Some (record one { slot = with_steal one.slot })
+  pub all : records ≡ one.slot.records
+  pub last_is : last ≡ one.slot.used
 
 -- ---- what is taken with a hand
 

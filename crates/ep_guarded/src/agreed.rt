@@ -65,11 +65,13 @@ pub struct Stand {
 }
 
 /// What two owners agree on: a row and a buffer on what is told, a buffer and a hand on what is held, a row and its
-/// thread on how far it has come. It is `Nothing` where no session is open.
+/// thread on how far it has come. It is `Nothing` where no session is open, and `Left` where the thread that the row
+/// serves makes no more writes.
 #[derive(Drop)]
 pub enum Agreed<'a> {
     Nothing,
     Told(Told<'a>),
     Held(Held<'a>),
     Stand(Stand),
+    Left(Stand),
 }

@@ -6,7 +6,7 @@ ghost use Rattle.ep_slot.specs.Chain.{records_of, HasRecords};
 ghost use Rattle.ep_row.specs.AtRest.{IsNumbered};
 ghost use Rattle.ep_slot.specs.Hand.{Agrees};
 ghost use Rattle.ep_guarded.specs.declared.agreed.Agreed.TheVariants as agreed;
-ghost use Rattle.ep_guarded.specs.Tied.{told_in, hand_in, grant_in, hand_after, AreTaken};
+ghost use Rattle.ep_guarded.specs.Tied.{told_in, hand_in, grant_in, hand_after, AreTaken, AnswersShow, TakesAll};
 ghost use Rattle.ep_guarded.specs.Resting.{KeptRests, held_as};
 ghost use Rattle.ep_guarded.specs.Calls.{TellsDue, ShownBy};
 
@@ -22,7 +22,8 @@ use std::marker::Model;
 use std::mem;
 use std::sync::Wait;
 
-/// A buffer of a row with its halves of ties, as it stands under its lock. Contracts see where its tie to its row stands.
+/// A buffer of a row with its halves of ties, as it stands under its lock. Contracts see where its tie to its row stands,
+/// and what is open in it.
 #[derive(Drop)]
 pub struct TiedBuffer<'a, P: Program> {
     kept: Option<Kept<'a>>,
@@ -32,11 +33,12 @@ pub struct TiedBuffer<'a, P: Program> {
 
 impl<'a, P: Program> Model for TiedBuffer<'a, P> {
     ghost use Rattle.ep_guarded.specs.Tied.{BufferState};
-    ghost use Rattle.ep_guarded.specs.Resting.{BufferRests};
+    ghost use Rattle.std.specs.Prelude.{option_map};
+    ghost use Rattle.ep_guarded.specs.Resting.{BufferRests, state_of};
 
     ghost Value = { BufferState };
 
-    ghost view = { λ b. record { place = b.row.place } };
+    ghost view = { λ b. record { place = b.row.place; kept = option_map state_of b.kept } };
 
     ghost invariant = { λ b. BufferRests P.events P.writes b.kept b.row b.hand };
 }
@@ -46,7 +48,7 @@ impl<'a, P: Program> TiedBuffer<'a, P> {
     pub fn new(row: Right<P, Agreed<'a>>, hand: Left<P, Agreed<'a>>) -> TiedBuffer<'a, P>
         requires nothing { (row.value ≡ Some agreed.Nothing) × (hand.value ≡ Some agreed.Nothing) }
         requires beside { hand.place ≡ row.place + 1 }
-        ensures { result.place ≡ row.entry.place }
+        ensures { result ≡ record { place = row.entry.place; kept = None } }
     {
         TiedBuffer {
             kept: None,
@@ -72,6 +74,7 @@ impl<'a, P: Program> TiedBuffer<'a, P> {
         ensures few { hand.new.stolen ≤ WRITES }
         ensures half { hand_in half.new.value ≡ Some hand.new }
         ensures grant { grant_in half.new.value ≡ grant_in half.old.value }
+        ensures all { TakesAll (records_of result.chain) result.last self.old.kept self.new.kept }
         ensures places { (self.new.place ≡ self.old.place) × (half.new.place ≡ half.old.place) }
     {
         self.hand.meet(ties, half);
@@ -96,6 +99,7 @@ impl<'a, P: Program> TiedBuffer<'a, P> {
         requires due { TellsDue P.events (P.writes row.old.thread) slot write.now row.old half.old.value }
         requires fits { IsTrue (valid.fits write.now) }
         ensures shown { ShownBy slot row.old row.new half.old.value half.new.value }
+        ensures answer { AnswersShow row.old.stamp write.now result self.old.kept self.new.kept }
         ensures places { (self.new.place ≡ self.old.place) × (half.new.place ≡ half.old.place) }
     {
         let next = next_told(&self.kept);

@@ -44,7 +44,7 @@ pub(crate) fn show<P: Program, R: Wait>(
     requires rests { KeptRests P.events P.writes kept.old }
     requires due { IsDueFor P.events (P.writes row.old.thread) slot write.now row.old kept.old.told }
     requires fits { IsTrue (valid.fits write.now) }
-    ensures { IsShown P.events P.writes slot row.old row.new kept.old kept.new }
+    ensures { IsShown P.events P.writes slot write.now result row.old row.new kept.old kept.new }
 {
     let Kept {
         slot: buffer,
@@ -74,7 +74,7 @@ pub(crate) fn show_in<P: Program, R: Wait>(
     requires rests { ForSome kept.old (KeptRests P.events P.writes) }
     requires due { ForSome kept.old (λ k. IsDueFor P.events (P.writes row.old.thread) slot write.now row.old k.told) }
     requires fits { IsTrue (valid.fits write.now) }
-    ensures { ShownIn P.events P.writes slot row.old row.new kept.old kept.new }
+    ensures { ShownIn P.events P.writes slot write.now result row.old row.new kept.old kept.new }
 {
     match kept {
         Some(kept) => show::<P, R>(rt, kept, row, slot, write),
@@ -214,7 +214,7 @@ pub(crate) fn close<P: Program>(
     ensures last { result.0.last ≡ kept.entry.slot.used }
     ensures marks { AreMarks hand (records_of result.0.chain) result.0.last row.old.index result.1 }
     ensures row { ClosesRow slot row.old row.new }
-    ensures seat { seat.new ≡ record seat.old { share = seat.old.share + 1; taken = seat.old.taken + (hand.stolen + length result.0.chain) } }
+    ensures seat { seat.new ≡ record seat.old { share = seat.old.share + 1; taken = seat.old.taken + (hand.stolen + length result.0.chain); dry = seat.old.dry + result.1.refused } }
     ensures few { hand.stolen + length result.0.chain ≤ WRITES }
 {
     let Kept {

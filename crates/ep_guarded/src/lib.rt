@@ -20,4 +20,4 @@ pub use agreed::{Agreed, HandNumbers, Held, Stand, Told};
 pub use buffer::TiedBuffer;
 pub use grant::Grant;
 pub use program::Program;
-pub use row::TiedRow;
+pub use row::{NotOpened, TiedRow};

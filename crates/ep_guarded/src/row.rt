@@ -1,18 +1,18 @@
 //! A row with its halves of ties.
-ghost use Rattle.std.specs.Prelude.{◌≡◌, ◌+◌, ◌-◌, ◌^◌, ◌<◌, ◌≤◌, ◌↔◌, ℕ, false, true, length, take, slice_get, vec_len, All, Some, None, IsNone, IfSome, IfOk, OnOk, OnErr, IsSome, IsTrue};
+ghost use Rattle.std.specs.Prelude.{◌≡◌, ◌⊎◌, ◌+◌, ◌-◌, ◌^◌, ◌<◌, ◌≤◌, ◌↔◌, ℕ, false, true, length, option_map, take, slice_get, vec_len, All, Some, None, IsNone, IfSome, IfOk, IfErr, IsOk, OnOk, OnErr, IsSome, IsTrue, Err};
 ghost use Rattle.std.specs.Int.{bit_at};
 ghost use Rattle.std.specs.Option.{ForSome};
 ghost use Rattle.ep_defs.specs.Session as valid;
 ghost use Rattle.ep_row.specs.Bits.{ClearsBit};
 ghost use Rattle.ep_row.specs.Row.{new_row, with_begin};
-ghost use Rattle.ep_row.specs.AtRest.{IsNumbered};
 ghost use Rattle.ep_pool.specs.Shared.{IsSeatOf};
 ghost use Rattle.ep_pool.specs.declared.limits.TheConstants.{SEAT_COUNTS};
-ghost use Rattle.ep_slot.specs.Chain.{records_of, HasRecords};
 ghost use Rattle.ep_tie.specs.Tied.{Tied};
 ghost use Rattle.ep_guarded.specs.declared.agreed.Agreed.{Agreed as AgreedValue};
 ghost use Rattle.ep_guarded.specs.declared.agreed.Agreed.TheVariants as agreed;
-ghost use Rattle.ep_guarded.specs.Tied.{stand_in, hand_in, grant_in, buffer_number, buffer_place, AreTaken, AreMarks, AreCounted};
+ghost use Rattle.ep_guarded.specs.declared.row.NotOpened.TheVariants as not_opened;
+ghost use Rattle.ep_guarded.specs.Tied.{stand_in, left_in, hand_in, grant_in, next_stand, thread_of, buffer_number, buffer_place, AnswersShow, IsAway, IsDone};
+ghost use Rattle.ep_guarded.specs.Sessions.{Opens, Closes};
 
 use crate::agreed::{Agreed, Stand};
 use crate::buffer::TiedBuffer;
@@ -29,10 +29,20 @@ use std::alloc::{AllocError, Global};
 use std::marker::Model;
 use std::sync::Wait;
 
-/// A thread's row with its halves of ties, as it stands under its lock. Contracts see its number, from 0, and the row.
+/// Why a session was not opened on a row.
+#[derive(Clone, Copy, Debug, PartialEq, Eq)]
+pub enum NotOpened {
+    /// The row has left, or serves another life.
+    Away,
+    OutOfMemory,
+}
+
+/// A thread's row with its halves of ties, as it stands under its lock. The threads that it serves in a run come one after
+/// another, each in a life of the row's. Contracts see its number, its life, both from 0, and the row.
 #[derive(Drop)]
 pub struct TiedRow<'a, P: Program> {
     row: Row,
+    life: u32,
     // By slot.
     buffers: Vec<Left<P, Agreed<'a>>>,
     writer: Left<P, Agreed<'a>>,
@@ -44,9 +54,9 @@ impl<'a, P: Program> Model for TiedRow<'a, P> {
 
     ghost Value = { TiedRowState };
 
-    ghost view = { λ r. record { number = r.writer.place; row = r.row } };
+    ghost view = { λ r. record { number = r.writer.place; life = r.life; row = r.row } };
 
-    ghost invariant = { λ r. RowRests P.rows P.events P.writes r.row r.buffers.items r.writer };
+    ghost invariant = { λ r. RowRests P.rows P.events P.writes r.life r.row r.buffers.items r.writer };
 }
 
 impl<'a, P: Program> TiedRow<'a, P> {
@@ -65,11 +75,12 @@ impl<'a, P: Program> TiedRow<'a, P> {
         requires places { (s : ℕ) (half : Tied AgreedValue) → slice_get buffers.items s ≡ Some half → half.place ≡ buffer_place P.rows (buffer_number number s) }
         requires nothing { (s : ℕ) (half : Tied AgreedValue) → slice_get buffers.items s ≡ Some half → half.value ≡ Some agreed.Nothing }
         requires stands { writer.value ≡ Some (agreed.Stand (record { thread = number + 1; index = 0 })) }
-        ensures row { IfOk result (λ made. made ≡ record { number = number; row = new_row (number + 1) events }) }
+        ensures row { IfOk result (λ made. made ≡ record { number = number; life = 0; row = new_row (number + 1) events }) }
     {
         let row = Row::new(alloc, u64::from(number) + 1, events)?;
         Ok(TiedRow {
             row,
+            life: 0,
             buffers,
             writer,
         })
@@ -84,6 +95,7 @@ impl<'a, P: Program> TiedRow<'a, P> {
         write: &Write,
     )
         requires place { half.old.place ≡ self.old.number }
+        requires here { IsSome (stand_in half.old.value) }
         requires quiet { self.old.row.in_write ≡ false }
         requires few { ForSome (stand_in half.old.value) (λ s. s.index < WRITES) }
         requires next { ForSome (stand_in half.old.value) (λ s. slice_get (P.writes s.thread) s.index ≡ Some write.now) }
@@ -91,7 +103,7 @@ impl<'a, P: Program> TiedRow<'a, P> {
         requires event { write.now.event ≤ length P.events }
         requires fits { IsTrue (valid.fits write.now) }
         ensures row { self.new.row ≡ with_begin self.old.row stamp write.now }
-        ensures number { self.new.number ≡ self.old.number }
+        ensures number { (self.new.number ≡ self.old.number) × (self.new.life ≡ self.old.life) }
         ensures write { slice_get (P.writes self.old.row.thread) self.old.row.index ≡ Some write.now }
         ensures stood { half.old.value ≡ Some (agreed.Stand (record { thread = self.old.row.thread; index = self.old.row.index })) }
         ensures stands { half.new.value ≡ Some (agreed.Stand (record { thread = self.new.row.thread; index = self.new.row.index })) }
@@ -109,6 +121,7 @@ impl<'a, P: Program> TiedRow<'a, P> {
     /// waits for nobody.
     pub fn stands(&mut self, ties: &Ties<P, Agreed<'a>>, half: &mut Right<P, Agreed<'a>>)
         requires place { half.old.place ≡ self.old.number }
+        requires here { IsSome (stand_in half.old.value) }
         ensures stands { stand_in half.old.value ≡ Some (record { thread = self.old.row.thread; index = self.old.row.index }) }
         ensures same { (self.new ≡ self.old) × (half.new ≡ half.old) }
     {
@@ -125,8 +138,9 @@ impl<'a, P: Program> TiedRow<'a, P> {
         self.row.next_due()
     }
 
-    /// Shows the write that was begun to a session that is due, whose buffer is lent. It takes no memory, and may wait for
-    /// the session's pool.
+    /// Shows the write that was begun to a session that is due, whose buffer is lent. Its record has the next number and
+    /// the stamp of the begin. It is refused exactly where it needs a chunk and the session's pool was found dry, which the
+    /// buffer's seat counts. It takes no memory, and may wait for the session's pool.
     pub fn show<R: Wait>(
         &mut self,
         rt: &R,
@@ -141,10 +155,11 @@ impl<'a, P: Program> TiedRow<'a, P> {
         requires last { slice_get (P.writes self.old.row.thread) (self.old.row.index - 1) ≡ Some write.now }
         requires place { buffer.old.place ≡ buffer_place P.rows (buffer_number self.old.number slot) }
         requires fits { IsTrue (valid.fits write.now) }
+        ensures answer { AnswersShow self.old.row.stamp write.now result buffer.old.kept buffer.new.kept }
         ensures due { ClearsBit slot self.old.row.due self.new.row.due }
         ensures bounded { self.new.row.due < 2 ^ 64 }
         ensures others { self.new.row ≡ record self.old.row { due = self.new.row.due; slots = self.new.row.slots } }
-        ensures number { self.new.number ≡ self.old.number }
+        ensures number { (self.new.number ≡ self.old.number) × (self.new.life ≡ self.old.life) }
         ensures place { buffer.new.place ≡ buffer.old.place }
     {
         buffer.show(
@@ -162,14 +177,130 @@ impl<'a, P: Program> TiedRow<'a, P> {
         requires in_write { self.old.row.in_write ≡ true }
         requires seen { self.old.row.due ≡ 0 }
         ensures row { self.new.row ≡ record self.old.row { in_write = false } }
-        ensures number { self.new.number ≡ self.old.number }
+        ensures number { (self.new.number ≡ self.old.number) × (self.new.life ≡ self.old.life) }
     {
         self.row.end();
     }
 
-    /// Opens a session, with what it was granted, in a slot whose buffer and whose hand's half are lent. Out of memory all
-    /// stays as it was.
+    /// The row's life, from 0.
+    pub fn life(&self) -> u32
+        ensures life { result ≡ self.now.life }
+        ensures thread { self.now.row.thread ≡ thread_of P.rows self.now.number self.now.life }
+    {
+        self.life
+    }
+
+    /// Whether the thread that the row serves makes no more writes.
+    pub fn has_left(&self) -> bool
+        ensures { result ≡ self.now.row.left }
+    {
+        self.row.left()
+    }
+
+    /// A bit for each slot in which a session is open.
+    pub fn on(&self) -> u64 {
+        let mut on = 0;
+        for slot in 0..SESSIONS as u32 {
+            if self.row.is_on(slot) {
+                on |= 1 << slot;
+            }
+        }
+        on
+    }
+
+    /// The thread, which has made all its writes and has its half of the tie, leaves the row.
+    pub fn leave(&mut self, ties: &Ties<P, Agreed<'a>>, half: &mut Right<P, Agreed<'a>>)
+        requires place { half.old.place ≡ self.old.number }
+        requires here { IsSome (stand_in half.old.value) }
+        requires quiet { self.old.row.in_write ≡ false }
+        requires all { ForSome (stand_in half.old.value) (λ s. s.index ≡ length (P.writes s.thread)) }
+        ensures row { self.new ≡ record self.old { row = record self.old.row { left = true } } }
+        ensures half { left_in half.new.value ≡ stand_in half.old.value }
+        ensures place { half.new.place ≡ half.old.place }
+    {
+        let left = Agreed::Left(Stand {
+            thread: self.row.thread(),
+            index: self.row.index(),
+        });
+        self.writer.set(ties, half, &left);
+        self.row.leave();
+    }
+
+    /// The next thread enters the row, which the one before has left, unless a session is still open on it. There are so
+    /// many rows.
+    pub fn enter(
+        &mut self,
+        ties: &Ties<P, Agreed<'a>>,
+        half: &mut Right<P, Agreed<'a>>,
+        rows: u32,
+    ) -> bool
+        requires place { half.old.place ≡ self.old.number }
+        requires left { IsSome (left_in half.old.value) }
+        requires rows { (rows ≡ P.rows) × (0 < P.rows) }
+        requires few { ForSome (left_in half.old.value) (λ s. s.thread + P.rows < 2 ^ 32) }
+        ensures free { IsTrue result ↔ All IsNone self.old.row.slots }
+        ensures row { result ≡ true → self.new ≡ record self.old { life = self.old.life + 1;
+            row = record self.old.row { thread = self.old.row.thread + P.rows; index = 0; left = false } } }
+        ensures half { result ≡ true → stand_in half.new.value ≡ option_map (next_stand P.rows) (left_in half.old.value) }
+        ensures stays { result ≡ false → (self.new ≡ self.old) × (half.new ≡ half.old) }
+        ensures place { half.new.place ≡ half.old.place }
+    {
+        Left::meet(&mut self.writer, ties, half);
+        if !self.row.is_free() {
+            return false;
+        }
+        let thread = self.row.thread() + u64::from(rows);
+        let first = Agreed::Stand(Stand { thread, index: 0 });
+        self.writer.set(ties, half, &first);
+        self.row.enter(thread);
+        self.life += 1;
+        true
+    }
+
+    /// Opens a session, with what it was granted, in a slot whose buffer and whose hand's half are lent. Where the row has
+    /// left or serves another life, and out of memory, all stays as it was.
     pub fn open(
+        &mut self,
+        alloc: Global,
+        ties: &Ties<P, Agreed<'a>>,
+        slot: u32,
+        life: u32,
+        buffer: &mut TiedBuffer<'a, P>,
+        half: &mut Right<P, Agreed<'a>>,
+        session: u64,
+        grant: &'a Grant,
+        events: &[EventDef],
+        seat: &mut PoolSeat,
+    ) -> Result<Hand, NotOpened>
+        requires within { slot < SESSIONS }
+        requires quiet { self.old.row.in_write ≡ false }
+        requires place { buffer.old.place ≡ buffer_place P.rows (buffer_number self.old.number slot) }
+        requires hand_place { half.old.place ≡ buffer.old.place + 1 }
+        requires off { hand_in half.old.value ≡ None }
+        requires events { events.now ≡ P.events }
+        requires seat { IsSeatOf grant.now.pool seat.old }
+        requires share { 1 < seat.old.share }
+        ensures away { (result ≡ Err not_opened.Away) ↔ IsAway life self.old }
+        ensures opens { IfOk result (λ hand. Opens session (thread_of P.rows self.old.number life)
+            grant.now hand half.new.value seat.old seat.new) }
+        ensures from { IfOk result (λ hand. hand.from ≡ self.old.row.index) }
+        ensures none { OnErr result ((half.new ≡ half.old) × (seat.new ≡ seat.old)) }
+        ensures row { self.new ≡ record self.old { row = record self.old.row
+            { masks = self.new.row.masks; slots = self.new.row.slots } } }
+        ensures none_row { OnErr result (self.new ≡ self.old) }
+        ensures places { (buffer.new.place ≡ buffer.old.place) × (half.new.place ≡ half.old.place) }
+    {
+        if self.row.left() || self.life != life {
+            return Err(NotOpened::Away);
+        }
+        match self.open_here(alloc, ties, slot, buffer, half, session, grant, events, seat) {
+            Ok(hand) => Ok(hand),
+            Err(AllocError) => Err(NotOpened::OutOfMemory),
+        }
+    }
+
+    // The same where the row has not left.
+    fn open_here(
         &mut self,
         alloc: Global,
         ties: &Ties<P, Agreed<'a>>,
@@ -183,20 +314,20 @@ impl<'a, P: Program> TiedRow<'a, P> {
     ) -> Result<Hand, AllocError>
         requires within { slot < SESSIONS }
         requires quiet { self.old.row.in_write ≡ false }
+        requires stays { self.old.row.left ≡ false }
         requires place { buffer.old.place ≡ buffer_place P.rows (buffer_number self.old.number slot) }
         requires hand_place { half.old.place ≡ buffer.old.place + 1 }
         requires off { hand_in half.old.value ≡ None }
         requires events { events.now ≡ P.events }
         requires seat { IsSeatOf grant.now.pool seat.old }
         requires share { 1 < seat.old.share }
-        ensures hand { IfOk result (λ hand. hand ≡ record { session = session; thread = self.old.row.thread; from = self.old.row.index; taken = 0; last = 0; stolen = 0 }) }
-        ensures half { IfOk result (λ hand. hand_in half.new.value ≡ Some hand) }
-        ensures grant { OnOk result (grant_in half.new.value ≡ Some grant.now) }
-        ensures seat { OnOk result (seat.new ≡ record seat.old { share = seat.old.share - 1 }) }
-        ensures none { OnErr result (half.new ≡ half.old) }
-        ensures none_seat { OnErr result (seat.new ≡ seat.old) }
-        ensures row { self.new.row ≡ record self.old.row { masks = self.new.row.masks; slots = self.new.row.slots } }
-        ensures number { self.new.number ≡ self.old.number }
+        ensures opens { IfOk result (λ hand. Opens session self.old.row.thread
+            grant.now hand half.new.value seat.old seat.new) }
+        ensures from { IfOk result (λ hand. hand.from ≡ self.old.row.index) }
+        ensures none { OnErr result ((half.new ≡ half.old) × (seat.new ≡ seat.old)) }
+        ensures row { self.new ≡ record self.old { row = record self.old.row
+            { masks = self.new.row.masks; slots = self.new.row.slots } } }
+        ensures none_row { OnErr result (self.new ≡ self.old) }
         ensures places { (buffer.new.place ≡ buffer.old.place) × (half.new.place ≡ half.old.place) }
     {
         buffer.meet(ties, &mut self.buffers[slot as usize], half);
@@ -206,8 +337,8 @@ impl<'a, P: Program> TiedRow<'a, P> {
     }
 
     /// Closes the session of a hand, whose half is lent, and gives what was pending and what the session had of the row's
-    /// thread. The seat of the session's pool gets the buffer's share back, with what was taken through it. It takes no
-    /// memory.
+    /// thread. The seat of the session's pool gets the buffer's share back, with what was taken through it and how often it
+    /// was found dry, which is how many writes the marks tell as refused. It takes no memory.
     pub fn close(
         &mut self,
         ties: &Ties<P, Agreed<'a>>,
@@ -225,20 +356,55 @@ impl<'a, P: Program> TiedRow<'a, P> {
         requires seat { ForSome (grant_in half.old.value) (λ grant. IsSeatOf grant.pool seat.old) }
         requires few { seat.old.taken + WRITES < SEAT_COUNTS }
         requires few_given { seat.old.given < SEAT_COUNTS }
-        ensures taken { AreTaken hand (records_of result.0.chain) result.0.last }
-        ensures numbered { ForSome (grant_in half.old.value) (λ grant. All (IsNumbered P.events grant.config (P.writes hand.thread) hand.from) (records_of result.0.chain)) }
-        ensures filled { All HasRecords result.0.chain }
-        ensures marks { AreMarks hand (records_of result.0.chain) result.0.last self.old.row.index result.1 }
-        ensures counted { ForSome (grant_in half.old.value) (λ grant. AreCounted P.events P.writes grant.config result.1) }
+        ensures closes { Closes P.events P.writes half.old.value hand result.0.chain result.0.last
+            result.1 seat.old seat.new }
+        ensures to { result.1.to ≡ self.old.row.index }
         ensures thread { hand.thread ≡ self.old.row.thread }
-        ensures seat { seat.new ≡ record seat.old { share = seat.old.share + 1; taken = seat.old.taken + (hand.stolen + length result.0.chain) } }
-        ensures few { hand.stolen + length result.0.chain ≤ WRITES }
         ensures half { half.new.value ≡ Some agreed.Nothing }
-        ensures row { self.new.row ≡ record self.old.row { masks = self.new.row.masks; slots = self.new.row.slots } }
-        ensures number { self.new.number ≡ self.old.number }
+        ensures row { self.new ≡ record self.old { row = record self.old.row
+            { masks = self.new.row.masks; slots = self.new.row.slots } } }
         ensures places { (buffer.new.place ≡ buffer.old.place) × (half.new.place ≡ half.old.place) }
     {
         let kept = buffer.take(ties, &mut self.buffers[slot as usize], half);
         close::<P>(&mut self.row, slot, kept, hand, seat)
+    }
+
+    /// Closes the session where the row serves this life and its thread has begun so many writes. Elsewhere the hand comes
+    /// back, and all stays as it was.
+    pub fn close_done(
+        &mut self,
+        ties: &Ties<P, Agreed<'a>>,
+        slot: u32,
+        life: u32,
+        writes: u32,
+        buffer: &mut TiedBuffer<'a, P>,
+        half: &mut Right<P, Agreed<'a>>,
+        hand: Hand,
+        seat: &mut PoolSeat,
+    ) -> Result<(Batch, Marks), Hand>
+        requires within { slot < SESSIONS }
+        requires quiet { self.old.row.in_write ≡ false }
+        requires place { buffer.old.place ≡ buffer_place P.rows (buffer_number self.old.number slot) }
+        requires hand_place { half.old.place ≡ buffer.old.place + 1 }
+        requires hand { hand_in half.old.value ≡ Some hand }
+        requires seat { ForSome (grant_in half.old.value) (λ grant. IsSeatOf grant.pool seat.old) }
+        requires few { seat.old.taken + WRITES < SEAT_COUNTS }
+        requires few_given { seat.old.given < SEAT_COUNTS }
+        ensures done { IsOk result ↔ IsDone life writes self.old }
+        ensures closes { IfOk result (λ closed. Closes P.events P.writes half.old.value hand
+            closed.0.chain closed.0.last closed.1 seat.old seat.new) }
+        ensures to { IfOk result (λ closed. closed.1.to ≡ writes) }
+        ensures thread { OnOk result (hand.thread ≡ thread_of P.rows self.old.number life) }
+        ensures half { OnOk result (half.new.value ≡ Some agreed.Nothing) }
+        ensures back { IfErr result (λ back. back ≡ hand) }
+        ensures none { OnErr result ((half.new ≡ half.old) × (seat.new ≡ seat.old) × (self.new ≡ self.old)) }
+        ensures row { self.new ≡ record self.old { row = record self.old.row
+            { masks = self.new.row.masks; slots = self.new.row.slots } } }
+        ensures places { (buffer.new.place ≡ buffer.old.place) × (half.new.place ≡ half.old.place) }
+    {
+        if self.life != life || self.row.index() != writes {
+            return Err(hand);
+        }
+        Ok(self.close(ties, slot, buffer, half, hand, seat))
     }
 }

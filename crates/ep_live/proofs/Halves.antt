@@ -1,8 +1,6 @@
 -- What one session's rows are after one of their halves changes.
 use Rattle.std.proofs.Common.{◌≡◌, ℕ, zero, suc, ◌+◌, ◌-◌, ◌*◌, ◌<◌, ◌≤◌, true, false, List, [], ◌∷◌, Option, None, Some, length, refl, ap, sym, ◌∙◌, arith}
 use Rattle.std.specs.Prelude.{◌==◌, ◌&&◌, if◌then◌else◌, slice_get, slice_set, slice_index_or}
-use Rattle.std.specs.Prelude.{Result, Ok, Err}
-use Rattle.std.specs.Result.{OnErr}
 use Rattle.std.specs.List.{sum_by}
 use Rattle.std.specs.Option.{option_map_or}
 use Rattle.std.proofs.lemmas.Bool.{eqb-true, eqb-false, eq-eqb, ne_eqb}
@@ -19,8 +17,8 @@ use Rattle.ep_guarded.specs.declared.grant.Grant.{Grant}
 use Rattle.ep_guarded.specs.declared.agreed.Stand.{Stand}
 use Rattle.ep_guarded.specs.Tied.{hand_in, grant_in, stand_in}
 use Rattle.ep_guarded.proofs.Resting.{each-set}
-use Rattle.ep_live.specs.Made.{AreSlotTies}
-use Rattle.ep_live.specs.RowSet.{LiveRowsState, half_at, said_by, expected_in, out_in, stolen_in, hands_in, AreRowsOfOne, IsHandHalf}
+use Rattle.ep_live.specs.Free.{IsFree, HasEnded}
+use Rattle.ep_live.specs.RowSet.{LiveRowsState, half_at, said_by, expected_in, out_in, stolen_in, hands_in, AreFresh, AreRowsOfOne, IsHandHalf}
 use Rattle.std.proofs.lemmas.Option.{none-some}
 use Rattle.ep_live.proofs.Pushing.{same}
 
@@ -105,6 +103,7 @@ held-grant (Some agreed.Nothing) hand is = absurd (none-some hand is)
 held-grant (Some (agreed.Told told)) hand is = absurd (none-some hand is)
 held-grant (Some (agreed.Held held)) hand is = (held.grant.now, refl)
 held-grant (Some (agreed.Stand stand)) hand is = absurd (none-some hand is)
+held-grant (Some (agreed.Left stand)) hand is = absurd (none-some hand is)
 
 -- A half without a hand tells of nothing that was granted.
 no-grant : (value : Option Agreed) → hand_in value ≡ None → grant_in value ≡ None
@@ -113,6 +112,7 @@ no-grant (Some agreed.Nothing) none = refl
 no-grant (Some (agreed.Told told)) none = refl
 no-grant (Some (agreed.Held held)) none = absurd (none-some _ (sym none))
 no-grant (Some (agreed.Stand stand)) none = refl
+no-grant (Some (agreed.Left stand)) none = refl
 
 -- What a half says of a thread is all that it says.
 pub stand-is : (value : Option Agreed) (stand : Stand) → stand_in value ≡ Some stand → value ≡ Some (agreed.Stand stand)
@@ -120,6 +120,7 @@ stand-is None stand is = absurd (none-some stand is)
 stand-is (Some agreed.Nothing) stand is = absurd (none-some stand is)
 stand-is (Some (agreed.Told told)) stand is = absurd (none-some stand is)
 stand-is (Some (agreed.Held held)) stand is = absurd (none-some stand is)
+stand-is (Some (agreed.Left left)) stand is = absurd (none-some stand is)
 stand-is (Some (agreed.Stand other)) stand is = ap (λ (s : Stand). Some (agreed.Stand s)) (same other stand is)
 
 one-each : (half : Tied Agreed) → hands_in half ≤ 1
@@ -161,8 +162,8 @@ few-stolen (half ∷ halves) each =
     omega (arith, stolen, hands, one, rest)
 
 -- What was taken in all.
-pub few-given : (rows slot : ℕ) (grant : Grant) (halves : List (Tied Agreed)) (seat : SeatState) (openings : ℕ) → AreRowsOfOne rows slot grant halves seat openings → sum_by stolen_in halves + seat.taken ≤ 4000000000000000
-few-given rows slot grant halves seat openings rests =
+pub few-given : (rows slot : ℕ) (grant : Grant) (halves : List (Tied Agreed)) (seat : SeatState) (openings : ℕ) (lives : List ℕ) → AreRowsOfOne rows slot grant halves seat openings lives → sum_by stolen_in halves + seat.taken ≤ 4000000000000000
+few-given rows slot grant halves seat openings lives rests =
     let stolen = few-stolen halves (λ k half is. (rests.halves_are k half is).few) in
     let taken : seat.taken + 4000000000 * sum_by hands_in halves ≤ 4000000000 * openings = rests.taken in
     let few : openings ≤ 1000000 = rests.few in
@@ -184,16 +185,16 @@ sum-set f halves k half now is =
 -- ---- the rows after each step
 
 -- One half and the seat change, each half as it must be.
-pub rows-changed : (rows slot : ℕ) (grant : Grant) (halves : List (Tied Agreed)) (seat new_seat : SeatState) (openings new_openings k : ℕ) (half now : Tied Agreed)
-    → AreRowsOfOne rows slot grant halves seat openings → slice_get halves k ≡ Some half
+pub rows-changed : (rows slot : ℕ) (grant : Grant) (halves : List (Tied Agreed)) (seat new_seat : SeatState) (openings new_openings k : ℕ) (lives : List ℕ) (half now : Tied Agreed)
+    → AreRowsOfOne rows slot grant halves seat openings lives → slice_get halves k ≡ Some half
     → now.place ≡ half.place → ((g : Grant) → grant_in now.value ≡ Some g → g ≡ grant) → stolen_in now ≤ 4000000000 * hands_in now
     → new_seat.pool ≡ seat.pool → new_seat.total ≡ seat.total → new_seat.seats ≡ seat.seats
     → new_seat.share + hands_in now ≡ seat.share + hands_in half
     → new_seat.given ≡ seat.given → stolen_in half + seat.taken ≤ stolen_in now + new_seat.taken
     → new_seat.taken + 4000000000 * hands_in now + 4000000000 * openings ≤ seat.taken + 4000000000 * hands_in half + 4000000000 * new_openings
     → new_openings ≤ 1000000
-    → AreRowsOfOne rows slot grant (slice_set halves k now) new_seat new_openings
-rows-changed rows slot grant halves seat new_seat openings new_openings k half now rests at place granted few pool total seats share given stolen taken most =
+    → AreRowsOfOne rows slot grant (slice_set halves k now) new_seat new_openings lives
+rows-changed rows slot grant halves seat new_seat openings new_openings k lives half now rests at place granted few pool total seats share given stolen taken most =
     let hands = sum-set hands_in halves k half now at in
     let chunks = sum-set stolen_in halves k half now at in
     let was_taken : seat.taken + 4000000000 * sum_by hands_in halves ≤ 4000000000 * openings = rests.taken in
@@ -201,6 +202,7 @@ rows-changed rows slot grant halves seat new_seat openings new_openings k half n
     let was_given = rests.given in
     record {
       count = length-set halves k now ∙ rests.count;
+      lives_are = rests.lives_are;
       within = rests.within;
       halves_are = each-set (IsHandHalf rows slot grant) halves k now (λ n x is _. rests.halves_are n x is)
           (record { place = place ∙ (rests.halves_are k half at).place; granted = granted; few = few });
@@ -211,11 +213,6 @@ rows-changed rows slot grant halves seat new_seat openings new_openings k half n
       taken = omega (arith, hands, was_taken, taken);
       few = most;
     }
-
--- What holds anyway holds on an error.
-pub on-err : {T E P : Type 0} (result : Result T E) → P → OnErr result P
-on-err (Ok x) p = tt
-on-err (Err e) p = p
 
 -- ---- the rows at first
 
@@ -228,23 +225,24 @@ no_hands f (half ∷ halves) none =
     omega (arith, all, zero_is, rest)
 
 -- The rows of a session that is open nowhere.
-pub rows-fresh : (rows slot : ℕ) (grant : Grant) (halves : List (Tied Agreed)) (seat : SeatState)
-    → slot < 64 → length halves ≡ rows → AreSlotTies rows slot halves
+pub rows-fresh : (rows slot : ℕ) (grant : Grant) (halves : List (Tied Agreed)) (seat : SeatState) (lives : List ℕ)
+    → IsFree rows slot halves → length lives ≡ rows
     → seat ≡ record { pool = grant.pool.pool; total = grant.pool.total; seats = rows + 1; share = rows + 1; taken = 0; given = 0 }
-    → AreRowsOfOne rows slot grant halves seat 0
-rows-fresh rows slot grant halves seat small count ties seat_is =
-    let off : (k : ℕ) (half : Tied Agreed) → slice_get halves k ≡ Some half → hand_in half.value ≡ None = λ k half is. (ties k half is).off in
+    → AreRowsOfOne rows slot grant halves seat 0 lives
+rows-fresh rows slot grant halves seat lives free lives_are seat_is =
+    let off : (k : ℕ) (half : Tied Agreed) → slice_get halves k ≡ Some half → hand_in half.value ≡ None = λ k half is. (free.halves_are k half is).off in
     let hands = no_hands hands_in halves (λ k half is. (counts-none half (off k half is)).0) in
     let stolen = no_hands stolen_in halves (λ k half is. (counts-none half (off k half is)).1) in
     let share = ap (λ (s : SeatState). s.share) seat_is in
     let taken = ap (λ (s : SeatState). s.taken) seat_is in
     let given = ap (λ (s : SeatState). s.given) seat_is in
     record {
-      count = count;
-      within = omega (arith, small);
+      count = free.count;
+      lives_are = lives_are;
+      within = free.within;
       halves_are = λ k half is.
           record {
-            place = (ties k half is).place;
+            place = (free.halves_are k half is).place;
             granted = λ g told. absurd (none-some g (sym (no-grant half.value (off k half is)) ∙ told));
             few = omega (arith, counts-none half (off k half is));
           };
@@ -256,19 +254,47 @@ rows-fresh rows slot grant halves seat small count ties seat_is =
       few = omega arith;
     }
 
+off-at : (halves : List (Tied Agreed)) (place : ℕ) → ((k : ℕ) (half : Tied Agreed) → slice_get halves k ≡ Some half → hand_in half.value ≡ None)
+    → hand_in (slice_index_or halves place (record { place = 0; value = None })).value ≡ None
+off-at [] place off = refl
+off-at (half ∷ halves) zero off = off 0 half refl
+off-at (half ∷ halves) (suc place) off = off-at halves place (λ k. off (suc k))
+
+off-row : (halves : List (Tied Agreed)) (row : ℕ) → ((k : ℕ) (half : Tied Agreed) → slice_get halves k ≡ Some half → hand_in half.value ≡ None) → hand_in (half_at halves row).value ≡ None
+off-row halves zero off = refl
+off-row halves (suc place) off = off-at halves place off
+
+-- No hand is there, and nothing is out.
+pub are-fresh : (rows : ℕ) (set : LiveRowsState) → IsFree rows set.slot set.halves → set.seat.taken ≡ 0 → AreFresh rows set.slot set.grant set.seat set.stands set.lives set
+are-fresh rows set free taken =
+    let off : (k : ℕ) (half : Tied Agreed) → slice_get set.halves k ≡ Some half → hand_in half.value ≡ None = λ k half is. (free.halves_are k half is).off in
+    let stolen = no_hands stolen_in set.halves (λ k half is. (counts-none half (off k half is)).1) in
+    record {
+      slot_is = refl;
+      grant_is = refl;
+      seat_is = refl;
+      stands_are = refl;
+      lives_are = refl;
+      count = free.count;
+      closed = λ row s.
+          elim (s == set.slot) as (λ v. (if v then hand_in (half_at set.halves row).value else None) ≡ None) [
+            | true ↦ off-row set.halves row off
+            | false ↦ refl
+          ];
+      given = λ s.
+          elim (s == set.slot) as (λ v. (if v then sum_by stolen_in set.halves + set.seat.taken - set.seat.given else 0) ≡ 0) [
+            | true ↦ omega (arith, stolen, taken)
+            | false ↦ refl
+          ];
+    }
+
 -- ---- the rows at last
 
--- The rows of a session that is closed everywhere, where nothing is out.
-pub record HaveEnded (rows slot : ℕ) (halves : List (Tied Agreed)) (seat : SeatState) : Type 0 where
-  pub halves_are : AreSlotTies rows slot halves
-  pub share : seat.share ≡ rows + 1
-  pub seats : seat.seats ≡ rows + 1
-  pub taken : seat.taken ≡ seat.given
-
+-- What the rows of a session leave that is closed everywhere, where nothing is out.
 pub rows-ended : (set now : LiveRowsState) (rows openings : ℕ) → set ≡ now
-    → AreRowsOfOne rows set.slot set.grant set.halves set.seat openings
+    → AreRowsOfOne rows set.slot set.grant set.halves set.seat openings set.lives
     → ((row slot : ℕ) → expected_in now row slot ≡ None) → ((slot : ℕ) → out_in now slot ≡ 0)
-    → HaveEnded rows set.slot set.halves set.seat
+    → IsFree rows set.slot set.halves × HasEnded rows (record { slot = set.slot; grant = set.grant; seat = set.seat })
 rows-ended set now rows openings is rests all_closed all_given =
     let closed : (row : ℕ) → expected_in set row set.slot ≡ None = λ row. ap (λ (v : LiveRowsState). expected_in v row set.slot) is ∙ all_closed row set.slot in
     let given : out_in set set.slot ≡ 0 = ap (λ (v : LiveRowsState). out_in v set.slot) is ∙ all_given set.slot in
@@ -285,9 +311,18 @@ rows-ended set now rows openings is rests all_closed all_given =
     in
     let was_share = rests.share in
     let was_given = rests.given in
-    record {
-      halves_are = λ k half is. record { place = (rests.halves_are k half is).place; off = off k half is };
-      share = omega (arith, hands, was_share);
-      seats = rests.seats;
-      taken = omega (arith, stolen, out, was_given);
-    }
+    let most = few-given rows set.slot set.grant set.halves set.seat openings set.lives rests in (
+      record {
+        within = rests.within;
+        count = rests.count;
+        halves_are = λ k half is. record { place = (rests.halves_are k half is).place; off = off k half is };
+      },
+      record {
+        within = omega (arith, rests.within);
+        seat_is = rests.seat_is;
+        share = omega (arith, hands, was_share);
+        seats = rests.seats;
+        given = omega (arith, stolen, out, was_given);
+        few = omega (arith, most);
+      },
+    )

@@ -1,7 +1,7 @@
 pub mod Bits
 pub mod Pushing
 pub mod Halves
+pub mod Columns
 pub mod Batches
 pub mod Configs
-pub mod Columns
 pub mod Standing

@@ -43,15 +43,18 @@ pub record IsSlotTie (rows slot row : ℕ) (half : Tied Agreed) : Type 0 where
 abbrev pub AreSlotTies : ℕ → ℕ → List (Tied Agreed) → Type 0
 AreSlotTies rows slot halves = (k : ℕ) (half : Tied Agreed) → slice_get halves k ≡ Some half → IsSlotTie rows slot k half
 
+-- The slots, by their numbers.
+abbrev pub AreSlots : List ℕ → Type 0
+AreSlots slots = (k slot : ℕ) → slice_get slots k ≡ Some slot → slot ≡ k
+
 -- The buffers, by their numbers.
 abbrev pub AreBuffers : ℕ → List (Box BufferState) → Type 0
 AreBuffers rows buffers = (k : ℕ) (buffer : Box BufferState) → slice_get buffers k ≡ Some buffer → buffer.value.place ≡ buffer_place rows k
 
--- The row with this number serves the thread that is one more, and is not in a write.
+-- The row has this number, and is not in a write.
 pub record IsRow (number : ℕ) (row : TiedRowState) : Type 0 where
   pub number_is : row.number ≡ number
   pub quiet : row.row.in_write ≡ false
-  pub thread : row.row.thread ≡ number + 1
 
 -- The rows, by their numbers.
 abbrev pub AreRows : List (Box TiedRowState) → Type 0

@@ -1,5 +1,5 @@
 -- What contracts say of one session's rows behind locks. All of it is this project's own.
-use Rattle.std.specs.Prelude.{◌≡◌, ℕ, zero, suc, ◌+◌, ◌-◌, ◌*◌, ◌≤◌, ◌==◌, if◌then◌else◌, List, length, Option, None, Some, option_map, slice_get, slice_index_or}
+use Rattle.std.specs.Prelude.{◌≡◌, ℕ, zero, suc, ◌+◌, ◌-◌, ◌*◌, ◌≤◌, ◌==◌, if◌then◌else◌, List, length, Option, None, Some, option_map, slice_get, slice_index, slice_index_or}
 use Rattle.std.specs.List.{sum_by}
 use Rattle.std.specs.Option.{ForSome, option_map_or}
 use Rattle.ep_defs.specs.declared.limits.TheConstants.{SESSIONS, SESSION_THREADS, WRITES}
@@ -12,7 +12,7 @@ use Rattle.ep_slot.specs.Hand.{HandState}
 use Rattle.ep_tie.specs.Tied.{Tied}
 use Rattle.ep_guarded.specs.declared.agreed.Agreed.{Agreed}
 use Rattle.ep_guarded.specs.declared.grant.Grant.{Grant}
-use Rattle.ep_guarded.specs.Tied.{hand_in, grant_in, buffer_number, AreCounted}
+use Rattle.ep_guarded.specs.Tied.{hand_in, grant_in, thread_of, buffer_number, AreCounted}
 use Rattle.ep_live.specs.Live.{hand_place}
 
 -- ---- the halves of a session's hands
@@ -40,14 +40,19 @@ hands_in half = option_map_or (λ hand. 1) (hand_in half.value) 0
 
 -- ---- the row set of one session
 
--- The rows of one session: its slot, what it was granted, the halves of its hands by row, its pool's seat, and how many
--- writes each thread has begun, while the set has the halves of all threads.
+-- The rows of one session: its slot, what it was granted, the halves of its hands by row, its pool's seat, how many writes
+-- each thread has begun, while the set has the halves of all threads, and the life in which it expects each row.
 pub record LiveRowsState : Type 0 where
   pub slot : ℕ
   pub grant : Grant
   pub halves : List (Tied Agreed)
   pub seat : SeatState
   pub stands : Option ℕ
+  pub lives : List ℕ
+
+-- The life in which a row is expected, the first being row 1.
+abbrev pub life_at : LiveRowsState → ℕ → ℕ
+life_at set row = slice_index set.lives (row - 1)
 
 -- By row and slot, the hand that the half at the row agrees on.
 abbrev pub expected_in : LiveRowsState → ℕ → ℕ → Option HandState
@@ -61,9 +66,11 @@ configured_in set = said_by config_in set.halves set.slot
 abbrev pub out_in : LiveRowsState → ℕ → ℕ
 out_in set slot = if slot == set.slot then sum_by stolen_in set.halves + set.seat.taken - set.seat.given else 0
 
--- Hands of the row's thread pass, and while the threads' halves are here, those that begin where the thread stands.
-abbrev pub tests_hand_in : LiveRowsState → ℕ → HandState → Type 0
-tests_hand_in set row hand = (hand.thread ≡ row) × ForSome set.stands (λ index. hand.from ≡ index)
+-- Hands pass of the thread that the row serves in the life in which it is expected, and while the threads' halves are
+-- here, those that begin where the thread stands.
+abbrev pub tests_hand_in : ℕ → LiveRowsState → ℕ → HandState → Type 0
+tests_hand_in rows set row hand =
+    (hand.thread ≡ thread_of rows (row - 1) (life_at set row)) × ForSome set.stands (λ index. hand.from ≡ index)
 
 -- Marks pass that count all that the session gets, and while the threads' halves are here, those that end where the thread
 -- stands.
@@ -79,8 +86,9 @@ pub record IsHandHalf (rows slot : ℕ) (grant : Grant) (row : ℕ) (half : Tied
   pub granted : ForSome (grant_in half.value) (λ g. g ≡ grant)
   pub few : stolen_in half ≤ WRITES * hands_in half
 
-pub record AreRowsOfOne (rows slot : ℕ) (grant : Grant) (halves : List (Tied Agreed)) (seat : SeatState) (openings : ℕ) : Type 0 where
+pub record AreRowsOfOne (rows slot : ℕ) (grant : Grant) (halves : List (Tied Agreed)) (seat : SeatState) (openings : ℕ) (lives : List ℕ) : Type 0 where
   pub count : length halves ≡ rows
+  pub lives_are : length lives ≡ rows
   pub within : slot + 1 ≤ SESSIONS
   pub halves_are : (k : ℕ) (half : Tied Agreed) → slice_get halves k ≡ Some half → IsHandHalf rows slot grant k half
   pub seat_is : IsSeatOf grant.pool seat
@@ -89,3 +97,14 @@ pub record AreRowsOfOne (rows slot : ℕ) (grant : Grant) (halves : List (Tied A
   pub given : seat.given ≤ sum_by stolen_in halves + seat.taken
   pub taken : seat.taken + WRITES * sum_by hands_in halves ≤ WRITES * openings
   pub few : openings ≤ SESSION_THREADS
+
+-- The rows of a session that is open nowhere yet, and of which nothing is out.
+pub record AreFresh (rows slot : ℕ) (grant : Grant) (seat : SeatState) (stands : Option ℕ) (lives : List ℕ) (set : LiveRowsState) : Type 0 where
+  pub slot_is : set.slot ≡ slot
+  pub grant_is : set.grant ≡ grant
+  pub seat_is : set.seat ≡ seat
+  pub stands_are : set.stands ≡ stands
+  pub lives_are : set.lives ≡ lives
+  pub count : length set.halves ≡ rows
+  pub closed : (row s : ℕ) → expected_in set row s ≡ None
+  pub given : (s : ℕ) → out_in set s ≡ 0

@@ -7,19 +7,26 @@
 //!
 //! Its one contract: whoever writes the plan's next write may, and what a session takes of a thread are the thread's next
 //! writes that it gets. One session's rows are a row set of its stream. While nobody writes it has the threads' halves of
-//! their ties too, so that its openings and closings stand where the threads do. At its end all chunks are given back.
+//! their ties too, so that its openings and closings stand where the threads do. A row serves one thread after another, and
+//! is entered by the next only where no session is open on it. A session's slot is free again only once all its chunks
+//! were given back.
 #![tactic(auto)]
 
+mod ended;
+mod free;
 mod limits;
 mod live;
 mod live_rows;
 mod made;
+mod parked;
 mod stands;
 
+pub use ended::Ended;
+pub use free::{Free, free_slots};
 pub use limits::ROW_TIES;
 pub use live::{BuffersByNumber, Live, RowsByNumber};
-pub use live_rows::{Ended, LiveRows, same_tests_have_the_same_stands};
-pub use made::slot_halves;
+pub use live_rows::{LiveRows, same_tests_have_the_same_lives, same_tests_have_the_same_stands};
+pub use parked::Parked;
 pub use stands::Stands;
 
 #[cfg(test)]

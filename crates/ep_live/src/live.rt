@@ -1,5 +1,5 @@
 //! Rows and buffers behind locks.
-ghost use Rattle.std.specs.Prelude.{◌≡◌, ◌+◌, ◌-◌, ◌*◌, ◌^◌, ◌<◌, ◌≤◌, ℕ, true, false, length, vec_len, option_map, slice_get, All, Some, None, IfOk, OnOk, OnErr, IsTrue};
+ghost use Rattle.std.specs.Prelude.{◌≡◌, ◌+◌, ◌-◌, ◌*◌, ◌^◌, ◌<◌, ◌≤◌, ℕ, true, false, length, vec_len, option_map, slice_get, All, Some, None, IfOk, IfErr, OnOk, OnErr, IsSome, IsTrue};
 ghost use Rattle.std.specs.Int.{bit_at};
 ghost use Rattle.std.specs.Option.{ForSome};
 ghost use Rattle.ep_row.specs.Bits.{ClearsBit};
@@ -9,17 +9,17 @@ ghost use Rattle.ep_pool.specs.declared.limits.TheConstants.{SEAT_COUNTS};
 ghost use Rattle.ep_slot.specs.Chain.{records_of, HasRecords};
 ghost use Rattle.ep_row.specs.AtRest.{IsNumbered};
 ghost use Rattle.ep_guarded.specs.declared.agreed.Agreed.TheVariants as agreed;
-ghost use Rattle.ep_guarded.specs.Tied.{stand_in, hand_in, grant_in, buffer_number, buffer_place, hand_after, AreTaken, AreMarks, AreCounted};
+ghost use Rattle.ep_guarded.specs.Tied.{stand_in, left_in, hand_in, grant_in, next_stand, thread_of, buffer_number, buffer_place, hand_after, AreTaken};
+ghost use Rattle.ep_guarded.specs.Sessions.{Opens, Closes};
 ghost use Rattle.ep_live.specs.Live.{hand_place, with_one};
 ghost use Rattle.ep_live.specs.Made.{AreStands, AreHandTies};
-ghost use Rattle.ep_stream.specs.Rows.{first_hand};
 
 use crate::limits::ROW_TIES;
 use crate::made::{make_rows, make_stands};
 use crate::stands::Stands;
 use ep_defs::limits::{EVENTS, SESSIONS, WRITES};
 use ep_defs::{EventDef, Marks, Write};
-use ep_guarded::{Agreed, Grant, Program, TiedBuffer, TiedRow};
+use ep_guarded::{Agreed, Grant, NotOpened, Program, TiedBuffer, TiedRow};
 use ep_locks::{Guards, Locks};
 use ep_pool::PoolSeat;
 use ep_slot::{Batch, Hand};
@@ -28,8 +28,9 @@ use pt_io::{Gate, Moment};
 use std::alloc::{AllocError, Global};
 use std::marker::{Model, PhantomData};
 use std::sync::Wait;
+use std::sync::atomic::{AtomicU64, Ordering};
 
-/// Under each number stands the row with this number, which serves the thread that is one more, and is not in a write.
+/// Under each number stands the row with this number, which is not in a write.
 pub struct RowsByNumber<P> {
     program: PhantomData<P>,
 }
@@ -37,7 +38,7 @@ pub struct RowsByNumber<P> {
 impl<'a, P: Program> Guards<Box<TiedRow<'a, P>>> for RowsByNumber<P> {
     ghost use Rattle.std.specs.Prelude.{◌≡◌, ◌+◌, false};
 
-    ghost holds = { λ k row. (row.value.number ≡ k) × (row.value.row.in_write ≡ false) × (row.value.row.thread ≡ k + 1) };
+    ghost holds = { λ k row. (row.value.number ≡ k) × (row.value.row.in_write ≡ false) };
 }
 
 /// Under each number stands the buffer with this number.
@@ -134,6 +135,7 @@ impl<'a, P: Program> Live<'a, P> {
     )
         requires row { number < P.rows }
         requires place { half.old.place ≡ number }
+        requires here { IsSome (stand_in half.old.value) }
         requires few { ForSome (stand_in half.old.value) (λ s. s.index < WRITES) }
         requires next { ForSome (stand_in half.old.value) (λ s. slice_get (P.writes s.thread) s.index ≡ Some write.now) }
         requires some { 0 < write.now.event }
@@ -191,34 +193,84 @@ impl<'a, P: Program> Live<'a, P> {
         self.buffers.put(held, buffer);
     }
 
-    /// Opens a session, with what it was granted, in a slot of the row with this number, and gives its hand. Where
-    /// the threads' halves are lent, the session begins where the thread stands. The seat of its
-    /// pool gives a share to the buffer. It waits for the row and for the buffer. Out of memory all stays as it was.
+    /// The thread of the row with this number, which has made all its writes and has its half of the tie, leaves the row. A
+    /// bit for each slot in which a session is open there is stored while no session can be opened or closed there. It
+    /// waits for the row, and takes no memory.
+    pub fn leave<R: Wait>(
+        &self,
+        rt: &R,
+        number: usize,
+        half: &mut Right<P, Agreed<'a>>,
+        on: &AtomicU64,
+    )
+        requires row { number < P.rows }
+        requires place { half.old.place ≡ number }
+        requires here { IsSome (stand_in half.old.value) }
+        requires all { ForSome (stand_in half.old.value) (λ s. s.index ≡ length (P.writes s.thread)) }
+        ensures left { left_in half.new.value ≡ stand_in half.old.value }
+        ensures place { half.new.place ≡ half.old.place }
+    {
+        let (mut row, held) = self.rows.take(rt, number);
+        row.leave(&self.ties, half);
+        on.store(row.on(), Ordering::SeqCst);
+        self.rows.put(held, row);
+    }
+
+    /// The next thread of the row with this number enters it, which the one before has left, unless a session is still open
+    /// on it. It waits for the row, and takes no memory.
+    pub fn enter<R: Wait>(&self, rt: &R, number: usize, half: &mut Right<P, Agreed<'a>>) -> bool
+        requires row { number < P.rows }
+        requires place { half.old.place ≡ number }
+        requires left { IsSome (left_in half.old.value) }
+        requires few { ForSome (left_in half.old.value) (λ s. s.thread + P.rows < 2 ^ 32) }
+        ensures entered { result ≡ true → stand_in half.new.value ≡ option_map (next_stand P.rows) (left_in half.old.value) }
+        ensures stays { result ≡ false → half.new ≡ half.old }
+        ensures place { half.new.place ≡ half.old.place }
+    {
+        let (mut row, held) = self.rows.take(rt, number);
+        let entered = row.enter(&self.ties, half, self.threads());
+        self.rows.put(held, row);
+        entered
+    }
+
+    /// The life that the row with this number serves, from 0, and whether its thread has left it. Both may have changed by
+    /// the time they are read. It waits for the row.
+    pub fn life<R: Wait>(&self, rt: &R, number: usize) -> (u32, bool)
+        requires row { number < P.rows }
+    {
+        let (row, held) = self.rows.take(rt, number);
+        let said = (row.life(), row.has_left());
+        self.rows.put(held, row);
+        said
+    }
+
+    /// Opens a session, with what it was granted, in a slot of the row with this number, and gives its hand. Where the row
+    /// has left, or serves another life than this one, it answers so. Where the threads' halves are lent, the session
+    /// begins where the thread stands. The seat of its pool gives a share to the buffer. It waits for the row and for the
+    /// buffer. Unless it opens the session all stays as it was.
     pub fn open<R: Wait>(
         &self,
         rt: &R,
         alloc: Global,
         number: usize,
         slot: u32,
+        life: u32,
         half: &mut Right<P, Agreed<'a>>,
         stands: &mut Stands<'a, P>,
         session: u64,
         grant: &'a Grant,
         seat: &mut PoolSeat,
-    ) -> Result<Hand, AllocError>
+    ) -> Result<Hand, NotOpened>
         requires row { number < P.rows }
         requires slot { slot < SESSIONS }
         requires place { half.old.place ≡ hand_place P.rows (buffer_number number slot) }
         requires off { hand_in half.old.value ≡ None }
         requires seat { IsSeatOf grant.now.pool seat.old }
         requires share { 1 < seat.old.share }
-        ensures hand { IfOk result (λ hand. hand ≡ first_hand session (number + 1) hand.from) }
+        ensures opens { IfOk result (λ hand. Opens session (thread_of P.rows number life) grant.now hand
+            half.new.value seat.old seat.new) }
         ensures from { IfOk result (λ hand. ForSome stands.old (λ index. hand.from ≡ index)) }
-        ensures half { IfOk result (λ hand. hand_in half.new.value ≡ Some hand) }
-        ensures grant { OnOk result (grant_in half.new.value ≡ Some grant.now) }
-        ensures seat { OnOk result (seat.new ≡ record seat.old { share = seat.old.share - 1 }) }
-        ensures none { OnErr result (half.new ≡ half.old) }
-        ensures none_seat { OnErr result (seat.new ≡ seat.old) }
+        ensures none { OnErr result ((half.new ≡ half.old) × (seat.new ≡ seat.old)) }
         ensures place { half.new.place ≡ half.old.place }
         ensures stands { stands.new ≡ stands.old }
     {
@@ -229,6 +281,7 @@ impl<'a, P: Program> Live<'a, P> {
             alloc,
             &self.ties,
             slot,
+            life,
             &mut buffer,
             half,
             session,
@@ -262,14 +315,9 @@ impl<'a, P: Program> Live<'a, P> {
         requires seat { ForSome (grant_in half.old.value) (λ grant. IsSeatOf grant.pool seat.old) }
         requires few { seat.old.taken + WRITES < SEAT_COUNTS }
         requires few_given { seat.old.given < SEAT_COUNTS }
-        ensures taken { AreTaken hand (records_of result.0.chain) result.0.last }
-        ensures numbered { ForSome (grant_in half.old.value) (λ grant. All (IsNumbered P.events grant.config (P.writes hand.thread) hand.from) (records_of result.0.chain)) }
-        ensures filled { All HasRecords result.0.chain }
-        ensures marks { AreMarks hand (records_of result.0.chain) result.0.last result.1.to result.1 }
+        ensures closes { Closes P.events P.writes half.old.value hand result.0.chain result.0.last result.1
+            seat.old seat.new }
         ensures to { ForSome stands.old (λ index. result.1.to ≡ index) }
-        ensures counted { ForSome (grant_in half.old.value) (λ grant. AreCounted P.events P.writes grant.config result.1) }
-        ensures seat { seat.new ≡ record seat.old { share = seat.old.share + 1; taken = seat.old.taken + (hand.stolen + length result.0.chain) } }
-        ensures few { hand.stolen + length result.0.chain ≤ WRITES }
         ensures half { half.new.value ≡ Some agreed.Nothing }
         ensures place { half.new.place ≡ half.old.place }
         ensures stands { stands.new ≡ stands.old }
@@ -278,6 +326,43 @@ impl<'a, P: Program> Live<'a, P> {
         stands.meet(&self.ties, &mut row, number);
         let (mut buffer, buffer_held) = self.buffers.take(rt, buffer_at(number, slot));
         let closed = row.close(&self.ties, slot, &mut buffer, half, hand, seat);
+        self.buffers.put(buffer_held, buffer);
+        self.rows.put(row_held, row);
+        closed
+    }
+
+    /// The same where the row serves this life and its thread has begun so many writes. Elsewhere the hand comes back, and
+    /// all stays as it was.
+    pub fn close_done<R: Wait>(
+        &self,
+        rt: &R,
+        number: usize,
+        slot: u32,
+        life: u32,
+        writes: u32,
+        half: &mut Right<P, Agreed<'a>>,
+        hand: Hand,
+        seat: &mut PoolSeat,
+    ) -> Result<(Batch, Marks), Hand>
+        requires row { number < P.rows }
+        requires slot { slot < SESSIONS }
+        requires place { half.old.place ≡ hand_place P.rows (buffer_number number slot) }
+        requires hand { hand_in half.old.value ≡ Some hand }
+        requires seat { ForSome (grant_in half.old.value) (λ grant. IsSeatOf grant.pool seat.old) }
+        requires few { seat.old.taken + WRITES < SEAT_COUNTS }
+        requires few_given { seat.old.given < SEAT_COUNTS }
+        ensures closes { IfOk result (λ closed. Closes P.events P.writes half.old.value hand closed.0.chain
+            closed.0.last closed.1 seat.old seat.new) }
+        ensures to { IfOk result (λ closed. closed.1.to ≡ writes) }
+        ensures thread { OnOk result (hand.thread ≡ thread_of P.rows number life) }
+        ensures half { OnOk result (half.new.value ≡ Some agreed.Nothing) }
+        ensures back { IfErr result (λ back. back ≡ hand) }
+        ensures none { OnErr result ((half.new ≡ half.old) × (seat.new ≡ seat.old)) }
+        ensures place { half.new.place ≡ half.old.place }
+    {
+        let (mut row, row_held) = self.rows.take(rt, number);
+        let (mut buffer, buffer_held) = self.buffers.take(rt, buffer_at(number, slot));
+        let closed = row.close_done(&self.ties, slot, life, writes, &mut buffer, half, hand, seat);
         self.buffers.put(buffer_held, buffer);
         self.rows.put(row_held, row);
         closed

@@ -1,16 +1,19 @@
 //! The rows of one session's stream, behind locks.
-ghost use Rattle.std.specs.Prelude.{◌≡◌, ℕ, ◌+◌, ◌<◌, None, Some, IsSome, IsTrue, vec_len};
+ghost use Rattle.std.specs.Prelude.{◌≡◌, ℕ, ◌+◌, ◌-◌, ◌<◌, ◌≤◌, None, Some, IsSome, IsTrue, slice_set, vec_len};
 ghost use Rattle.std.specs.Option.{ForSome};
 ghost use Rattle.ep_pool.specs.Shared.{IsSeatOf};
-ghost use Rattle.ep_live.specs.Made.{AreStands, AreSlotTies};
+ghost use Rattle.ep_live.specs.Made.{AreStands};
 ghost use Rattle.ep_stream.specs.Rows.{TestsHandsAs};
-ghost use Rattle.ep_live.specs.RowSet.{LiveRowsState, expected_in, out_in, tests_hand_in};
+ghost use Rattle.ep_live.specs.RowSet.{LiveRowsState, AreFresh, expected_in, life_at, out_in, tests_hand_in};
 
+use crate::ended::Ended;
+use crate::free::Free;
 use crate::live::Live;
+use crate::parked::Parked;
 use crate::stands::Stands;
-use ep_defs::limits::{SESSION_THREADS, SESSIONS};
+use ep_defs::limits::SESSION_THREADS;
 use ep_defs::{Config, Marks};
-use ep_guarded::{Agreed, Grant, Program};
+use ep_guarded::{Agreed, Grant, NotOpened, Program};
 use ep_pool::PoolSeat;
 use ep_slot::{Batch, Hand};
 use ep_stream::RowSet;
@@ -20,20 +23,24 @@ use std::marker::Model;
 use std::sync::Wait;
 
 /// The rows of a program's running threads, as one session's stream has them: with its slot, what it was granted, the halves
-/// of its hands, and a seat of its pool. While nobody writes it may have the threads' halves too: then it knows how many
-/// writes of each thread lie before an opening and before a closing.
+/// of its hands, a seat of its pool, and the life in which it expects each row. While nobody writes it may have the
+/// threads' halves too: then it knows how many writes of each thread lie before an opening and before a closing.
 #[derive(Drop)]
 pub struct LiveRows<'r, 'a, P: Program, R: Wait> {
-    rt: &'r R,
-    live: &'r Live<'a, P>,
-    slot: u32,
-    grant: &'a Grant,
+    pub(crate) rt: &'r R,
+    pub(crate) live: &'r Live<'a, P>,
+    pub(crate) slot: u32,
+    pub(crate) grant: &'a Grant,
     // By row, the first being row 1.
-    halves: Vec<Right<P, Agreed<'a>>>,
-    seat: PoolSeat,
+    pub(crate) halves: Vec<Right<P, Agreed<'a>>>,
+    pub(crate) seat: PoolSeat,
     // How often it was opened on a row.
-    openings: u32,
-    stands: Stands<'a, P>,
+    pub(crate) openings: u32,
+    pub(crate) stands: Stands<'a, P>,
+    // By row.
+    pub(crate) lives: Vec<u32>,
+    // Whether the last opening found the row away.
+    pub(crate) missed: bool,
 }
 
 impl<'r, 'a, P: Program, R: Wait> Model for LiveRows<'r, 'a, P, R> {
@@ -41,29 +48,29 @@ impl<'r, 'a, P: Program, R: Wait> Model for LiveRows<'r, 'a, P, R> {
 
     ghost Value = { LiveRowsState };
 
-    ghost view = { λ s. record { slot = s.slot; grant = s.grant.now; halves = s.halves.items; seat = s.seat; stands = s.stands } };
+    ghost view = { λ s. record { slot = s.slot; grant = s.grant.now; halves = s.halves.items; seat = s.seat; stands = s.stands; lives = s.lives.items } };
 
-    ghost invariant = { λ s. AreRowsOfOne P.rows s.slot s.grant.now s.halves.items s.seat s.openings };
+    ghost invariant = { λ s. AreRowsOfOne P.rows s.slot s.grant.now s.halves.items s.seat s.openings s.lives.items };
 }
 
 impl<'r, 'a, P: Program, R: Wait> LiveRows<'r, 'a, P, R> {
-    /// The rows for a session in this slot, which is open nowhere yet, with what it was granted, the halves of its hands, by
-    /// row, a seat of its pool that has all shares, one more than there are rows, and the halves of the threads, or none.
+    /// The rows for a session in this slot, which is open nowhere yet, with what it was granted, a seat of its pool that has
+    /// all shares, one more than there are rows, the halves of the threads, or none, and the life in which it expects each
+    /// row.
     pub fn new(
         rt: &'r R,
         live: &'r Live<'a, P>,
-        slot: u32,
+        free: Free<'a, P>,
         grant: &'a Grant,
-        halves: Vec<Right<P, Agreed<'a>>>,
         seat: PoolSeat,
         stands: Stands<'a, P>,
+        lives: Vec<u32>,
     ) -> LiveRows<'r, 'a, P, R>
-        requires slot { slot < SESSIONS }
-        requires count { vec_len halves ≡ P.rows }
-        requires halves { AreSlotTies P.rows slot halves.items }
         requires seat { seat ≡ record { pool = grant.now.pool.pool; total = grant.now.pool.total; seats = P.rows + 1; share = P.rows + 1; taken = 0; given = 0 } }
-        ensures { result ≡ record { slot = slot; grant = grant.now; halves = halves.entry.items; seat = seat; stands = stands.entry } }
+        requires lives { vec_len lives ≡ P.rows }
+        ensures { AreFresh P.rows free.entry grant.now seat stands.entry lives.entry.items result }
     {
+        let Free { slot, halves } = free;
         LiveRows {
             rt,
             live,
@@ -73,7 +80,47 @@ impl<'r, 'a, P: Program, R: Wait> LiveRows<'r, 'a, P, R> {
             seat,
             openings: 0,
             stands,
+            lives,
+            missed: false,
         }
+    }
+
+    /// What waits of the rows while nobody takes from them.
+    pub fn park(self) -> Parked<'a, P>
+        ensures { result ≡ self.entry }
+    {
+        let LiveRows {
+            slot,
+            grant,
+            halves,
+            seat,
+            openings,
+            stands,
+            lives,
+            ..
+        } = self;
+        Parked {
+            slot,
+            grant,
+            halves,
+            seat,
+            openings,
+            stands,
+            lives,
+        }
+    }
+
+    /// Expects a row, the first being row 1, in this life.
+    pub fn expect(&mut self, row: u32, life: u32)
+        requires { (0 < row) × (row ≤ P.rows) }
+        ensures { self.new ≡ record self.old { lives = slice_set self.old.lives (row - 1) life } }
+    {
+        self.lives[row as usize - 1] = life;
+    }
+
+    /// Whether the last opening that was refused found the row in another life, or left by its thread. It is a hint.
+    pub fn missed(&self) -> bool {
+        self.missed
     }
 
     /// Lends the threads' halves to those that write, by row. It takes no memory.
@@ -95,17 +142,12 @@ impl<'r, 'a, P: Program, R: Wait> LiveRows<'r, 'a, P, R> {
         self.stands.take_back(stands, index);
     }
 
-    /// Ends the rows of a session that is closed everywhere and has given each chunk back. The next session may have its
-    /// slot.
+    /// Ends the rows of a session that is closed everywhere and has given each chunk back.
     pub fn end(self) -> Ended<'a, P>
         requires closed { (row slot : ℕ) → expected_in self row slot ≡ None }
         requires given { (slot : ℕ) → out_in self slot ≡ 0 }
-        ensures slot { (result.slot ≡ self.entry.slot) × (result.slot < SESSIONS) }
-        ensures grant { result.grant.now ≡ self.entry.grant }
-        ensures count { vec_len result.halves ≡ P.rows }
-        ensures halves { AreSlotTies P.rows result.slot result.halves.items }
-        ensures stands { result.stands ≡ self.entry.stands }
-        ensures seat { IsSeatOf result.grant.now.pool result.seat }
+        ensures ended { (result.slot ≡ self.entry.slot) × (result.grant ≡ self.entry.grant) × (result.seat ≡ self.entry.seat) }
+        ensures seat { IsSeatOf result.grant.pool result.seat }
         ensures share { (result.seat.share ≡ P.rows + 1) × (result.seat.seats ≡ P.rows + 1) }
         ensures taken { result.seat.taken ≡ result.seat.given }
     {
@@ -114,29 +156,11 @@ impl<'r, 'a, P: Program, R: Wait> LiveRows<'r, 'a, P, R> {
             grant,
             halves,
             seat,
-            stands,
             ..
         } = self;
-        Ended {
-            slot,
-            grant,
-            halves,
-            stands,
-            seat,
-        }
+        let free = Free { slot, halves };
+        Ended { free, grant, seat }
     }
-}
-
-/// What a session's rows leave at their end.
-#[derive(Drop)]
-pub struct Ended<'a, P: Program> {
-    pub slot: u32,
-    pub grant: &'a Grant,
-    /// The halves of the hands in its slot, by row.
-    pub halves: Vec<Right<P, Agreed<'a>>>,
-    pub stands: Stands<'a, P>,
-    /// The seat of its pool, with all shares.
-    pub seat: PoolSeat,
 }
 
 impl<P: Program, R: Wait> RowSet for LiveRows<'_, '_, P, R> {
@@ -158,7 +182,7 @@ impl<P: Program, R: Wait> RowSet for LiveRows<'_, '_, P, R> {
 
     ghost tests_record = { λ _ config thread from number write. slice_get (admitted_from P.events (Some config) from (P.writes thread)) (number - 1) ≡ Some write };
 
-    ghost tests_hand = { tests_hand_in };
+    ghost tests_hand = { tests_hand_in P.rows };
 
     ghost tests_marks = { tests_marks_in P.events P.writes };
 
@@ -167,7 +191,8 @@ impl<P: Program, R: Wait> RowSet for LiveRows<'_, '_, P, R> {
     }
 
     /// It has the memory of its own session alone: it opens none in another slot or of another configuration, and none
-    /// where its session was opened on as many threads as one can be.
+    /// where its session was opened on as many threads as one can be. It opens none on a row that has left or that serves
+    /// another life than the one in which it is expected, which `missed` tells.
     fn attach(
         &mut self,
         alloc: Global,
@@ -183,19 +208,27 @@ impl<P: Program, R: Wait> RowSet for LiveRows<'_, '_, P, R> {
             return Err(AllocError);
         }
         let number = row as usize - 1;
-        let hand = self.live.open(
+        match self.live.open(
             self.rt,
             alloc,
             number,
             slot,
+            self.lives[number],
             &mut self.halves[number],
             &mut self.stands,
             session,
             self.grant,
             &mut self.seat,
-        )?;
-        self.openings += 1;
-        Ok(hand)
+        ) {
+            Ok(hand) => {
+                self.openings += 1;
+                Ok(hand)
+            }
+            Err(why) => {
+                self.missed = why == NotOpened::Away;
+                Err(AllocError)
+            }
+        }
     }
 
     fn steal(&mut self, row: u32, slot: u32, hand: &mut Hand) -> Batch {
@@ -229,7 +262,13 @@ impl<P: Program, R: Wait> RowSet for LiveRows<'_, '_, P, R> {
 /// Row sets whose tests on hands say the same know alike how many writes each thread has begun. So what a stream does with
 /// its rows lends no half and takes none back.
 pub fn same_tests_have_the_same_stands()
-    ensures { (old new : LiveRowsState) → TestsHandsAs (tests_hand_in old) (tests_hand_in new) → new.stands ≡ old.stands }
+    ensures { (rows : ℕ) (old new : LiveRowsState) → TestsHandsAs (tests_hand_in rows old) (tests_hand_in rows new) → new.stands ≡ old.stands }
+{}
+
+/// They expect each row in the same life, where there are rows.
+pub fn same_tests_have_the_same_lives()
+    ensures { (rows : ℕ) (old new : LiveRowsState) → 0 < rows → TestsHandsAs (tests_hand_in rows old) (tests_hand_in rows new)
+        → (row : ℕ) → life_at new row ≡ life_at old row }
 {}
 
 // Says that two configurations are equal where they compare so.

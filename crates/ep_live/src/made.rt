@@ -4,7 +4,7 @@ ghost use Rattle.ep_tie.specs.Tied.{Tied};
 ghost use Rattle.ep_guarded.specs.declared.agreed.Agreed.{Agreed as AgreedValue};
 ghost use Rattle.ep_guarded.specs.declared.agreed.Agreed.TheVariants as agreed;
 ghost use Rattle.ep_guarded.specs.Tied.{buffer_number, buffer_place};
-ghost use Rattle.ep_live.specs.Made.{AreStands, AreRowTies, AreHandTies, AreSlotTies, AreBuffers, AreRows};
+ghost use Rattle.ep_live.specs.Made.{AreStands, AreRowTies, AreHandTies, AreBuffers, AreRows};
 
 use crate::limits::ROW_TIES;
 use ep_defs::limits::SESSIONS;
@@ -141,25 +141,4 @@ pub(crate) fn make_rows<'a, P: Program>(
         number += 1;
     }
     Ok((rows, buffers, hands))
-}
-
-/// Of the halves of all hands, by the buffers' numbers, those of this slot, by row. The others are let go. It takes no
-/// memory.
-pub fn slot_halves<'a, P: Program>(
-    hands: Vec<Right<P, Agreed<'a>>>,
-    slot: u32,
-) -> Vec<Right<P, Agreed<'a>>>
-    requires slot { slot < SESSIONS }
-    requires count { vec_len hands ≡ P.rows * SESSIONS }
-    requires hands { AreHandTies P.rows hands.items }
-    ensures count { vec_len result ≡ P.rows }
-    ensures halves { AreSlotTies P.rows slot result.items }
-{
-    let mut hands = hands;
-    let rows = hands.len() / SESSIONS;
-    for row in 0..rows {
-        hands.swap(row, row * SESSIONS + slot as usize);
-    }
-    hands.truncate(rows);
-    hands
 }

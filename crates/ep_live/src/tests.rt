@@ -11,7 +11,7 @@ ghost use Rattle.ep_stream.specs.Rows.{IsRow, IsSetAt};
 
 use crate::live::Live;
 use crate::live_rows::{LiveRows, same_tests_have_the_same_stands};
-use crate::made::slot_halves;
+use crate::free::free_slots;
 use crate::stands::Stands;
 use ep_defs::{Config, EventDef, Items, Marks, Rule, Units, Write};
 use ep_guarded::{Agreed, Grant, Program};
@@ -152,7 +152,10 @@ fn taken<'a, P: Program, R: Wait + Abort>(
     assert!(rt; threads.len() == 2 && hands.len() == 128);
     let (mut first, mut half) = two_halves(threads, hands);
     let mut none = Stands::none(alloc);
-    let mut hand = live.open(rt, alloc, 0, 3, &mut half, &mut none, 5, grant, seat)?;
+    let opened = live.open(rt, alloc, 0, 3, 0, &mut half, &mut none, 5, grant, seat);
+    let Ok(mut hand) = opened else {
+        return Err(AllocError);
+    };
     write_next(rt, &live, 0, &mut first, 0, 2, write);
     let stolen = live.steal(rt, 0, 3, &mut half, &mut hand);
     write_next(rt, &live, 0, &mut first, 1, 2, write);
@@ -436,7 +439,10 @@ fn run<'a, P: Program + Send + Sync, R: Threads + Wait + Sync>(
 {
     let (live, threads, hands) = Live::<P>::new(alloc, blank, 2, events)?;
     let stands = Stands::new(threads, 0);
-    let rows = LiveRows::new(rt, &live, 3, grant, slot_halves(hands, 3), seat, stands);
+    let mut slots = free_slots(alloc, hands)?;
+    let free = slots.swap_remove(3);
+    let lives = vec![in alloc; 0u32; 2]?;
+    let rows = LiveRows::new(rt, &live, free, grant, seat, stands, lives);
     beside(rt, alloc, &live, rows, &grant.config, write)
 }
 

@@ -10,7 +10,7 @@ use Rattle.ep_chunk.specs.Record.{Record}
 use Rattle.ep_pool.specs.declared.steps.Known.{Known}
 use Rattle.ep_pool.specs.declared.steps.Known.TheVariants.{Unborn, Spent, Staked}
 use Rattle.ep_pool.specs.Free.{IsOneEmpty}
-use Rattle.ep_pool.specs.Deals.{total_of, seats_of, share_of, taken_of, given_of, together, Fits, IsDealt, Deals, Moment, IsStaked, born, took, gave, parted, apart, joined, levelled}
+use Rattle.ep_pool.specs.Deals.{total_of, seats_of, share_of, taken_of, given_of, together, Fits, IsDealt, Deals, Moment, IsStaked, born, took, gave, dried, KnowsFree, parted, apart, joined, levelled}
 
 abbrev Queue : Type 0
 Queue = List (List (List Record))
@@ -170,6 +170,15 @@ levels seat (Staked s) staked equal queue known h at =
     let mine : Fits s.total s.seats (Staked s) = d.fitting seat (Staked s) at in
     (h.0, inr (s.total, s.seats, forked s.total s.seats (length queue) known seat (Staked s) (levelled (Staked s)) Spent d at mine tt (omega arith) (omega arith)))
 
+-- a take found no chunk
+pub dries : (seat : ℕ) (k : Known) → IsStaked k → Forks Deals seat k (dried k) Spent
+dries seat Unborn staked queue known h at = elim staked [ ]
+dries seat Spent staked queue known h at = elim staked [ ]
+dries seat (Staked s) staked queue known h at =
+    let d = dealt queue known seat (Staked s) tt h at in
+    let mine : Fits s.total s.seats (Staked s) = d.fitting seat (Staked s) at in
+    (h.0, inr (s.total, s.seats, forked s.total s.seats (length queue) known seat (Staked s) (dried (Staked s)) Spent d at mine tt (omega arith) (omega arith)))
+
 -- a share goes to a seat of its own
 pub splits : (seat : ℕ) (k : Known) → IsStaked k → 1 < share_of k → Forks Deals seat k (parted k) (apart k)
 splits seat Unborn staked many queue known h at = elim staked [ ]
@@ -215,8 +224,16 @@ joins seat (Staked s) other (Staked t) staked staked' queue known h at far at' =
       ),
     )
 
+-- a seat with all shares knows how many chunks are free
+counts : (k : Known) (free : ℕ) → Moment k free → share_of k ≡ seats_of k → free + taken_of k ≡ total_of k + given_of k
+counts k free m all =
+    let d = m.1 in
+    let whole = alone (total_of k) (seats_of k) m.0 m.2.0 k d.fitting m.2.1 (all ∙ sym d.shared) in
+    let c = d.counted in
+    omega (arith, whole.0, whole.1)
+
 -- a chunk is taken
-pub takes : (seat : ℕ) (k : Known) → IsStaked k → Pops Deals seat k (λ chain w. (chain ≡ [] ∷ []) × (w ≡ took k))
+pub takes : (seat : ℕ) (k : Known) → IsStaked k → Pops Deals seat k (λ chain w. (chain ≡ [] ∷ []) × (w ≡ took k) × KnowsFree k)
 takes seat Unborn staked chain queue known h at = elim staked [ ]
 takes seat Spent staked chain queue known h at = elim staked [ ]
 takes seat (Staked s) staked chain queue known h at =
@@ -225,7 +242,7 @@ takes seat (Staked s) staked chain queue known h at =
     let mine : Fits s.total s.seats k = d.fitting seat k at in (
       took k,
       (All-tail IsOneEmpty chain queue h.0, inr (s.total, s.seats, moved s.total s.seats (suc (length queue)) (length queue) known seat k (took k) d at mine refl (omega arith))),
-      (All-head IsOneEmpty chain queue h.0, refl),
+      (All-head IsOneEmpty chain queue h.0, refl, λ all. let c = counts k (suc (length queue)) (known, d, (seat, at)) all in omega arith),
     )
 
 -- an empty chunk is given
@@ -248,14 +265,6 @@ gives capacity seat (Staked s) chain staked empty queue known room h at =
 -- what a seat learns at any moment
 pub learns : (seat : ℕ) (k : Known) → IsStaked k → Learns Deals seat k (λ queue. Moment k (length queue))
 learns seat k staked queue known h at = (known, dealt queue known seat k staked h at, (seat, at))
-
--- a seat with all shares knows how many chunks are free
-counts : (k : Known) (free : ℕ) → Moment k free → share_of k ≡ seats_of k → free + taken_of k ≡ total_of k + given_of k
-counts k free m all =
-    let d = m.1 in
-    let whole = alone (total_of k) (seats_of k) m.0 m.2.0 k d.fitting m.2.1 (all ∙ sym d.shared) in
-    let c = d.counted in
-    omega (arith, whole.0, whole.1)
 
 -- a seat with what two had has a stake
 pub joined_staked : (k l : Known) → IsStaked k → IsStaked l → IsStaked (joined k l)

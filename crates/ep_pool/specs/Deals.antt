@@ -34,6 +34,11 @@ abbrev pub given_of : Known → ℕ
 given_of (Staked s) = s.given
 given_of _ = 0
 
+-- how often a take through a seat found no chunk
+abbrev pub dry_of : Known → ℕ
+dry_of (Staked s) = s.dry
+dry_of _ = 0
+
 -- a number of each seat, of all seats together
 abbrev pub together : (Known → ℕ) → List Known → ℕ
 together f [] = 0
@@ -60,21 +65,18 @@ Deals queue known =
     All IsOneEmpty queue
     × (((known ≡ Unborn ∷ []) × (queue ≡ [])) ⊎ ((total : ℕ) × (seats : ℕ) × IsDealt total seats (length queue) known))
 
--- There was a moment at which this many chunks were free and a seat knew this.
+-- The seats of a pool, among them one that knows this, can be dealt so that this many chunks are free. It binds the
+-- number only for a seat with all shares: one that has a part of them knows nothing of what the others hold.
 abbrev pub Moment : Known → ℕ → Type 0
 Moment k free = (known : List Known) × IsDealt (total_of k) (seats_of k) free known × ((seat : ℕ) × (get_elem? known seat ≡ some k))
 
--- what a seat in this state knows
-abbrev pub known_of : SeatState → Known
-known_of s = Staked (record { total = s.total; seats = s.seats; share = s.share; taken = s.taken; given = s.given })
-
--- At one moment of a call this many chunks of this seat's pool were free, so that all others were out.
-abbrev pub WereFree : SeatState → ℕ → Type 0
-WereFree s free = Moment (known_of s) free
+-- A seat with all shares knows that not all chunks are out.
+abbrev pub KnowsFree : Known → Type 0
+KnowsFree k = share_of k ≡ seats_of k → taken_of k < total_of k + given_of k
 
 -- the state of a seat of this pool that knows so much
 abbrev pub seat_of : PoolName → Known → SeatState
-seat_of name k = record { pool = name; total = total_of k; seats = seats_of k; share = share_of k; taken = taken_of k; given = given_of k }
+seat_of name k = record { pool = name; total = total_of k; seats = seats_of k; share = share_of k; taken = taken_of k; given = given_of k; dry = dry_of k }
 
 -- the seat has a stake in its pool
 abbrev pub IsStaked : Known → Type 0
@@ -83,7 +85,7 @@ IsStaked _ = ⊥
 
 -- the first seat of a pool: it has all shares, and all chunks are out with it
 abbrev pub born : ℕ → ℕ → Known → Known
-born total seats _ = Staked (record { total = total; seats = seats; share = seats; taken = total; given = 0 })
+born total seats _ = Staked (record { total = total; seats = seats; share = seats; taken = total; given = 0; dry = 0 })
 
 -- a seat through which one chunk more was taken
 abbrev pub took : Known → Known
@@ -95,6 +97,11 @@ abbrev pub gave : Known → Known
 gave (Staked s) = Staked (record s { given = s.given + 1 })
 gave k = k
 
+-- a seat through which one take more found no chunk
+abbrev pub dried : Known → Known
+dried (Staked s) = Staked (record s { dry = s.dry + 1 })
+dried k = k
+
 -- a seat with one share less
 abbrev pub parted : Known → Known
 parted (Staked s) = Staked (record s { share = s.share - 1 })
@@ -102,12 +109,12 @@ parted k = k
 
 -- a seat with the one share that another had too much
 abbrev pub apart : Known → Known
-apart (Staked s) = Staked (record s { share = 1; taken = 0; given = 0 })
+apart (Staked s) = Staked (record s { share = 1; taken = 0; given = 0; dry = 0 })
 apart _ = Spent
 
 -- a seat with what two had
 abbrev pub joined : Known → Known → Known
-joined (Staked s) (Staked t) = Staked (record s { share = s.share + t.share; taken = s.taken + t.taken; given = s.given + t.given })
+joined (Staked s) (Staked t) = Staked (record s { share = s.share + t.share; taken = s.taken + t.taken; given = s.given + t.given; dry = s.dry + t.dry })
 joined k _ = k
 
 -- a seat whose counts, which are equal, are taken away

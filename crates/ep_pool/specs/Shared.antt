@@ -11,8 +11,8 @@ pub record SharedPool : Type 0 where
   pub pool : PoolName
   pub total : ℕ
 
--- a seat of a pool: the chunks and the shares of the whole pool, the shares of this seat, and how many chunks were
--- taken and given through it
+-- a seat of a pool: the chunks and the shares of the whole pool, the shares of this seat, how many chunks were taken
+-- and given through it, and how often a take through it found no chunk
 pub record SeatState : Type 0 where
   pub pool : PoolName
   pub total : ℕ
@@ -20,6 +20,7 @@ pub record SeatState : Type 0 where
   pub share : ℕ
   pub taken : ℕ
   pub given : ℕ
+  pub dry : ℕ
 
 -- the seat is one of this pool
 abbrev pub IsSeatOf : SharedPool → SeatState → Type 0

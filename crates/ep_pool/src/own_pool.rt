@@ -57,19 +57,17 @@ impl OwnPool {
 }
 
 impl Purse for OwnPool {
-    ghost use Rattle.std.specs.Prelude.{◌≡◌, ◌-◌};
+    ghost use Rattle.std.specs.Prelude.{◌≡◌, ◌-◌, ◌<◌};
 
     ghost total = { λ p. p.total };
-
-    ghost taken = { λ p. p.total - p.free };
 
     ghost can_take = { λ _. Unit {0} };
 
     ghost can_give = { λ _ _. Unit {0} };
 
-    ghost found_none = { λ old new. (old.free ≡ 0) × (new ≡ old) };
+    ghost got = { λ old new. (0 < old.free) × (new ≡ record old { free = old.free - 1 }) };
 
-    ghost same = { λ old new. new.total ≡ old.total };
+    ghost dry = { λ old new. (old.free ≡ 0) × (new ≡ old) };
 
     /// A chain of one empty chunk. None exactly where no chunk is free.
     fn take(&mut self) -> Option<Chain>
@@ -94,11 +92,9 @@ impl Purse for OwnPool {
         self.total
     }
 
-    ghost use Rattle.std.proofs.Common.{ap, refl};
+    ghost use Rattle.std.proofs.Common.{arith};
 
-    ghost none_is_taken = { λ old new h. ap (λ (p : PoolCounts). p.total - p.free) h.1 };
-
-    ghost is_same = { λ purse. refl };
+    ghost got_is_not_dry = { λ old new got dry. omega (arith, got.0, dry.0) };
 }
 
 // The chunk of a chain of one, without its records.

@@ -1,15 +1,15 @@
 //! A pool that threads share.
-ghost use Rattle.std.specs.Prelude.{◌≡◌, ◌+◌, ◌-◌, ◌<◌, ◌≤◌, [], ◌∷◌, length, is_some, if◌then◌else◌, IfOk, IfSome, IfNone};
+ghost use Rattle.std.specs.Prelude.{◌≡◌, ◌+◌, ◌-◌, ◌<◌, ◌≤◌, [], ◌∷◌, length, is_some, if◌then◌else◌, IfOk, IfSome, IfNone, IsNone, ◌↔◌};
 ghost use Rattle.crossbeam_queue.specs.Passes.{view, IsSamePass, IsPassOf};
 ghost use Rattle.ep_pool.specs.declared.limits.TheConstants.{SEAT_COUNTS};
 ghost use Rattle.ep_pool.specs.declared.steps.Known.TheVariants.{Unborn};
 ghost use Rattle.ep_pool.specs.Shared.{IsSeatOf};
-ghost use Rattle.ep_pool.specs.Deals.{WereFree, Moment, IsStaked, born, gave};
+ghost use Rattle.ep_pool.specs.Deals.{Moment, IsStaked, born, gave};
 
 use crate::own_pool::cleared;
 use crate::seat::PoolSeat;
 use crate::steps::{
-    Birth, Counting, Giving, Joining, Levelling, Numbers, Parting, Queue, QueuePass, Taking,
+    Birth, Counting, Drying, Giving, Joining, Levelling, Numbers, Parting, Queue, QueuePass, Taking,
 };
 use ep_chunk::{Chain, Chunk};
 use std::alloc::{AllocError, Global};
@@ -48,7 +48,7 @@ impl Pool {
         requires seats { 0 < seats }
         ensures pool { IfOk result (λ made. made.0.total ≡ chunks) }
         ensures seat { IfOk result (λ made. made.1
-            ≡ record { pool = made.0.pool; total = chunks; seats = seats; share = seats; taken = 0; given = 0 }) }
+            ≡ record { pool = made.0.pool; total = chunks; seats = seats; share = seats; taken = 0; given = 0; dry = 0 }) }
     {
         let (queue, mut unborn) = Queue::ruled(alloc, chunks as usize)?;
         let mut seat = PoolSeat {
@@ -72,26 +72,32 @@ impl Pool {
         Ok((pool, seat))
     }
 
-    /// A chain of one empty chunk. None only where no chunk was free at one moment of the call, so that all were out.
-    /// It takes no memory.
+    /// A chain of one empty chunk, which the seat counts as taken. None where the pool's queue was found empty, which
+    /// the seat counts as dry: no other call raises that count. It takes no memory, and may wait.
     pub fn take<R: Wait>(&self, rt: &R, seat: &mut PoolSeat) -> Option<Chain>
         requires own { IsSeatOf self.now seat.old }
         requires few { seat.old.taken < SEAT_COUNTS }
         ensures one { IfSome result (λ chain. chain ≡ [] ∷ []) }
-        ensures none { IfNone result (WereFree seat.old 0) }
+        ensures none { IsNone result ↔ (seat.new.dry ≡ seat.old.dry + 1) }
         ensures all { seat.old.share ≡ seat.old.seats
             → IfNone result (seat.old.taken ≡ seat.old.total + seat.old.given) }
-        ensures seat { seat.new ≡ record seat.old { taken = seat.old.taken + (if is_some result then 1 else 0) } }
+        ensures some { seat.old.share ≡ seat.old.seats
+            → IfSome result (λ _. seat.old.taken < seat.old.total + seat.old.given) }
+        ensures seat { seat.new
+            ≡ (if is_some result
+            then record seat.old { taken = seat.old.taken + 1 }
+            else record seat.old { dry = seat.old.dry + 1 }) }
     {
         let got = self.queue.pop_as::<Taking, R>(rt, &mut seat.pass);
-        if got.is_some() {
-            seat.taken += 1;
+        match got {
+            Some(_) => seat.taken += 1,
+            None => self.count_dry(seat),
         }
         got
     }
 
     /// Gives the chunks of a chain back, without their records. No chunk is lost: where the queue seems full it tries
-    /// again. It takes no memory.
+    /// again. It takes no memory, and may wait.
     pub fn give<R: Wait>(&self, rt: &R, seat: &mut PoolSeat, chain: Chain)
         requires own { IsSeatOf self.now seat.old }
         requires few { seat.old.given + length chain < SEAT_COUNTS }
@@ -108,7 +114,7 @@ impl Pool {
         requires own { IsSeatOf self.now seat.old }
         requires share { 1 < seat.old.share }
         ensures seat { seat.new ≡ record seat.old { share = seat.old.share - 1 } }
-        ensures other { result ≡ record seat.old { share = 1; taken = 0; given = 0 } }
+        ensures other { result ≡ record seat.old { share = 1; taken = 0; given = 0; dry = 0 } }
     {
         let pass = self.queue.another::<Parting>(&mut seat.pass);
         seat.share -= 1;
@@ -126,7 +132,7 @@ impl Pool {
         requires taken { seat.old.taken + other.taken < SEAT_COUNTS }
         requires given { seat.old.given + other.given < SEAT_COUNTS }
         ensures { seat.new
-            ≡ record seat.old { share = seat.old.share + other.share; taken = seat.old.taken + other.taken; given = seat.old.given + other.given } }
+            ≡ record seat.old { share = seat.old.share + other.share; taken = seat.old.taken + other.taken; given = seat.old.given + other.given; dry = seat.old.dry + other.dry } }
     {
         let PoolSeat {
             pass,
@@ -141,15 +147,35 @@ impl Pool {
         seat.given += given;
     }
 
-    /// How many chunks were free at one moment of the call. To a seat with all shares it is how many are.
+    /// How many chunks are free, for a seat with all shares. For one with a part of them it is how many were at one
+    /// moment of the call, of which its contract says only that they are not more than all. It may wait.
     pub fn free<R: Wait>(&self, rt: &R, seat: &mut PoolSeat) -> u32
         requires { IsSeatOf self.now seat.old }
-        ensures free { WereFree seat.old result }
+        ensures within { result ≤ self.now.total }
         ensures all { seat.old.share ≡ seat.old.seats
             → result + seat.old.taken ≡ seat.old.total + seat.old.given }
         ensures seat { seat.new ≡ seat.old }
     {
         self.queue.len_as::<Counting, R>(rt, &mut seat.pass) as u32
+    }
+
+    /// Takes the chunks one by one until none is left, and lets go of their memory. It answers how many there were: all,
+    /// since the seat has all shares and each chunk that was taken is back. It may wait.
+    pub fn drain<R: Wait>(&self, rt: &R, seat: PoolSeat) -> u32
+        requires own { IsSeatOf self.now seat }
+        requires alone { seat.share ≡ seat.seats }
+        requires back { seat.taken ≡ seat.given }
+        requires few { seat.taken + seat.total < SEAT_COUNTS }
+        ensures { result ≡ self.now.total }
+    {
+        let mut seat = seat;
+        let total = self.total;
+        let mut left = total;
+        while let Some(chunk) = self.take(rt, &mut seat) {
+            drop(chunk);
+            left -= 1;
+        }
+        total - left
     }
 
     /// How many chunks the pool has, free ones and others.
@@ -169,6 +195,14 @@ impl Pool {
     {
         push(rt, &self.queue, &mut seat.pass, one);
         seat.given += 1;
+    }
+
+    // Counts that the queue was found empty.
+    fn count_dry(&self, seat: &mut PoolSeat)
+        requires { IsSeatOf self.now seat.old }
+        ensures { seat.new ≡ record seat.old { dry = seat.old.dry + 1 } }
+    {
+        self.queue.another::<Drying>(&mut seat.pass);
     }
 
     // Takes equal counts away.

@@ -1,5 +1,5 @@
 //! What a writer takes chunks from, and who reads gives them back to.
-ghost use Rattle.std.specs.Prelude.{◌≡◌, ℕ, ◌+◌, [], ◌∷◌, length, IfNone, IfSome, is_some, if◌then◌else◌};
+ghost use Rattle.std.specs.Prelude.{◌≡◌, ℕ, [], ◌∷◌, length, IfNone, IfSome};
 
 use ep_chunk::Chain;
 
@@ -8,29 +8,24 @@ pub trait Purse {
     // How many chunks the pool has, free ones and others.
     ghost total: { Self → ℕ };
 
-    // How many chunks were taken through this purse.
-    ghost taken: { Self → ℕ };
-
     // Whether one more chunk can be counted as taken.
     ghost can_take: { Self → Type 0 };
 
     // Whether this many chunks can be counted as given back.
     ghost can_give: { Self → ℕ → Type 0 };
 
-    // At one moment between these two states no chunk was free.
-    ghost found_none: { Self → Self → Type 0 };
+    // What a take makes of the purse that got a chunk.
+    ghost got: { Self → Self → Type 0 };
 
-    // It is the same purse, of which at most the number of chunks taken through it has changed.
-    ghost same: { Self → Self → Type 0 };
+    // What a take makes of the purse that found its pool dry, with no chunk that is free.
+    ghost dry: { Self → Self → Type 0 };
 
-    /// A chain of one empty chunk. None only where no chunk was free at one moment of the call. It takes no memory.
+    /// A chain of one empty chunk. None exactly where the pool was found dry. It takes no memory.
     fn take(&mut self) -> Option<Chain>
         requires { can_take self.old }
         ensures one { IfSome result (λ chain. chain ≡ [] ∷ []) }
-        ensures none { IfNone result (found_none self.old self.new) }
-        ensures taken { taken self.new ≡ taken self.old + (if is_some result then 1 else 0) }
-        ensures total { total self.new ≡ total self.old }
-        ensures same { same self.old self.new };
+        ensures got { IfSome result (λ _. got self.old self.new) }
+        ensures dry { IfNone result (dry self.old self.new) };
 
     /// Gives the chunks of a chain back. It takes no memory.
     fn give(&mut self, chain: Chain)
@@ -41,9 +36,6 @@ pub trait Purse {
     fn total(&self) -> u32
         ensures { result ≡ total self.now };
 
-    // Where no chunk was found none was taken.
-    ghost none_is_taken: { (old new : Self) → found_none old new → taken new ≡ taken old };
-
-    // A purse is the same as itself.
-    ghost is_same: { (purse : Self) → same purse purse };
+    // No take does both.
+    ghost got_is_not_dry: { (old new : Self) → got old new → dry old new → ⊥ };
 }

@@ -2,7 +2,6 @@
 ghost use Rattle.std.specs.Prelude.{◌≡◌, ◌+◌, ◌<◌, length};
 ghost use Rattle.ep_pool.specs.declared.limits.TheConstants.{SEAT_COUNTS};
 ghost use Rattle.ep_pool.specs.Shared.{IsSeatOf};
-ghost use Rattle.ep_pool.specs.Deals.{WereFree};
 
 use crate::pool::Pool;
 use crate::purse::Purse;
@@ -69,20 +68,20 @@ impl<R: Wait> Purse for Seated<'_, R> {
 
     ghost total = { λ p. p.pool.now.total };
 
-    ghost taken = { λ p. p.seat.now.taken };
-
     ghost can_take = { λ p. IsSeatOf p.pool.now p.seat.now × (p.seat.now.taken < SEAT_COUNTS) };
 
     ghost can_give = { λ p chunks. IsSeatOf p.pool.now p.seat.now × (p.seat.now.given + chunks < SEAT_COUNTS) };
 
-    ghost found_none = { λ old new. WereFree old.seat.now 0 × (new.seat.now ≡ old.seat.now) };
-
-    ghost same = { λ old new. (new.pool.now ≡ old.pool.now)
+    ghost got = { λ old new. (new.pool.now ≡ old.pool.now)
         × (new.seat.ghost_name ≡ old.seat.ghost_name)
-        × (new.seat.now ≡ record old.seat.now { taken = new.seat.now.taken }) };
+        × (new.seat.now ≡ record old.seat.now { taken = old.seat.now.taken + 1 }) };
 
-    /// A chain of one empty chunk. None only where no chunk was free at one moment of the call, so that all were out.
-    /// It takes no memory, and may wait.
+    ghost dry = { λ old new. (new.pool.now ≡ old.pool.now)
+        × (new.seat.ghost_name ≡ old.seat.ghost_name)
+        × (new.seat.now ≡ record old.seat.now { dry = old.seat.now.dry + 1 }) };
+
+    /// A chain of one empty chunk. None exactly where the pool was found dry, which the seat counts. It takes no memory,
+    /// and may wait.
     fn take(&mut self) -> Option<Chain> {
         self.pool.take(self.rt, self.seat)
     }
@@ -102,9 +101,9 @@ impl<R: Wait> Purse for Seated<'_, R> {
         self.pool.total()
     }
 
-    ghost use Rattle.std.proofs.Common.{ap, refl};
+    ghost use Rattle.std.proofs.Common.{ap, ◌∙◌, sym, arith};
 
-    ghost none_is_taken = { λ old new h. ap (λ (s : SeatState). s.taken) h.1 };
-
-    ghost is_same = { λ purse. (refl, refl, refl) };
+    ghost got_is_not_dry = { λ old new got dry.
+        let same = sym (ap (λ (s : SeatState). s.taken) got.2) ∙ ap (λ (s : SeatState). s.taken) dry.2 in
+        omega (arith, same) };
 }

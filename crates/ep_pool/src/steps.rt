@@ -16,6 +16,8 @@ pub struct Stake {
     pub taken: u64,
     /// How many chunks were given through this seat.
     pub given: u64,
+    /// How often a take through this seat found no chunk.
+    pub dry: u64,
 }
 
 /// What a seat knows. No value of it is made.
@@ -84,6 +86,18 @@ impl Split<Known> for Levelling {
     ghost right = { λ _. Spent };
 }
 
+/// A take found no chunk.
+pub struct Drying;
+
+impl Split<Known> for Drying {
+    ghost use Rattle.ep_pool.specs.Deals.{dried};
+    ghost use Rattle.ep_pool.specs.declared.steps.Known.TheVariants.{Spent};
+
+    ghost left = { dried };
+
+    ghost right = { λ _. Spent };
+}
+
 /// One share goes to a seat of its own.
 pub struct Parting;
 
@@ -112,9 +126,9 @@ pub struct Taking;
 
 impl Outcome<Chain, Known> for Taking {
     ghost use Rattle.std.specs.Prelude.{◌≡◌, [], ◌∷◌};
-    ghost use Rattle.ep_pool.specs.Deals.{took};
+    ghost use Rattle.ep_pool.specs.Deals.{took, KnowsFree};
 
-    ghost then = { λ k chain after. (chain ≡ [] ∷ []) × (after ≡ took k) };
+    ghost then = { λ k chain after. (chain ≡ [] ∷ []) × (after ≡ took k) × KnowsFree k };
 }
 
 impl Lesson<Chain, Known> for Taking {

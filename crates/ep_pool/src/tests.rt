@@ -4,6 +4,7 @@ ghost use Rattle.ep_pool.specs.Shared.{IsSeatOf};
 ghost use Rattle.ep_pool.specs.declared.tests.TheConstants.{TURNS};
 
 use super::*;
+use ep_chunk::Chain;
 use std::sync::Wait;
 use std::test::Fail;
 use std::thread;
@@ -73,6 +74,56 @@ fn a_seat_is_lent_as_a_purse(rt: HostRuntime) -> Result<(), Fail> {
     let chain = purse.take().ok_or("no chunk")?;
     purse.give(chain);
     assert!(rt; seat.taken() == 1 && seat.given() == 1);
+    Ok(())
+}
+
+// Whether a seat got a chunk before and after all were taken, and once another seat gave one back.
+#[derive(Clone, Copy, Debug, PartialEq, Eq)]
+struct Takes {
+    first: bool,
+    dry: bool,
+    again: bool,
+}
+
+// A seat that has a part of the shares takes all chunks of a pool and one more, and another gives one of them back.
+fn takes_of_two_seats(rt: &(impl Wait + AllocGlobal), chunks: u32) -> Result<Takes, Fail>
+    requires { 0 < chunks }
+{
+    let (pool, mut seat) = Pool::new(rt, rt.alloc(), chunks, 2)?;
+    let mut other = pool.split(&mut seat);
+    let mut out = Chain::empty(rt.alloc());
+    for _ in 0..chunks {
+        if let Some(chunk) = pool.take(rt, &mut seat) {
+            out.join(chunk);
+        }
+    }
+    let first = out.count() == chunks;
+    let dry = pool.take(rt, &mut seat).is_none();
+    if let Some(chunk) = out.split_first() {
+        pool.give(rt, &mut other, chunk);
+    }
+    let again = pool.take(rt, &mut seat).is_some();
+    Ok(Takes { first, dry, again })
+}
+
+#[test]
+fn a_seat_with_one_of_two_shares_takes_what_the_other_gave_back(
+    rt: HostRuntime,
+) -> Result<(), Fail> {
+    let all = Takes {
+        first: true,
+        dry: true,
+        again: true,
+    };
+    assert_eq!(rt; takes_of_two_seats(&rt, 1)?, all);
+    assert_eq!(rt; takes_of_two_seats(&rt, 2)?, all);
+    Ok(())
+}
+
+#[test]
+fn a_pool_of_three_is_drained_of_three_chunks(rt: HostRuntime) -> Result<(), Fail> {
+    let (pool, seat) = Pool::new(&rt, rt.alloc(), 3, 2)?;
+    assert_eq!(rt; pool.drain(&rt, seat), 3);
     Ok(())
 }
 

@@ -2,9 +2,10 @@
 ghost use Rattle.std.specs.Prelude.{◌≡◌, ℕ, ◌+◌, ◌^◌, ◌<◌, ◌≤◌, true, false, length, All, IfOk, IfSome, OnOk, OnErr, IsTrue, IsNone, is_some, ◌↔◌, if◌then◌else◌, Some, None, slice_set};
 ghost use Rattle.std.specs.Int.{bit_at};
 ghost use Rattle.ep_defs.specs.Session as valid;
-ghost use Rattle.ep_model.specs.Budget.{needs_chunk, chunks_begun, record_size};
+ghost use Rattle.ep_model.specs.Budget.{needs_chunk, record_size};
 ghost use Rattle.ep_slot.specs.Chain.{records_of, HasRecords};
-ghost use Rattle.ep_slot.specs.Slot.{IsKept, opened, with_record, with_refusal, with_steal, marks_of, number_of, is_refused};
+ghost use Rattle.ep_slot.specs.Asked.{IsAsked};
+ghost use Rattle.ep_slot.specs.Slot.{IsKept, opened, shown_slot, with_steal, marks_of, number_of, is_refused};
 ghost use Rattle.ep_slot.specs.Hand.{Agrees};
 ghost use Rattle.ep_row.specs.Bits.{SetsBits, ClearsBit};
 ghost use Rattle.ep_row.specs.Row.{shown_once, gets};
@@ -169,7 +170,8 @@ impl Row {
         Ok(made)
     }
 
-    /// Shows the write that was begun to a session that is due. The slot keeps or refuses it.
+    /// Shows the write that was begun to a session that is due. The slot keeps it, or refuses it where its record needs a
+    /// chunk and the pool was found dry.
     pub fn show<P: Purse>(
         &mut self,
         slot: u32,
@@ -185,17 +187,10 @@ impl Row {
         requires total { P.total pool.old ≡ buffer.old.chunks }
         requires can_take { P.can_take pool.old }
         ensures number { number_of result ≡ buffer.old.used + 1 }
-        ensures slot { buffer.new
-            ≡ (if is_refused result
-            then with_refusal buffer.old
-            else with_record buffer.old self.old.stamp write.now) }
+        ensures slot { buffer.new ≡ shown_slot (is_refused result) buffer.old self.old.stamp write.now }
         ensures refused { IsTrue (is_refused result)
-            ↔ (IsTrue (needs_chunk buffer.old.pending (record_size write.now)) × P.found_none pool.old pool.new) }
-        ensures taken { P.taken pool.new
-            ≡ P.taken pool.old
-            + (if is_refused result then 0 else chunks_begun buffer.old.pending (record_size write.now)) }
-        ensures pool { P.total pool.new ≡ P.total pool.old }
-        ensures purse { P.same pool.old pool.new }
+            ↔ (IsTrue (needs_chunk buffer.old.pending (record_size write.now)) × P.dry pool.old pool.new) }
+        ensures purse { IsAsked P.got P.dry (needs_chunk buffer.old.pending (record_size write.now)) (is_refused result) pool.old pool.new }
         ensures open { HasOpen self.new slot buffer.new }
         ensures slots { self.new.slots ≡ slice_set self.old.slots slot (Some (opening_of buffer.new)) }
         ensures due { ClearsBit slot self.old.due self.new.due }

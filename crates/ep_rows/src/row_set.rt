@@ -10,7 +10,7 @@ use ep_stream::RowSet;
 use std::alloc::{AllocError, Global};
 
 impl RowSet for Rows {
-    ghost use Rattle.std.specs.Prelude.{◌≡◌, Some};
+    ghost use Rattle.std.specs.Prelude.{◌≡◌, None, Some};
     ghost use Rattle.ep_defs.specs.declared.limits.TheConstants.{THREADS as ROWS};
     ghost use Rattle.ep_rows.specs.Rows.{told_of, definitions_of, configured_in, expected_in, out_in};
     ghost use Rattle.ep_rows.specs.Outside.{none_outside};
@@ -32,6 +32,8 @@ impl RowSet for Rows {
     ghost tests_hand = { λ set row hand. hand.thread ≡ ((told_of set).row row).thread };
 
     ghost tests_marks = { λ _ _ _. Unit {0} };
+
+    ghost refused = { λ _. None };
 
     fn threads(&self) -> u32 {
         THREADS

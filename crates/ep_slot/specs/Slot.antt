@@ -1,5 +1,5 @@
 -- What a session's slot on a thread is, and what each call makes of it (this project's profile).
-use Rattle.std.specs.Prelude.{◌≡◌, ℕ, ◌+◌, ◌<◌, ◌≤◌, Bool, true, false, List, [], ◌∷◌, ◌++◌, length, All}
+use Rattle.std.specs.Prelude.{◌≡◌, ℕ, ◌+◌, ◌<◌, ◌≤◌, Bool, true, false, if◌then◌else◌, List, [], ◌∷◌, ◌++◌, length, All}
 use Rattle.ep_defs.specs.declared.session.Write.{Write}
 use Rattle.ep_defs.specs.declared.session.Marks.{Marks}
 use Rattle.ep_chunk.specs.Record.{Record}
@@ -73,6 +73,10 @@ with_record slot stamp write =
 -- A write that is refused uses a number and leaves no record.
 abbrev pub with_refusal : SlotState → SlotState
 with_refusal slot = record slot { used = slot.used + 1; refused = slot.refused + 1 }
+
+-- A slot to which a write was shown, which it refuses or keeps.
+abbrev pub shown_slot : Bool → SlotState → ℕ → Write → SlotState
+shown_slot refused slot stamp write = if refused then with_refusal slot else with_record slot stamp write
 
 -- A steal takes all that is pending.
 abbrev pub with_steal : SlotState → SlotState

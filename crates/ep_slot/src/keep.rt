@@ -1,8 +1,9 @@
 //! Where a record goes.
 ghost use Rattle.std.specs.Prelude.{◌≡◌, ◌+◌, ◌^◌, ◌<◌, ◌≤◌, ◌++◌, [], ◌∷◌, false, length, not, All, IsTrue, ◌↔◌, if◌then◌else◌};
 ghost use Rattle.ep_chunk.specs.Record.{record_of, size_of};
-ghost use Rattle.ep_model.specs.Budget.{needs_chunk, chunks_begun, pending_with};
+ghost use Rattle.ep_model.specs.Budget.{needs_chunk, pending_with};
 ghost use Rattle.ep_slot.specs.Chain.{records_of, pending_of, with_last, HasRecords};
+ghost use Rattle.ep_slot.specs.Asked.{IsAsked};
 
 use ep_chunk::{CHUNK_LEN, Chain, RecIn};
 use ep_pool::Purse;
@@ -42,12 +43,7 @@ pub(crate) fn keep<P: Purse>(chain: &mut Chain, pool: &mut P, rec: &RecIn) -> bo
     ensures filled { All HasRecords chain.old → All HasRecords chain.new }
     ensures needs { result ≡ false
         → IsTrue (needs_chunk (pending_of chain.old) (size_of (record_of rec.now))) }
-    ensures none { result ≡ false → P.found_none pool.old pool.new }
-    ensures taken { P.taken pool.new
-        ≡ P.taken pool.old
-        + (if result then chunks_begun (pending_of chain.old) (size_of (record_of rec.now)) else 0) }
-    ensures total { P.total pool.new ≡ P.total pool.old }
-    ensures purse { P.same pool.old pool.new }
+    ensures purse { IsAsked P.got P.dry (needs_chunk (pending_of chain.old) (size_of (record_of rec.now))) (not result) pool.old pool.new }
 {
     if append_last(chain, rec) {
         return true;

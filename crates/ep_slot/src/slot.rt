@@ -1,9 +1,10 @@
 //! A session's slot on a thread.
 ghost use Rattle.std.specs.Prelude.{◌≡◌, ◌+◌, ◌<◌, ◌≤◌, All, length, IfOk, IsTrue, ◌↔◌, if◌then◌else◌};
 ghost use Rattle.ep_defs.specs.Session as valid;
-ghost use Rattle.ep_model.specs.Budget.{needs_chunk, chunks_begun, record_size};
+ghost use Rattle.ep_model.specs.Budget.{needs_chunk, record_size};
 ghost use Rattle.ep_slot.specs.Chain.{records_of, HasRecords};
-ghost use Rattle.ep_slot.specs.Slot.{IsKept, opened, with_record, with_refusal, with_steal, marks_of, counts_of, number_of, is_refused};
+ghost use Rattle.ep_slot.specs.Asked.{IsAsked};
+ghost use Rattle.ep_slot.specs.Slot.{IsKept, opened, shown_slot, with_steal, marks_of, counts_of, number_of, is_refused};
 ghost use Rattle.ep_slot.specs.Hand.{Agrees, hand_of};
 
 use crate::hand::Hand;
@@ -80,8 +81,9 @@ impl Model for Slot {
 }
 
 impl Slot {
-    /// Shows a write to the session. Its record is kept in the last chunk or in one from the pool. Where the record
-    /// needs a chunk and the pool has none the write is refused. Both use the next number. It takes no memory.
+    /// Shows a write to the session. Its record is kept in the last chunk or in one from the pool, which is asked only
+    /// where the record needs a chunk. The write is refused exactly where the pool was asked and found dry. Both use the
+    /// next number. It takes no memory.
     pub fn show<P: Purse>(&mut self, pool: &mut P, stamp: u64, write: &Write) -> Shown
         requires fits { IsTrue (valid.fits write.now) }
         requires few { self.old.used < WRITES }
@@ -90,15 +92,10 @@ impl Slot {
         ensures number { number_of result ≡ self.old.used + 1 }
         ensures used { self.new.used ≡ self.old.used + 1 }
         ensures hand { hand_of self.new ≡ hand_of self.old }
-        ensures slot { self.new
-            ≡ (if is_refused result then with_refusal self.old else with_record self.old stamp write.now) }
+        ensures slot { self.new ≡ shown_slot (is_refused result) self.old stamp write.now }
         ensures refused { IsTrue (is_refused result)
-            ↔ (IsTrue (needs_chunk self.old.pending (record_size write.now)) × P.found_none pool.old pool.new) }
-        ensures taken { P.taken pool.new
-            ≡ P.taken pool.old
-            + (if is_refused result then 0 else chunks_begun self.old.pending (record_size write.now)) }
-        ensures pool { P.total pool.new ≡ P.total pool.old }
-        ensures purse { P.same pool.old pool.new }
+            ↔ (IsTrue (needs_chunk self.old.pending (record_size write.now)) × P.dry pool.old pool.new) }
+        ensures purse { IsAsked P.got P.dry (needs_chunk self.old.pending (record_size write.now)) (is_refused result) pool.old pool.new }
     {
         let number = self.used + 1;
         let rec = RecIn {

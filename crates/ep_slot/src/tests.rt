@@ -105,19 +105,15 @@ fn what_was_taken_and_given_back_has_room_again(rt: HostRuntime) -> Result<(), F
 struct Empty;
 
 impl Purse for Empty {
-    ghost use Rattle.std.specs.Prelude.{refl};
-
     ghost total = { λ _. 1 };
-
-    ghost taken = { λ _. 0 };
 
     ghost can_take = { λ _. Unit {0} };
 
     ghost can_give = { λ _ _. Unit {0} };
 
-    ghost found_none = { λ _ _. Unit {0} };
+    ghost got = { λ _ _. ⊥ };
 
-    ghost same = { λ _ _. Unit {0} };
+    ghost dry = { λ _ _. Unit {0} };
 
     fn take(&mut self) -> Option<Chain> {
         None
@@ -131,9 +127,7 @@ impl Purse for Empty {
         1
     }
 
-    ghost none_is_taken = { λ old new h. refl };
-
-    ghost is_same = { λ purse. tt };
+    ghost got_is_not_dry = { λ old new got dry. got };
 }
 
 #[test]

@@ -5,5 +5,6 @@ pub mod Reading
 pub mod Taking
 pub mod Sweep
 pub mod Staying
+pub mod Refused
 pub mod Listed
 pub mod OneEvent

@@ -1,6 +1,7 @@
 -- What a session's stream and the rows of a program's threads know of each other (this project's profile).
 use Rattle.std.specs.Prelude.{◌≡◌, ◌≢◌, ℕ, ◌+◌, ◌<◌, ◌≤◌, ◌&&◌, ◌==◌, if◌then◌else◌, List, Option, length, IsTrue, ◌↔◌}
-use Rattle.std.specs.List.{All}
+use Rattle.std.specs.List.{All, sum_by}
+use Rattle.std.specs.Option.{ForSome}
 use Rattle.ep_defs.specs.declared.event.EventDef.{EventDef}
 use Rattle.ep_defs.specs.declared.session.Config.{Config}
 use Rattle.ep_defs.specs.declared.session.Marks.{Marks}
@@ -52,6 +53,12 @@ TestsHandsAs old new = (row : ℕ) (hand : HandState) → new row hand ↔ old r
 -- Both tests on marks say the same of each, for each configuration.
 abbrev pub TestsMarksAs : (Config → Marks → Type 0) → (Config → Marks → Type 0) → Type 0
 TestsMarksAs old new = (config : Config) (marks : Marks) → new config marks ↔ old config marks
+
+-- ---- what was refused
+
+-- The row set counts, if it does, what these marks tell as refused.
+abbrev pub CountsRefused : Option ℕ → List Marks → Type 0
+CountsRefused refused marks = ForSome refused (λ count. count ≡ sum_by (λ m. m.refused) marks)
 
 -- ---- what stays
 

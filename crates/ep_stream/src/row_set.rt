@@ -1,5 +1,5 @@
 //! The rows of a program's threads.
-ghost use Rattle.std.specs.Prelude.{◌≡◌, ℕ, ◌+◌, ◌-◌, ◌<◌, ◌≤◌, ◌==◌, if◌then◌else◌, List, Option, None, Some, length, All, IfOk, OnOk, OnErr};
+ghost use Rattle.std.specs.Prelude.{◌≡◌, ℕ, ◌+◌, ◌-◌, ◌<◌, ◌≤◌, ◌==◌, if◌then◌else◌, List, Option, None, Some, option_map, length, All, IfOk, OnOk, OnErr};
 ghost use Rattle.std.specs.Option.{ForSome};
 ghost use Rattle.ep_defs.specs.declared.event.EventDef.{EventDef};
 ghost use Rattle.ep_defs.specs.declared.session.Config.{Config as ConfigValue};
@@ -49,6 +49,10 @@ pub trait RowSet {
     // The test that marks pass, for a configuration.
     ghost tests_marks: { Self → ConfigValue → MarksValue → Type 0 };
 
+    // How many writes all marks tell as refused that `detach` has given, where the set counts them. A set whose pool is
+    // shared counts how often it was found dry.
+    ghost refused: { Self → Option ℕ };
+
     /// How many rows there are.
     fn threads(&self) -> u32
         ensures { result ≡ count self.now };
@@ -75,6 +79,7 @@ pub trait RowSet {
         ensures none_configured { OnErr result (IsSame (configured self.old) (configured self.new)) }
         ensures none_told { OnErr result (TellsStep Stays (rows self.old) (rows self.new)) }
         ensures out { (s : ℕ) → out self.new s ≡ out self.old s }
+        ensures refused { refused self.new ≡ refused self.old }
         ensures count { count self.new ≡ count self.old }
         ensures definitions { definitions self.new ≡ definitions self.old }
         ensures tests_record { TestsRecordsAs (tests_record self.old) (tests_record self.new) }
@@ -94,6 +99,7 @@ pub trait RowSet {
         ensures expected { IsSetAt row slot (Some hand.new) (expected self.old) (expected self.new) }
         ensures configured { IsSame (configured self.old) (configured self.new) }
         ensures out { (s : ℕ) → out self.new s ≡ (if s == slot then out self.old s + length result.chain else out self.old s) }
+        ensures refused { refused self.new ≡ refused self.old }
         ensures count { count self.new ≡ count self.old }
         ensures definitions { definitions self.new ≡ definitions self.old }
         ensures tests_record { TestsRecordsAs (tests_record self.old) (tests_record self.new) }
@@ -116,6 +122,7 @@ pub trait RowSet {
         ensures expected { IsSetAt row slot None (expected self.old) (expected self.new) }
         ensures configured { IsSetAt row slot None (configured self.old) (configured self.new) }
         ensures out { (s : ℕ) → out self.new s ≡ (if s == slot then out self.old s + length result.0.chain else out self.old s) }
+        ensures refused { refused self.new ≡ option_map (λ n. n + result.1.refused) (refused self.old) }
         ensures count { count self.new ≡ count self.old }
         ensures definitions { definitions self.new ≡ definitions self.old }
         ensures tests_record { TestsRecordsAs (tests_record self.old) (tests_record self.new) }
@@ -130,6 +137,7 @@ pub trait RowSet {
         ensures expected { IsSame (expected self.old) (expected self.new) }
         ensures configured { IsSame (configured self.old) (configured self.new) }
         ensures out { (s : ℕ) → out self.new s ≡ (if s == slot then out self.old s - length batch.chain else out self.old s) }
+        ensures refused { refused self.new ≡ refused self.old }
         ensures count { count self.new ≡ count self.old }
         ensures definitions { definitions self.new ≡ definitions self.old }
         ensures tests_record { TestsRecordsAs (tests_record self.old) (tests_record self.new) }

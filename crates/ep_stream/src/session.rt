@@ -13,7 +13,7 @@ ghost use Rattle.pt_io.specs.Faults.{HasRisen};
 ghost use Rattle.pt_io.specs.Taken.{TookAll, TookPart as TookPartOf};
 ghost use Rattle.nt_write.specs.declared.fault.Fault.TheVariants.{TooLong, WriteFault, OutOfMemory};
 ghost use Rattle.nt_write.specs.Writer.{point_of};
-ghost use Rattle.ep_stream.specs.Rows.{IsRow, KeepsSet, KeepsSlots};
+ghost use Rattle.ep_stream.specs.Rows.{IsRow, CountsRefused, KeepsSet, KeepsSlots};
 ghost use Rattle.ep_stream.specs.Steps.{TellsStep, CanOpen, CanClose, Opens, Steals, Closes, GivesBack, Stays};
 ghost use Rattle.ep_stream.specs.Telling.{IsTelling, IsFaulty, entries_of};
 ghost use Rattle.ep_stream.specs.Named.{still_open, numbers_of};
@@ -157,6 +157,7 @@ impl<S: Sink> Session<S> {
         ensures none_count { OnErr result (opened_count self.new ≡ opened_count self.old) }
         ensures writer { writer_of self.new ≡ writer_of self.old }
         ensures rows { AreRowsOf R.expected R.configured R.out rows.new self.new }
+        ensures refused { R.refused rows.new ≡ R.refused rows.old }
         ensures set { KeepsSet R.count R.definitions R.tests_record R.tests_hand R.tests_marks rows.old rows.new }
         ensures slots { KeepsSlots R.expected R.configured R.out (rest_of self.old).seat.slot rows.old rows.new }
     {
@@ -196,6 +197,7 @@ impl<S: Sink> Session<S> {
         ensures faulty { IsFaulty S.write_faults (writer_of self.old) (writer_of self.new) result }
         ensures count { opened_count self.new ≡ opened_count self.old }
         ensures rows { AreRowsOf R.expected R.configured R.out rows.new self.new }
+        ensures refused { R.refused rows.new ≡ R.refused rows.old }
         ensures set { KeepsSet R.count R.definitions R.tests_record R.tests_hand R.tests_marks rows.old rows.new }
         ensures slots { KeepsSlots R.expected R.configured R.out (rest_of self.old).seat.slot rows.old rows.new }
     {
@@ -228,6 +230,7 @@ impl<S: Sink> Session<S> {
         ensures none { (rest_of self.old).in_hand ≡ 0 → rows.new ≡ rows.old }
         ensures told { 0 < (rest_of self.old).in_hand → TellsStep (GivesBack (rest_of self.old).seat.slot (rest_of self.old).in_hand) (R.rows rows.old) (R.rows rows.new) }
         ensures rows { AreRowsOf R.expected R.configured R.out rows.new self.new }
+        ensures refused { R.refused rows.new ≡ R.refused rows.old }
         ensures set { KeepsSet R.count R.definitions R.tests_record R.tests_hand R.tests_marks rows.old rows.new }
         ensures slots { KeepsSlots R.expected R.configured R.out (rest_of self.old).seat.slot rows.old rows.new }
     {
@@ -288,6 +291,7 @@ impl<S: Sink> Session<S> {
         ensures faulty { IsFaulty S.write_faults (writer_of self.old) (writer_of self.new) result }
         ensures count { opened_count self.new ≡ opened_count self.old }
         ensures rows { AreRowsOf R.expected R.configured R.out rows.new self.new }
+        ensures refused { R.refused rows.new ≡ R.refused rows.old }
         ensures set { KeepsSet R.count R.definitions R.tests_record R.tests_hand R.tests_marks rows.old rows.new }
         ensures slots { KeepsSlots R.expected R.configured R.out (rest_of self.old).seat.slot rows.old rows.new }
     {
@@ -323,6 +327,7 @@ impl<S: Sink> Session<S> {
         ensures faulty { MayFail S.write_faults (writer_of self.old) (writer_of self.new) result }
         ensures count { opened_count self.new ≡ opened_count self.old }
         ensures rows { AreRowsOf R.expected R.configured R.out rows.new self.new }
+        ensures refused { R.refused rows.new ≡ R.refused rows.old }
         ensures set { KeepsSet R.count R.definitions R.tests_record R.tests_hand R.tests_marks rows.old rows.new }
         ensures slots { KeepsSlots R.expected R.configured R.out (rest_of self.old).seat.slot rows.old rows.new }
     {
@@ -379,6 +384,7 @@ impl<S: Sink> Session<S> {
         ensures faulty { IsFaulty S.write_faults (writer_of self.old) (writer_of self.new) result }
         ensures count { opened_count self.new ≡ opened_count self.old }
         ensures rows { AreRowsOf R.expected R.configured R.out rows.new self.new }
+        ensures refused { CountsRefused (R.refused rows.old) (rest_of self.old).marks → CountsRefused (R.refused rows.new) (rest_of self.new).marks }
         ensures set { KeepsSet R.count R.definitions R.tests_record R.tests_hand R.tests_marks rows.old rows.new }
         ensures slots { KeepsSlots R.expected R.configured R.out (rest_of self.old).seat.slot rows.old rows.new }
     {

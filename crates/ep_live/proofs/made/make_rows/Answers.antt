@@ -35,9 +35,9 @@ loop-stand-preserved g c =
     let row : Box TiedRowState = c.in_ok-new.field-0 in
     let len : length rows ≡ n = sym c.loop-stand.rows.ok.0 ∙ inv.count in
     let grown : c.push.new.self.items ≡ rows ++ row ∷ [] = c.in_ok-push.ensures.items in
-    let is : row.value ≡ record { number = n; row = new_row (n + 1) c.args.events } = c.in_ok-new.ensures.ok ∙ c.in_ok-row.ensures.row in
+    let is : row.value ≡ record { number = n; life = 0; row = new_row (n + 1) c.args.events } = c.in_ok-new.ensures.ok ∙ c.in_ok-row.ensures.row in
     let row_is : IsRow (length rows) row.value =
-    subst (λ (r : TiedRowState). IsRow (length rows) r) (sym is) (record { number_is = sym len; quiet = refl; thread = ap (λ (k : ℕ). k + 1) (sym len) })
+    subst (λ (r : TiedRowState). IsRow (length rows) r) (sym is) (record { number_is = sym len; quiet = refl })
     in
     record {
       number = omega (arith, inv.number, length-append c.loop-stand.yielded (c.in-Some.stand ∷ []));

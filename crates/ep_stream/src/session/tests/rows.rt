@@ -114,6 +114,8 @@ impl RowSet for ListedRows {
 
     ghost tests_marks = { λ _ _ _. Unit {0} };
 
+    ghost refused = { λ _. None };
+
     fn threads(&self) -> u32 {
         ROWS
     }

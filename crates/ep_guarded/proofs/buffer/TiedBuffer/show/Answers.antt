@@ -21,6 +21,6 @@ returns-clause-shown g c =
           c.set.ensures.value.0
           ∙ ap (λ (a : Agreed). Some a) (c.next_told-next.ensures ∙ ap (λ (k : Option Kept). told_as (option_map (λ k. raised k.told) k)) shown.was ∙ ap (λ (t : Told). agreed.Told (raised t)) same);
       row_is =
-          subst (λ (t : Told). ShowsRow c.args.slot t.opening c.args.row.now c.show_in.new.row) (shown.shown.told ∙ ap raised same)
-          shown.shown.row_is;
+          subst (λ (t : Told). ShowsRow c.args.slot t.opening c.args.row.now c.show_in.new.row) (shown.is.told ∙ ap raised same)
+          shown.is.row_is;
     }

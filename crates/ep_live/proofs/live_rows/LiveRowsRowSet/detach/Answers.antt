@@ -29,7 +29,7 @@ close-requires-clause-seat g c grant is =
 
 pub close-requires-clause-few_given : goal.close-requires-clause-few_given
 close-requires-clause-few_given g c =
-    let few = few-given _ _ _ c.self.inside.halves.items c.self.inside.seat c.self.inside.openings c.self.invariant in
+    let few = few-given _ _ _ c.self.inside.halves.items c.self.inside.seat c.self.inside.openings _ c.self.invariant in
     omega (arith, few, c.self.invariant.given)
 
 pub invariant_of-self : goal.invariant_of-self
@@ -44,11 +44,11 @@ invariant_of-self g c =
     let was = counts half c.args.hand hand_is in
     let none : hand_in c.close.new.half.value ≡ None = ap hand_in c.close.ensures.half in
     let now = counts-none c.close.new.half none in
-    let seat = c.close.ensures.seat in
+    let seat = c.close.ensures.closes.seat_is in
     let share = ap (λ s. s.share) seat in
     let taken = ap (λ s. s.taken) seat in
-    let few : c.args.hand.stolen + length c.close.result.0.chain ≤ 4000000000 = c.close.ensures.few in
-    rows-changed _ _ _ halves c.self.inside.seat c.close.new.seat c.self.inside.openings c.self.inside.openings (c.args.row - 1) half c.close.new.half c.self.invariant at
+    let few : c.args.hand.stolen + length c.close.result.0.chain ≤ 4000000000 = c.close.ensures.closes.few in
+    rows-changed _ _ _ halves c.self.inside.seat c.close.new.seat c.self.inside.openings c.self.inside.openings (c.args.row - 1) _ half c.close.new.half c.self.invariant at
     c.close.ensures.place
     (λ grant is. absurd (no_grant grant (sym (ap grant_in c.close.ensures.half) ∙ is)))
     (omega (arith, now)) (ap (λ s. s.pool) seat) (ap (λ s. s.total) seat) (ap (λ s. s.seats) seat)
@@ -67,7 +67,7 @@ returns-clause-batch g c =
     let own = said-there hand_in halves c.self.inside.slot c.args.row c.args.slot _ expected in
     let hand_is = ap (λ h. hand_in h.value) (sym (half-is halves c.args.row half c.requires.row.0 at)) ∙ sym (said-own hand_in halves c.self.inside.slot c.args.row c.args.slot own) ∙ expected in
     let held = held-grant half.value c.args.hand hand_is in
-    is-batch _ held.0.config _ c.args.hand _ _ c.close.ensures.taken (c.close.ensures.numbered held.0 held.1)
+    is-batch _ held.0.config _ c.args.hand _ _ c.close.ensures.closes.taken (c.close.ensures.closes.numbered held.0 held.1)
 
 pub returns-clause-tested_marks : goal.returns-clause-tested_marks
 returns-clause-tested_marks g c config is =
@@ -83,7 +83,7 @@ returns-clause-tested_marks g c config is =
     let configured = ap (λ (v : LiveRowsState). configured_in v c.args.row c.args.slot) c.self.view_is ∙ is in
     let config_is = ap (λ h. config_in h.value) (sym here) ∙ sym (said-own config_in halves c.self.inside.slot c.args.row c.args.slot own) ∙ configured in (
       subst (λ (x : Config). AreCounted g.P.Program.events g.P.Program.writes x c.close.result.1) (same held.0.config config (sym (ap (λ (o : Option Grant). option_map (λ g. g.config) o) held.1) ∙ config_is))
-          (c.close.ensures.counted held.0 held.1),
+          (c.close.ensures.closes.counted held.0 held.1),
       λ index here. c.close.ensures.to index (ap (λ (v : LiveRowsState). v.stands) c.self.view_is ∙ here),
     )
   where

@@ -29,7 +29,7 @@ invariant_of-self g c =
     let now = counts c.steal.new.half c.steal.new.hand c.steal.ensures.half in
     let after = ap (λ h. h.stolen) c.steal.ensures.hand in
     let few : c.steal.new.hand.stolen ≤ 4000000000 = c.steal.ensures.few in
-    rows-changed _ _ _ halves c.self.inside.seat c.self.inside.seat c.self.inside.openings c.self.inside.openings (c.args.row - 1) half c.steal.new.half c.self.invariant at
+    rows-changed _ _ _ halves c.self.inside.seat c.self.inside.seat c.self.inside.openings c.self.inside.openings (c.args.row - 1) _ half c.steal.new.half c.self.invariant at
     c.steal.ensures.place
     (λ grant is. (c.self.invariant.halves_are (c.args.row - 1) half at).granted grant (sym c.steal.ensures.grant ∙ is))
     (omega (arith, now, few)) refl refl refl

@@ -14,6 +14,7 @@ use Rattle.ep_stream.specs.Rows.{IsBatch}
 use Rattle.ep_stream.specs.Session.{Rest}
 use Rattle.ep_stream.proofs.Taking.{batch_writable, hand_gone}
 use Rattle.std.specs.Prelude.{slice_set, ◌-◌}
+use Rattle.ep_stream.proofs.Refused.{counts-more}
 use Rattle.ep_stream.proofs.session.Session.detach.Goals as goal
 
 pub write_chain-written-requires-clause-records : goal.write_chain-written-requires-clause-records
@@ -67,3 +68,8 @@ returns-clause-detached g c =
       hands = λ r. ap (λ (xs : List (Option HandState)). hand_at xs r) hands_are ∙ hand_gone (hands_in old.opened) c.args.row hand r was;
       rest = ap (λ (ns : List Named). make ns (marks_in c.number.new.self)) named_is ∙ ap (λ (ms : List Marks). make (with_number hand.thread last false (named_in old.opened)) ms) marks_are;
     }
+
+pub returns-clause-refused : goal.returns-clause-refused
+returns-clause-refused g c =
+    let marks : Marks = c.detach-batch.result.1 in
+    counts-more _ _ marks _ _ c.detach-batch.ensures.refused (c.number.ensures.marks ∙ c.mark.ensures.marks ∙ ap (λ (ms : List Marks). with_marks marks ms) c.lift-hand.ensures.marks)

@@ -36,6 +36,7 @@ loop-place-init g c =
       small = omega arith;
       opened = refl;
       rows = c.requires.rows;
+      refused = refl;
       set = set_stays g.R.RowSet.count g.R.RowSet.definitions g.R.RowSet.tests_record g.R.RowSet.tests_hand g.R.RowSet.tests_marks rows;
       slots = slots_stay g.R.RowSet.expected g.R.RowSet.configured g.R.RowSet.out (rest_of c.args.self.now).seat.slot rows;
     }
@@ -86,6 +87,7 @@ loop-place-preserved g c =
       small = (let a = inv.small in omega (arith, a));
       opened = c.in_ok-taken.ensures.count ∙ inv.opened;
       rows = c.in_ok-taken.ensures.rows;
+      refused = c.in_ok-taken.ensures.refused ∙ inv.refused;
       set = set_more g.R.RowSet.count g.R.RowSet.definitions g.R.RowSet.tests_record g.R.RowSet.tests_hand g.R.RowSet.tests_marks rows now after inv.set c.in_ok-taken.ensures.set;
       slots = slots_more g.R.RowSet.expected g.R.RowSet.configured g.R.RowSet.out (rest_of old).seat.slot (rest_of mid).seat.slot rows now after slot_is inv.slots c.in_ok-taken.ensures.slots;
     }

@@ -25,6 +25,7 @@ invariant-loop-place g l =
       small : l.count ≤ l.place * (2 ^ 32 - 1);
       opened : opened_count l.self ≡ opened_count l.fn.self;
       rows : AreRowsOf g.R.RowSet.expected g.R.RowSet.configured g.R.RowSet.out l.rows l.self;
+      refused : g.R.RowSet.refused l.rows ≡ g.R.RowSet.refused l.fn.rows;
       set : KeepsSet g.R.RowSet.count g.R.RowSet.definitions g.R.RowSet.tests_record g.R.RowSet.tests_hand g.R.RowSet.tests_marks l.fn.rows l.rows;
       slots : KeepsSlots g.R.RowSet.expected g.R.RowSet.configured g.R.RowSet.out (rest_of l.fn.self).seat.slot l.fn.rows l.rows;
     }

@@ -1,4 +1,4 @@
-use Rattle.std.proofs.Common.{◌∙◌, ◌*◌, ◌+◌, ◌<◌, List, Option, refl, ap, sym, subst, arith, length}
+use Rattle.std.proofs.Common.{◌≡◌, ◌∙◌, ◌*◌, ◌+◌, ◌<◌, ℕ, List, Option, Some, refl, ap, sym, subst, arith, length}
 use Rattle.std.specs.Prelude.{IsNone, option_map, slice_set}
 use Rattle.std.proofs.Math.ListN.{length-set}
 use Rattle.std.proofs.lemmas.Option.{slice_get_read}
@@ -6,14 +6,15 @@ use Rattle.ep_row.specs.declared.row.Opening.{Opening}
 use Rattle.ep_tie.specs.Tied.{Tied}
 use Rattle.ep_guarded.specs.declared.agreed.Told.{Told}
 use Rattle.ep_guarded.specs.declared.agreed.Agreed.{Agreed}
-use Rattle.ep_guarded.specs.Tied.{TiedRowState, BufferState}
+use Rattle.ep_slot.specs.Hand.{HandState}
+use Rattle.ep_guarded.specs.Tied.{TiedRowState, BufferState, hand_in, grant_in}
 use Rattle.ep_defs.specs.declared.event.EventDef.{EventDef}
 use Rattle.ep_guarded.specs.declared.grant.Grant.{Grant}
 use Rattle.ep_guarded.specs.Resting.{RowRests}
 use Rattle.ep_guarded.specs.Calls.{OpensRow}
 use Rattle.ep_guarded.proofs.Resting.{get-set-same}
 use Rattle.ep_guarded.proofs.Openings.{set-twice, row-opened}
-use Rattle.ep_guarded.proofs.row.TiedRow.open.Goals as goal
+use Rattle.ep_guarded.proofs.row.TiedRow.open_here.Goals as goal
 
 pub open-requires-clause-off : goal.open-requires-clause-off
 open-requires-clause-off g c =
@@ -44,9 +45,22 @@ invariant_of-self-2 g c =
     let at2 = slice_get_read met _ c.args.slot c.index_mut-2.result.now refl (omega (arith, small, length-set buffers c.args.slot c.meet.new.half)) c.index_mut-2.ensures.value in
     let same = get-set-same buffers c.args.slot c.index_mut-2.result.now c.meet.new.half at2 in
     let opened = c.in_ok-kept.ensures.opened in
-    subst (λ (bs : List (Tied Agreed)). RowRests g.P.Program.rows g.P.Program.events g.P.Program.writes c.open.new.row bs c.self.inside.writer) (sym (set-twice buffers c.args.slot c.meet.new.half c.put.new.half))
-    (row-opened _ _ _ c.self.inside.row c.open.new.row buffers _ c.index_mut.result.now c.put.new.half c.args.slot c.in_ok-kept.kept.told c.self.invariant at
+    subst (λ (bs : List (Tied Agreed)). RowRests g.P.Program.rows g.P.Program.events g.P.Program.writes c.self.inside.life c.open.new.row bs c.self.inside.writer) (sym (set-twice buffers c.args.slot c.meet.new.half c.put.new.half))
+    (row-opened _ _ _ _ c.self.inside.row c.open.new.row buffers _ c.index_mut.result.now c.put.new.half c.args.slot c.in_ok-kept.kept.told c.self.invariant at
     (c.put.ensures.places.1 ∙ ap (λ (t : Tied Agreed). t.place) (same ∙ c.meet.ensures.same.1))
     c.put.ensures.told opened.thread
     (subst (λ (g' : Grant). OpensRow g.P.Program.events c.args.slot g'.config c.in_ok-kept.kept.told.opening c.self.inside.row c.open.new.row) (sym opened.grant_is)
     (subst (λ (es : List EventDef). OpensRow es c.args.slot c.args.grant.now.config c.in_ok-kept.kept.told.opening c.self.inside.row c.open.new.row) c.requires.events opened.row_is)))
+
+pub returns-clause-opens : goal.returns-clause-opens
+returns-clause-opens g c =
+    let opened = c.in_ok-kept.ensures.opened in
+    record {
+      hand_is =
+          opened.fresh
+          ∙ ap (λ (r : TiedRowState). record { session = c.args.session; thread = r.row.thread; from = c.self.inside.row.index; taken = 0; last = 0; stolen = 0 }) c.self.view_is
+          ∙ ap (λ (f : ℕ). record { session = c.args.session; thread = c.args.self.now.row.thread; from = f; taken = 0; last = 0; stolen = 0 }) (sym (ap (λ (h : HandState). h.from) opened.fresh));
+      half_is = ap hand_in c.put.ensures.held ∙ ap (λ (h : HandState). Some h) (sym opened.agree);
+      grant_is = ap grant_in c.put.ensures.held ∙ ap (λ (x : Grant). Some x) opened.grant_is;
+      seat_is = c.in_ok-kept.ensures.seat;
+    }
