@@ -15,6 +15,8 @@ use std::thread;
 use std::thread::Threads;
 use std::time::Clock as Timer;
 
+mod rested;
+
 /// How often a gate looks before it gives up.
 const LOOKS: u32 = 10_000_000;
 
