@@ -1,8 +1,9 @@
 -- What a run answers, by what its session was at its end.
-use Rattle.std.proofs.Common.{◌≡◌, ◌≢◌, ◌∙◌, ℕ, ◌++◌, ◌⊎◌, inl, inr, true, false, List, [], ◌∷◌, None, Some, refl, sym, ap, subst, arith}
-use Rattle.std.specs.Prelude.{Bool, IsTrue, Ok, Err}
-use Rattle.std.specs.List.{AllByRecursion}
+use Rattle.std.proofs.Common.{◌≡◌, ◌≢◌, ◌∙◌, ℕ, ◌≤◌, ◌++◌, ◌⊎◌, inl, inr, true, false, List, [], ◌∷◌, None, Some, length, refl, sym, ap, subst, arith}
+use Rattle.std.specs.Prelude.{Bool, IsTrue, Result, Ok, Err, IfOk, OnErr}
+use Rattle.std.specs.List.{range_with_len}
 use Rattle.std.proofs.lemmas.List.{append-nil}
+use Rattle.ep_defs.specs.declared.limits.TheConstants.{WRITES}
 use Rattle.ep_defs.specs.declared.event.EventDef.{EventDef}
 use Rattle.ep_defs.specs.declared.session.Config.{Config}
 use Rattle.ep_defs.specs.declared.session.Marks.{Marks}
@@ -10,60 +11,37 @@ use Rattle.ep_defs.specs.declared.session.TraceInfo.{TraceInfo}
 use Rattle.ep_defs.specs.declared.session.Write.{Write}
 use Rattle.nt_write.specs.declared.fault.Fault.{Fault}
 use Rattle.nt_write.specs.declared.fault.Fault.TheVariants.{WriteFault, TooLong, OutOfMemory}
+use Rattle.pt_io.specs.declared.sink.Sink.{Ghosts as Sink}
 use Rattle.pt_io.specs.Faults.{HasRisen}
 use Rattle.ep_stream.specs.Session.{TookStart, fault_of, sink_of}
 use Rattle.ep_stream.specs.declared.session.Session.{Session}
 use Rattle.ep_stream.specs.declared.session.Fate.{Fate}
 use Rattle.ep_stream.specs.declared.session.Fate.TheVariants as fate
-use Rattle.ep_live_laws.specs.Traced.{AreMarks}
-use Rattle.ep_live_laws.specs.Tracing.{is_fault, TookTraced, TookTracedPart}
+use Rattle.ep_live_laws.specs.Streams.{PartsAreFound, TracesAreFound}
+use Rattle.ep_live_laws.specs.Tracing.{is_fault, IsTracing, TookTraced, TookTracedPart}
 use Rattle.pt_load.specs.Sample.{sample}
 use Rattle.pt_load.specs.declared.plan.Plan.{Plan}
 use Rattle.pt_live.specs.declared.trace.TraceEnd.{TraceEnd}
-use Rattle.pt_live.specs.Trace.{AreWhole, IsWhole, TookAny, TookPart, TookSome, TookTrace, rows_of, writes_of}
-use Rattle.pt_live.specs.state.Ended.{EndsTraced, EndsWell}
-use Rattle.pt_live.specs.state.Kit.{Answers}
-use Rattle.pt_live.specs.state.Open.{SaysFaults}
+use Rattle.pt_live.specs.Trace.{AreUnwritten, AreWhole, TookPart, TookSome, TookTrace, TookUnwritten, Traced, Traces, rows_of, writes_of}
+use Rattle.pt_live.specs.state.Ended.{HasEnded}
+use Rattle.pt_live.specs.state.Open.{HasTold, SaysFaults, watch_of}
+use Rattle.pt_live.specs.state.Run.{IsLentTo, RunState}
+use Rattle.pt_live.proofs.Load.{count-writes}
+use Rattle.pt_live.proofs.Long.{is-long}
 
-module _ {O L : Type 0} (out : L → O) (tells : O → Bool) (taken : O → List ℕ) (old : O) (before : List ℕ) (begins : IsTrue (tells old) → before ≡ taken old ++ []) where
-  -- What was lent took the stream, and so did the output.
-  pub took-whole : (info : TraceInfo) (plan : Plan) (config : Config) (marks : List Marks) (lent : L)
-      → TookTraced (λ l. tells (out l)) (λ l. taken (out l)) before info sample config (writes_of plan) marks lent → TookTrace tells taken info plan config marks old (out lent)
-  took-whole info plan config marks lent t told =
-      subst
-      (λ (bytes : List ℕ). TookTraced tells taken bytes info sample config (writes_of plan) marks (out lent))
-      (begins told ∙ append-nil (taken old))
-      (record { entries = t.entries; stream = t.stream; traced = t.traced })
-
-  pub took-part : (info : TraceInfo) (plan : Plan) (config : Config) (marks : List Marks) (lent : L)
-      → TookTracedPart (λ l. tells (out l)) (λ l. taken (out l)) before info sample config (writes_of plan) marks lent → TookPart tells taken info plan config marks old (out lent)
-  took-part info plan config marks lent t told =
-      subst
-      (λ (bytes : List ℕ). TookTracedPart tells taken bytes info sample config (writes_of plan) marks (out lent))
-      (begins told ∙ append-nil (taken old))
-      (record { entries = t.entries; stream = t.stream; part = t.part })
-
-  -- Of a session that has ended, whatever its fate.
-  pub took-any : (info : TraceInfo) (plan : Plan) (config : Config) (opened : ℕ) (marks : List Marks) (end : Fate) (lent : L)
-      → EndsTraced (λ l. tells (out l)) (λ l. taken (out l)) before info sample config (writes_of plan) opened marks end lent → TookAny tells taken info plan config old (out lent)
-  took-any info plan config opened marks end lent e = (marks, by (is_fault end) refl)
-    where
-      by : (b : Bool) → is_fault end ≡ b → TookSome tells taken info plan config marks old (out lent) ⊎ TookTrace tells taken info plan config marks old (out lent)
-      by true is = inl (inr (took-part info plan config marks lent (e.part is)))
-      by false is = inr (took-whole info plan config marks lent (e.whole is))
-
--- The marks of a session that was open on all threads of a run.
-pub are-whole : (plan : Plan) (config : Config) (marks : List Marks) → AreMarks sample config (writes_of plan) plan.threads marks → AllByRecursion (IsWhole plan.writes) marks → AreWhole plan marks
-are-whole plan config marks m whole = record { threads = m.threads; whole = whole }
+-- The stream of entries that trace the threads is found, and so is a part of it.
+pub record Laws (plan : Plan) (config : Config) : Type 0 where
+  pub traces : TracesAreFound sample config (writes_of plan)
+  pub parts : PartsAreFound sample config (writes_of plan)
 
 -- ---- a session that was begun
 
 -- The program is the sample program.
-pub of-sample : {S : Type 0} (tells : S → Bool) (taken : S → List ℕ) (before : List ℕ) (info : TraceInfo) (events : List EventDef) (config : Config) (writes : ℕ → List Write) (plan : Plan) (opened : ℕ) (marks : List Marks) (end : Fate) (sink : S)
-    → events ≡ sample → writes ≡ writes_of plan → EndsTraced tells taken before info events config writes opened marks end sink → EndsTraced tells taken before info sample config (writes_of plan) opened marks end sink
-of-sample tells taken before info events config writes plan opened marks end sink events_are writes_are e =
-    subst (λ (w : ℕ → List Write). EndsTraced tells taken before info sample config w opened marks end sink) writes_are
-    (subst (λ (es : List EventDef). EndsTraced tells taken before info es config writes opened marks end sink) events_are e)
+pub of-sample : {S : Type 0} (side : Sink S) (run : RunState) (events : List EventDef) (writes : ℕ → List Write) (opened to : ℕ) (marks : List Marks) (end : Fate) (sink : S)
+    → events ≡ sample → writes ≡ writes_of run.plan → HasEnded side run events writes opened to marks end sink → HasEnded side run sample (writes_of run.plan) opened to marks end sink
+of-sample side run events writes opened to marks end sink events_are writes_are e =
+    subst (λ (w : ℕ → List Write). HasEnded side run sample w opened to marks end sink) writes_are
+    (subst (λ (es : List EventDef). HasEnded side run es writes opened to marks end sink) events_are e)
 
 pub sound-says : {S : Type 0} (faults : S → ℕ) (was : ℕ) (session : Session S) → fault_of session ≡ None → faults (sink_of session) ≡ was → SaysFaults faults was session
 sound-says faults was session sound wrote = record { fault = λ is. absurd (no-fault (sym sound ∙ is)); later = omega (arith, wrote) }
@@ -71,86 +49,175 @@ sound-says faults was session sound wrote = record { fault = λ is. absurd (no-f
     no-fault : None ≡ Some WriteFault → ⊥
     no-fault e = cc
 
-module _ {O L E : Type 0} (out : L → O) (tells : O → Bool) (taken : O → List ℕ) (faults : O → ℕ) (info : TraceInfo) (plan : Plan) (config : Config) (old : O) (before : List ℕ) (begins : IsTrue (tells old) → before ≡ taken old ++ []) where
-  -- It was open on all threads.
-  pub answers-end : (end : TraceEnd) (opened : ℕ) (lent : L) → end.rows.items ≡ rows_of plan → opened ≡ plan.threads
-      → EndsTraced (λ l. tells (out l)) (λ l. taken (out l)) before info sample config (writes_of plan) opened end.marks end.fate lent
-      → AllByRecursion (IsWhole plan.writes) end.marks → EndsWell (λ l. faults (out l)) (faults old) end.fate lent → Answers {O = O} {E = E} tells taken faults info plan config old (out lent) (Ok end)
-  answers-end end opened lent rows all e whole well =
-      record {
-        rows = rows;
-        marks = inl (are-whole plan config end.marks (subst (λ (n : ℕ). AreMarks sample config (writes_of plan) n end.marks) all e.marks_are) whole);
-        whole = λ is. took-whole out tells taken old before begins info plan config end.marks lent (e.whole (ap is_fault is));
-        part = λ is. inr (took-part out tells taken old before begins info plan config end.marks lent (e.part is));
-        not_asked = well.not_asked;
-        link_fault = well.link_fault;
-        too_long = e.too_long;
-        memory = record {};
-      }
-
--- ---- a run without memory
-
-pub answers-memory : {O E : Type 0} (tells : O → Bool) (taken : O → List ℕ) (faults : O → ℕ) (info : TraceInfo) (plan : Plan) (config : Config) (old new : O) (error : E)
-    → TookAny tells taken info plan config old new → Answers {O = O} {E = E} tells taken faults info plan config old new (Err error)
-answers-memory tells taken faults info plan config old new error any =
+-- It has told nothing yet.
+pub told-begun : {S : Type 0} (side : Sink S) (run : RunState) (events : List EventDef) (writes : ℕ → List Write) (session : Session S) (before : List ℕ) (info : TraceInfo) (config : Config)
+    → info ≡ run.info → config ≡ run.config → (IsTrue run.tells → before ≡ run.before)
+    → IsTracing side.tells_taken side.taken (record (watch_of run events writes before) { info = info; config = config }) [] [] session
+    → SaysFaults side.write_faults run.faults session → HasTold side run events writes 0 session
+told-begun side run events writes session before info config info_is config_is begins tracing says =
     record {
-      rows = record {};
-      marks = record {};
-      whole = record {};
-      part = record {};
-      not_asked = λ conn. record {};
-      link_fault = record {};
-      too_long = record {};
-      memory = any;
+      before = before;
+      begins = begins;
+      told = [];
+      tracing = subst (λ (i : TraceInfo). IsTracing side.tells_taken side.taken (record (watch_of run events writes before) { info = i }) [] [] session) info_is
+          (subst (λ (c : Config). IsTracing side.tells_taken side.taken (record (watch_of run events writes before) { info = info; config = c }) [] [] session) config_is tracing);
+      says = says;
     }
 
+module _ {O L : Type 0} (side : Sink L) (output : Sink O) (out : L → O) (run : RunState) (old : O) (loan : ℕ) (lent : IsLentTo output run loan old)
+    (tells_is : (l : L) → side.tells_taken l ≡ run.tells) (taken_is : (l : L) → side.taken l ≡ output.taken (out l)) (faults_are : (l : L) → side.write_faults l ≡ output.write_faults (out l)) where
+  -- What was lent tells what it takes, where the output does.
+  tells-so : (l : L) → IsTrue (output.tells_taken old) → IsTrue (side.tells_taken l)
+  tells-so l told = subst IsTrue (lent.tells_is ∙ sym (tells_is l)) told
+
+  -- What the output had is what the stream stands behind.
+  stands-behind : (before part : List ℕ) (l : L) → (IsTrue run.tells → before ≡ run.before) → IsTrue (output.tells_taken old) → side.taken l ≡ before ++ part → output.taken (out l) ≡ output.taken old ++ part
+  stands-behind before part l begins told took =
+      sym (taken_is l) ∙ took ∙ ap (λ (bytes : List ℕ). bytes ++ part) (begins (subst IsTrue lent.tells_is told) ∙ sym lent.before_is)
+
+  pub took-whole : (laws : Laws run.plan run.config) (before : List ℕ) (marks : List Marks) (l : L) → (IsTrue run.tells → before ≡ run.before)
+      → TookTraced side.tells_taken side.taken before run.info sample run.config (writes_of run.plan) marks l
+      → IsTrue (output.tells_taken old) → TookTrace run.info run.plan run.config marks (output.taken old) (output.taken (out l))
+  took-whole laws before marks l begins t told =
+      let stream = t.stream (tells-so l told) in
+      record {
+        stream = stream.0;
+        trace = laws.traces run.info marks t.entries stream.0 stream.1 t.traced;
+        took = stands-behind before stream.0 l begins told stream.2;
+      }
+
+  pub took-part : (laws : Laws run.plan run.config) (before : List ℕ) (marks : List Marks) (l : L) → (IsTrue run.tells → before ≡ run.before)
+      → TookTracedPart side.tells_taken side.taken before run.info sample run.config (writes_of run.plan) marks l
+      → IsTrue (output.tells_taken old) → TookPart run.info run.plan run.config marks (output.taken old) (output.taken (out l))
+  took-part laws before marks l begins t told =
+      let stream = t.stream (tells-so l told) in
+      record {
+        part = stream.1;
+        trace = laws.parts run.info marks t.entries stream.1 stream.0 stream.2 stream.3 t.part;
+        took = stands-behind before stream.1 l begins told stream.4;
+      }
+
+  module _ (laws : Laws run.plan run.config) where
+    -- It was open on all threads.
+    pub traces-end : (end : TraceEnd) (opened : ℕ) (l : L) → run.plan.writes ≤ WRITES → end.rows.items ≡ rows_of run.plan → opened ≡ run.plan.threads
+        → HasEnded side run sample (writes_of run.plan) opened run.plan.writes end.marks end.fate l → Traced output run.info run.plan run.config old (out l) end
+    traces-end end opened l most rows all e =
+        record {
+          rows = rows;
+          marks = inl whole;
+          whole = λ is. took-whole laws e.before end.marks l e.begins (e.outcome.whole (ap is_fault is) few);
+          part = λ is told. inr (took-part laws e.before end.marks l e.begins e.outcome.part told);
+          not_asked = e.well.not_asked;
+          link_fault = λ is.
+              subst (λ (n : ℕ). HasRisen n (output.write_faults (out l))) (sym lent.faults_are)
+              (subst (HasRisen run.faults) (faults_are l) (e.well.link_fault is));
+          too_long = λ is. is-long run.plan run.config end.marks whole (e.outcome.too_long not-long is);
+        }
+      where
+        few : (thread : ℕ) → length (writes_of run.plan thread) ≤ WRITES
+        few thread = let long = count-writes run.plan thread in omega (arith, long, most)
+
+        not-long : fate.ProgramEnd ≢ fate.TooLong
+        not-long is = cc
+
+        whole : AreWhole run.plan run.config end.marks
+        whole =
+            record {
+              threads = e.outcome.marks_are.threads ∙ ap (λ (n : ℕ). range_with_len 1 n) all;
+              whole = e.whole;
+              counted = e.outcome.marks_are.counted;
+            }
+
+    -- It was closed before a thread made a write.
+    pub unwritten-end : (opened : ℕ) (marks : List Marks) (end : Fate) (l : L) → run.plan.writes ≤ WRITES → opened ≤ run.plan.threads → HasEnded side run sample (writes_of run.plan) opened 0 marks end l
+        → IsTrue (output.tells_taken old) → TookUnwritten run.info run.plan run.config (output.taken old) (output.taken (out l))
+    unwritten-end opened marks end l most few e told =
+        record {
+          marks = marks;
+          unwritten = record { count = opened; few = few; threads = e.outcome.marks_are.threads; whole = e.whole };
+          took = by (is_fault end) refl;
+        }
+      where
+        few_writes : (thread : ℕ) → length (writes_of run.plan thread) ≤ WRITES
+        few_writes thread = let long = count-writes run.plan thread in omega (arith, long, most)
+
+        by : (b : Bool) → is_fault end ≡ b
+            → TookSome run.info run.plan run.config marks (output.taken old) (output.taken (out l)) ⊎ TookTrace run.info run.plan run.config marks (output.taken old) (output.taken (out l))
+        by true is = inl (inr (took-part laws e.before marks l e.begins e.outcome.part told))
+        by false is = inr (took-whole laws e.before marks l e.begins (e.outcome.whole is few_writes) told)
+
 -- ---- a session that was not begun
+
+-- The session was open on no thread.
+no-marks : (plan : Plan) → AreUnwritten plan []
+no-marks plan = record { count = 0; few = omega arith; threads = refl; whole = record {} }
+
+-- The output took nothing.
+pub unwritten-none : (info : TraceInfo) (plan : Plan) (config : Config) (bytes : List ℕ) → TookUnwritten info plan config bytes bytes
+unwritten-none info plan config bytes = record { marks = []; unwritten = no-marks plan; took = inl (inl refl) }
 
 front-empty : (bytes rest : List ℕ) → bytes ++ rest ≡ [] → bytes ≡ []
 front-empty [] rest e = refl
 front-empty (b ∷ bytes) rest e = cc
 
--- The output took no stream, or a part of what begins one.
-pub start-some : {O : Type 0} (tells : O → Bool) (taken : O → List ℕ) (info : TraceInfo) (plan : Plan) (config : Config) (old new : O)
-    → TookStart tells taken [] info old new → TookSome tells taken info plan config [] old new
-start-some tells taken info plan config old new (inl part) = inl nothing
-  where
-    nothing : IsTrue (tells old) → taken new ≡ taken old
-    nothing told = let (bytes, (rest, first), took) = part told in took ∙ ap (λ (bs : List ℕ). taken old ++ bs) (front-empty bytes rest first) ∙ append-nil (taken old)
-start-some tells taken info plan config old new (inr (before, begins, part)) = inr all
-  where
-    all : TookPart tells taken info plan config [] old new
-    all told =
-        subst
-        (λ (bytes : List ℕ). TookTracedPart tells taken bytes info sample config (writes_of plan) [] new)
-        (begins told ∙ append-nil (taken old))
-        (record { entries = []; stream = part; part = record { rising = record {}; in_place = record {}; alone = record {} } })
+module _ {O : Type 0} (run : RunState) (laws : Laws run.plan run.config) (output : Sink O) (loan : ℕ) (old new : O) (lent : IsLentTo output run loan old) where
+  -- The output took no stream, or a part of what begins one.
+  pub start-some : TookStart (λ _. run.tells) output.taken [] run.info old new → IsTrue (output.tells_taken old) → TookSome run.info run.plan run.config [] (output.taken old) (output.taken new)
+  start-some (inl part) told =
+      let (bytes, (rest, begins), took) = part (subst IsTrue lent.tells_is told) in
+      inl (took ∙ ap (λ (bs : List ℕ). output.taken old ++ bs) (front-empty bytes rest begins) ∙ append-nil (output.taken old))
+  start-some (inr (before, begins, part)) told =
+      let tells_so = subst IsTrue lent.tells_is told in
+      let stream = part tells_so in
+      inr
+      (record {
+        part = stream.1;
+        trace = laws.parts run.info [] [] stream.1 stream.0 stream.2 stream.3 (record { rising = record {}; in_place = record {}; alone = record {} });
+        took = stream.4 ∙ ap (λ (bytes : List ℕ). bytes ++ stream.1) (begins tells_so ∙ append-nil (output.taken old));
+      })
 
-pub answers-none : {O E : Type 0} (tells : O → Bool) (taken : O → List ℕ) (faults : O → ℕ) (info : TraceInfo) (plan : Plan) (config : Config) (end : TraceEnd) (old new : O)
-    → end.rows.items ≡ rows_of plan → end.marks ≡ [] → end.fate ≡ fate.LinkFault → HasRisen (faults old) (faults new)
-    → TookStart tells taken [] info old new → Answers {O = O} {E = E} tells taken faults info plan config old new (Ok end)
-answers-none tells taken faults info plan config end old new rows none link risen start =
-    record {
-      rows = rows;
-      marks = inr (link, none);
-      whole = λ is. absurd (not-ended (sym link ∙ is));
-      part = λ is. subst (λ (ms : List Marks). TookSome tells taken info plan config ms old new) (sym none) (start-some tells taken info plan config old new start);
-      not_asked = λ conn is. not-asked conn (sym link ∙ is);
-      link_fault = λ is. risen;
-      too_long = λ is. absurd (not-long (sym link ∙ is));
-      memory = record {};
-    }
-  where
-    not-ended : fate.LinkFault ≡ fate.ProgramEnd → ⊥
-    not-ended e = cc
+  pub unwritten-start : TookStart (λ _. run.tells) output.taken [] run.info old new → IsTrue (output.tells_taken old) → TookUnwritten run.info run.plan run.config (output.taken old) (output.taken new)
+  unwritten-start start told = record { marks = []; unwritten = no-marks run.plan; took = inl (start-some start told) }
 
-    not-long : fate.LinkFault ≡ fate.TooLong → ⊥
-    not-long e = cc
+  pub traces-none : (end : TraceEnd) → end.rows.items ≡ rows_of run.plan → end.marks ≡ [] → end.fate ≡ fate.LinkFault → HasRisen (output.write_faults old) (output.write_faults new)
+      → TookStart (λ _. run.tells) output.taken [] run.info old new → Traced output run.info run.plan run.config old new end
+  traces-none end rows none link risen start =
+      record {
+        rows = rows;
+        marks = inr (link, none);
+        whole = λ is. absurd (not-ended (sym link ∙ is));
+        part = λ is told. subst (λ (ms : List Marks). TookSome run.info run.plan run.config ms (output.taken old) (output.taken new)) (sym none) (start-some start told);
+        not_asked = λ conn is. not-asked conn (sym link ∙ is);
+        link_fault = λ is. risen;
+        too_long = λ is. absurd (not-long (sym link ∙ is));
+      }
+    where
+      not-ended : fate.LinkFault ≡ fate.ProgramEnd → ⊥
+      not-ended e = cc
 
-    not-asked : (conn : ℕ) → fate.LinkFault ≡ fate.Requested conn → ⊥
-    not-asked conn e = cc
+      not-long : fate.LinkFault ≡ fate.TooLong → ⊥
+      not-long e = cc
 
+      not-asked : (conn : ℕ) → fate.LinkFault ≡ fate.Requested conn → ⊥
+      not-asked conn e = cc
+
+-- A session that could not be begun for another cause than memory had its write refused.
 pub other-fault : (fault : Fault) → fault ≢ TooLong → fault ≢ OutOfMemory → fault ≡ WriteFault
 other-fault WriteFault long memory = refl
 other-fault TooLong long memory = absurd (long refl)
 other-fault OutOfMemory long memory = absurd (memory refl)
+
+-- ---- answers
+
+-- A run that found no memory.
+pub traces-memory : {O E : Type 0} (output : Sink O) (info : TraceInfo) (plan : Plan) (config : Config) (old new : O) (error : E)
+    → (IsTrue (output.tells_taken old) → TookUnwritten info plan config (output.taken old) (output.taken new)) → Traces output info plan config old new (Err error)
+traces-memory output info plan config old new error unwritten = record { ended = tt; memory = unwritten }
+
+-- What was said of the session says what is answered.
+pub traces-by : {O E : Type 0} (output : Sink O) (info : TraceInfo) (plan : Plan) (config : Config) (old new : O) (result : Result TraceEnd E) (Rows Ends : TraceEnd → Type 0) (Begins : Type 0)
+    → ((end : TraceEnd) → Rows end → Ends end → Traced output info plan config old new end)
+    → (Begins → IsTrue (output.tells_taken old) → TookUnwritten info plan config (output.taken old) (output.taken new))
+    → IfOk result Rows → IfOk result Ends → OnErr result Begins → Traces output info plan config old new result
+traces-by output info plan config old new (Ok end) Rows Ends Begins traced unwritten rows ends begins = record { ended = traced end rows ends; memory = tt }
+traces-by output info plan config old new (Err error) Rows Ends Begins traced unwritten rows ends begins = record { ended = tt; memory = unwritten begins }

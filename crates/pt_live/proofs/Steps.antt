@@ -1,7 +1,7 @@
 -- What holds of a run's session and its rows after each call.
 use Rattle.std.proofs.Common.{◌≡◌, ◌≢◌, ℕ, ◌+◌, ◌-◌, ◌<◌, ◌≤◌, ◌⊎◌, ⊎_elim, true, false, List, [], ◌∷◌, ◌++◌, Option, None, Some, length, refl, sym, ap, ◌∙◌, subst, arith}
 use Rattle.std.specs.Prelude.{Bool, ◌==◌, if◌then◌else◌, nat_lt, Result, Ok, Err}
-use Rattle.std.specs.List.{AllByRecursion}
+use Rattle.std.specs.List.{range_with_len, AllByRecursion}
 use Rattle.std.proofs.lemmas.Option.{none-some}
 use Rattle.ep_defs.specs.declared.event.EventDef.{EventDef}
 use Rattle.ep_defs.specs.declared.session.Config.{Config}
@@ -14,6 +14,7 @@ use Rattle.nt_write.specs.declared.fault.Fault.{Fault}
 use Rattle.nt_write.specs.declared.fault.Fault.TheVariants.{WriteFault}
 use Rattle.nt_write.specs.declared.writer.TraceWriter.{TraceWriter}
 use Rattle.nt_write.specs.Writer.{fault_of as writer_fault, sink_of as writer_sink}
+use Rattle.pt_io.specs.declared.sink.Sink.{Ghosts as Sink}
 use Rattle.pt_io.specs.Faults.{HasRisen}
 use Rattle.ep_stream.specs.declared.session.Session.{Session}
 use Rattle.ep_stream.specs.Named.{insert_by, with_marks}
@@ -25,8 +26,9 @@ use Rattle.ep_stream.specs.Telling.{IsFaulty}
 use Rattle.ep_stream.proofs.Telling.{later_risen, risen_later}
 use Rattle.ep_live.proofs.Pushing.{same}
 use Rattle.ep_live.specs.RowSet.{LiveRowsState, expected_in, configured_in, out_in}
-use Rattle.ep_live_laws.specs.Tracing.{IsTracing}
-use Rattle.pt_live.specs.state.Open.{AreHands, Goes, IsOpen, SaysFaults}
+use Rattle.ep_live_laws.specs.Calls.{TellsMore, TellsSame}
+use Rattle.pt_live.specs.state.Open.{AreHands, HasTold, IsOpen, SaysFaults, watch_of}
+use Rattle.pt_live.specs.state.Run.{RunState}
 use Rattle.pt_live.proofs.Hands.{hands-detached, hands-same, hands-swept}
 
 -- ---- faults
@@ -70,39 +72,34 @@ marks-more P mark (m ∷ marks) here all =
       | false ↦ (all.0, marks-more P mark marks here all.1)
     ]
 
--- ---- one call after another
+-- ---- what was told
 
-module _ {S : Type 0} (tells : S → Bool) (taken : S → List ℕ) (faults : S → ℕ) (events : List EventDef) (writes : ℕ → List Write) where
-  pub goes-nowhere : (opened : ℕ) (session : Session S) → Goes tells taken faults events writes opened opened session session
-  goes-nowhere opened session = record { traced = λ before info config traced. traced; faults_are = λ was says. says }
-
-  pub goes-on : (first second third : ℕ) (old mid new : Session S) → Goes tells taken faults events writes first second old mid
-      → Goes tells taken faults events writes second third mid new → Goes tells taken faults events writes first third old new
-  goes-on first second third old mid new one two =
+module _ {S : Type 0} (side : Sink S) (run : RunState) (events : List EventDef) (writes : ℕ → List Write) where
+  -- The second session has told what the first has, and has its writer.
+  pub told-by : (first second : ℕ) (old new : Session S)
+      → ((before : List ℕ) → TellsSame side.tells_taken side.taken (watch_of run events writes before) (range_with_len 1 first) (range_with_len 1 second) old new)
+      → writer_of new ≡ writer_of old → HasTold side run events writes first old → HasTold side run events writes second new
+  told-by first second old new law same_writer t =
       record {
-        traced = λ before info config traced. two.traced before info config (one.traced before info config traced);
-        faults_are = λ was says. two.faults_are was (one.faults_are was says);
-      }
-
-  -- The second session traces what the first does, and has its writer.
-  pub goes-by : (first second : ℕ) (old new : Session S)
-      → ((before : List ℕ) (info : TraceInfo) (config : Config) (told : List Entry) → IsTracing tells taken before info events config writes first told old → IsTracing tells taken before info events config writes second told new)
-      → writer_of new ≡ writer_of old → Goes tells taken faults events writes first second old new
-  goes-by first second old new law same_writer =
-      record {
-        traced = λ before info config traced. (traced.0, law before info config traced.0 traced.1);
-        faults_are = λ was says. faults-kept faults was old new same_writer says;
+        before = t.before;
+        begins = t.begins;
+        told = t.told;
+        tracing = law t.before t.told t.tracing;
+        says = faults-kept side.write_faults run.faults old new same_writer t.says;
       }
 
   -- The second session has told some entries more.
-  pub goes-more : {A : Type 0} (opened : ℕ) (old new : Session S) (result : Result A Fault)
-      → ((before : List ℕ) (info : TraceInfo) (config : Config) (told : List Entry) → IsTracing tells taken before info events config writes opened told old
-      → (more : List Entry) × IsTracing tells taken before info events config writes opened (told ++ more) new)
-      → IsFaulty faults (writer_of old) (writer_of new) result → Goes tells taken faults events writes opened opened old new
-  goes-more opened old new result law faulty =
+  pub told-more : {A : Type 0} (opened : ℕ) (old new : Session S) (result : Result A Fault)
+      → ((before : List ℕ) → TellsMore side.tells_taken side.taken (watch_of run events writes before) old new)
+      → IsFaulty side.write_faults (writer_of old) (writer_of new) result → HasTold side run events writes opened old → HasTold side run events writes opened new
+  told-more opened old new result law faulty t =
+      let after = law t.before (range_with_len 1 opened) t.told t.tracing in
       record {
-        traced = λ before info config traced. let after = law before info config traced.0 traced.1 in (traced.0 ++ after.0, after.1);
-        faults_are = λ was says. faults-said faults was old new result faulty says;
+        before = t.before;
+        begins = t.begins;
+        told = t.told ++ after.0;
+        tracing = after.1;
+        says = faults-said side.write_faults run.faults old new result faulty t.says;
       }
 
 -- ---- the rows

@@ -1,15 +1,22 @@
 -- What a run of the sample program comes to (this project's theorem).
-use Rattle.std.specs.Prelude.{◌≡◌, ℕ, ◌⊎◌, Bool, List, [], map, IsTrue}
+use Rattle.std.specs.Prelude.{◌≡◌, ◌≢◌, ℕ, ◌*◌, ◌<◌, ◌≤◌, ◌⊎◌, true, List, [], ◌++◌, length, map, Some, IsTrue, Result, IfOk, OnErr}
 use Rattle.std.specs.List.{range_with_len, sum_by, AllByRecursion}
 use Rattle.ep_defs.specs.declared.session.Config.{Config}
 use Rattle.ep_defs.specs.declared.session.Marks.{Marks}
 use Rattle.ep_defs.specs.declared.session.TraceInfo.{TraceInfo}
 use Rattle.ep_defs.specs.declared.session.Write.{Write}
+use Rattle.ep_model.specs.History.{admitted_from}
+use Rattle.pt_io.specs.declared.sink.Sink.{Ghosts as Sink}
+use Rattle.pt_io.specs.Faults.{HasRisen}
+use Rattle.nt_write.specs.declared.limits.TheConstants.{FRAMED_EVENTS}
+use Rattle.ep_guarded.specs.Tied.{AreCounted}
 use Rattle.ep_stream.specs.declared.session.Fate.{Fate}
 use Rattle.ep_stream.specs.declared.session.Fate.TheVariants as fate
-use Rattle.ep_live_laws.specs.Tracing.{TookTraced, TookTracedPart}
+use Rattle.ep_live_laws.specs.Streams.{IsPartOf, IsTraceOf}
+use Rattle.ep_live_laws.specs.Tracing.{is_fault}
 use Rattle.pt_load.specs.Sample.{nth, sample}
 use Rattle.pt_load.specs.declared.plan.Plan.{Plan}
+use Rattle.pt_live.specs.declared.trace.TraceEnd.{TraceEnd}
 
 -- ---- what the threads write
 
@@ -25,47 +32,88 @@ writes_of plan thread = map (nth plan thread) (range_with_len 0 plan.writes)
 abbrev pub rows_of : Plan → List (ℕ × ℕ)
 rows_of plan = map (λ thread. (thread, plan.writes)) (threads_of plan)
 
+-- How many of its writes a session gets that is open on the thread from its first write on.
+abbrev pub admitted_of : Plan → Config → ℕ → ℕ
+admitted_of plan config thread = length (admitted_from sample (Some config) 0 (writes_of plan thread))
+
 -- ---- what the session had of them
 
--- The marks are those of a thread from its first write to its last.
+-- The marks are those of a thread from its first write up to this one.
 pub record IsWhole (writes : ℕ) (mark : Marks) : Type 0 where
   pub from : mark.from ≡ 0
   pub to_is : mark.to ≡ writes
 
--- The session was open on each thread of the run from its first write to its last.
-pub record AreWhole (plan : Plan) (marks : List Marks) : Type 0 where
+-- The session was open on each thread of the run from its first write to its last, and what it took of the thread and what
+-- was refused is all that it gets of it.
+pub record AreWhole (plan : Plan) (config : Config) (marks : List Marks) : Type 0 where
   pub threads : map (λ mark. mark.thread) marks ≡ threads_of plan
   pub whole : AllByRecursion (IsWhole plan.writes) marks
+  pub counted : AllByRecursion (AreCounted sample (writes_of plan) config) marks
 
 -- So it is, but where the output took no beginning of a stream: then the session was open on no thread.
-abbrev pub HasMarks : Plan → Fate → List Marks → Type 0
-HasMarks plan end marks = AreWhole plan marks ⊎ ((end ≡ fate.LinkFault) × (marks ≡ []))
+abbrev pub HasMarks : Plan → Config → Fate → List Marks → Type 0
+HasMarks plan config end marks = AreWhole plan config marks ⊎ ((end ≡ fate.LinkFault) × (marks ≡ []))
 
 -- How many events the session took of all threads.
 abbrev pub taken_of : List Marks → ℕ
 taken_of marks = sum_by (λ mark. mark.taken) marks
 
--- ---- what the output took, where it tells it
+-- More events were taken than have ids for their stacks; and no more were taken than the session gets of the threads'
+-- writes, nor than these are.
+pub record IsLong (plan : Plan) (config : Config) (marks : List Marks) : Type 0 where
+  pub taken : FRAMED_EVENTS < taken_of marks
+  pub admitted : taken_of marks ≤ sum_by (admitted_of plan config) (threads_of plan)
+  pub written : sum_by (admitted_of plan config) (threads_of plan) ≤ plan.threads * plan.writes
 
--- Behind what it had, it took the one stream of entries that tell all that the session got of the threads' writes, less what was refused.
-abbrev pub TookTrace : {O : Type 0} → (O → Bool) → (O → List ℕ) → TraceInfo → Plan → Config → List Marks → O → O → Type 0
-TookTrace tells taken info plan config marks old new =
-    IsTrue (tells old) → TookTraced tells taken (taken old) info sample config (writes_of plan) marks new
+-- The session was open on some of the threads, the first ones, and none of them had made a write.
+pub record AreUnwritten (plan : Plan) (marks : List Marks) : Type 0 where
+  pub count : ℕ
+  pub few : count ≤ plan.threads
+  pub threads : map (λ mark. mark.thread) marks ≡ range_with_len 1 count
+  pub whole : AllByRecursion (IsWhole 0) marks
 
--- Behind what it had, it took what begins the stream of entries that tell a part of that.
-abbrev pub TookPart : {O : Type 0} → (O → Bool) → (O → List ℕ) → TraceInfo → Plan → Config → List Marks → O → O → Type 0
-TookPart tells taken info plan config marks old new =
-    IsTrue (tells old) → TookTracedPart tells taken (taken old) info sample config (writes_of plan) marks new
+-- ---- what the output took
 
-abbrev pub TookNothing : {O : Type 0} → (O → Bool) → (O → List ℕ) → O → O → Type 0
-TookNothing tells taken old new = IsTrue (tells old) → taken new ≡ taken old
+-- Behind what it had, it took the one stream of entries that tell all that the session got of the threads' writes, less
+-- what was refused.
+pub record TookTrace (info : TraceInfo) (plan : Plan) (config : Config) (marks : List Marks) (old new : List ℕ) : Type 0 where
+  pub stream : List ℕ
+  pub trace : IsTraceOf sample config (writes_of plan) info marks stream
+  pub took : new ≡ old ++ stream
+
+-- Behind what it had, it took what begins the one stream of entries that tell a part of that.
+pub record TookPart (info : TraceInfo) (plan : Plan) (config : Config) (marks : List Marks) (old new : List ℕ) : Type 0 where
+  pub part : List ℕ
+  pub trace : IsPartOf sample config (writes_of plan) info marks part
+  pub took : new ≡ old ++ part
 
 -- It took a part of a stream, if anything.
-abbrev pub TookSome : {O : Type 0} → (O → Bool) → (O → List ℕ) → TraceInfo → Plan → Config → List Marks → O → O → Type 0
-TookSome tells taken info plan config marks old new =
-    TookNothing tells taken old new ⊎ TookPart tells taken info plan config marks old new
+abbrev pub TookSome : TraceInfo → Plan → Config → List Marks → List ℕ → List ℕ → Type 0
+TookSome info plan config marks old new = (new ≡ old) ⊎ TookPart info plan config marks old new
 
--- It took a stream or a part of one, if anything, of a session that was open on some threads.
-abbrev pub TookAny : {O : Type 0} → (O → Bool) → (O → List ℕ) → TraceInfo → Plan → Config → O → O → Type 0
-TookAny tells taken info plan config old new =
-    (marks : List Marks) × (TookSome tells taken info plan config marks old new ⊎ TookTrace tells taken info plan config marks old new)
+-- It took a stream or a part of one, if anything, of a session that ended before a thread made a write.
+pub record TookUnwritten (info : TraceInfo) (plan : Plan) (config : Config) (old new : List ℕ) : Type 0 where
+  pub marks : List Marks
+  pub unwritten : AreUnwritten plan marks
+  pub took : TookSome info plan config marks old new ⊎ TookTrace info plan config marks old new
+
+-- ---- the run
+
+-- What a run with one session over it has come to, whose output was the first and is the second.
+pub record Traced {O : Type 0} (sink : Sink O) (info : TraceInfo) (plan : Plan) (config : Config) (old new : O) (end : TraceEnd) : Type 0 where
+  -- each thread has made all its writes
+  pub rows : end.rows.items ≡ rows_of plan
+  pub marks : HasMarks plan config end.fate end.marks
+  -- where nothing failed the output took the whole stream, and else a part of one
+  pub whole : end.fate ≡ fate.ProgramEnd → IsTrue (sink.tells_taken old) → TookTrace info plan config end.marks (sink.taken old) (sink.taken new)
+  pub part : is_fault end.fate ≡ true → IsTrue (sink.tells_taken old) → TookSome info plan config end.marks (sink.taken old) (sink.taken new)
+  -- nobody asks for the end
+  pub not_asked : (conn : ℕ) → end.fate ≢ fate.Requested conn
+  -- a fault comes only from the output, in this run
+  pub link_fault : end.fate ≡ fate.LinkFault → HasRisen (sink.write_faults old) (sink.write_faults new)
+  pub too_long : end.fate ≡ fate.TooLong → IsLong plan config end.marks
+
+-- What a run answers. Where it found no memory it ended before a thread made a write.
+pub record Traces {O E : Type 0} (sink : Sink O) (info : TraceInfo) (plan : Plan) (config : Config) (old new : O) (result : Result TraceEnd E) : Type 0 where
+  pub ended : IfOk result (Traced sink info plan config old new)
+  pub memory : OnErr result (IsTrue (sink.tells_taken old) → TookUnwritten info plan config (sink.taken old) (sink.taken new))

@@ -1,4 +1,4 @@
+pub mod Run
 pub mod Writers
 pub mod Open
 pub mod Ended
-pub mod Kit

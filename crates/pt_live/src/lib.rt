@@ -9,6 +9,7 @@
 //! Its one contract: the clauses of `run_trace`.
 #![tactic(auto)]
 
+mod kit;
 mod lent;
 mod run;
 mod session;

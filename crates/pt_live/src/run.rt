@@ -1,30 +1,38 @@
 //! What all threads of a run share.
+ghost use Rattle.std.specs.Prelude.{◌≡◌};
+ghost use Rattle.pt_load.specs.Sample.{sample};
+ghost use Rattle.pt_live.specs.state.Run.{IsRunOf};
+
+use ep_defs::EventDef;
 use ep_guarded::Program;
 use pt_load::Plan;
-use std::marker::Brand;
+use std::marker::{Brand, PhantomData};
 
 /// One run of the sample program over a lent output, by its name. A call picks it where it passes `Brand`.
 pub trait Run: Program {
-    ghost use Rattle.std.specs.Prelude.{ℕ};
-    ghost use Rattle.pt_load.specs.declared.plan.Plan.{Plan};
+    ghost use Rattle.pt_live.specs.state.Run.{RunState};
 
-    // How much its threads write.
-    ghost plan: { Plan };
-
-    // Which reference its output is lent by.
-    ghost loan: { ℕ };
+    // What is fixed from its beginning.
+    ghost run: { RunState };
 }
 
 impl Run for Brand {
-    ghost plan = { record { seed = 0; threads = 0; writes = 0 } };
+    ghost use Rattle.pt_live.specs.state.Run.{no_run};
 
-    ghost loan = { 0 };
+    ghost run = { no_run };
 }
 
-/// What a run has around it: the runtime, the clock and the gate that its threads pass.
+/// What never changes in a run: the runtime, the clock and the gate that its threads pass, how much they write, and the
+/// definitions of their events.
 #[derive(Drop)]
-pub(crate) struct Around<'r, R, C, G> {
+pub(crate) struct Around<'r, P: Run, R, C, G> {
     pub(crate) rt: &'r R,
     pub(crate) clock: &'r C,
     pub(crate) gate: &'r G,
+    pub(crate) plan: &'r Plan,
+    pub(crate) events: &'r [EventDef],
+    pub(crate) name: PhantomData<P>,
+    ghost is_run: { IsRunOf plan.now P.rows P.events P.writes },
+    ghost plan_is: { plan.now ≡ P.run.plan },
+    ghost events_are: { events.now ≡ sample },
 }

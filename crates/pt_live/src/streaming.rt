@@ -1,15 +1,13 @@
 //! What the calling thread does while the others write.
 ghost use Rattle.std.specs.Prelude.{◌≡◌, ℕ, ◌≤◌, Some};
 ghost use Rattle.std.specs.List.{AllByRecursion};
-ghost use Rattle.ep_defs.specs.declared.limits.TheConstants.{THREADS as MOST_THREADS};
+ghost use Rattle.ep_live.specs.RowSet.{life_at};
 ghost use Rattle.ep_stream.specs.Session.{opened_count, rest_of};
-ghost use Rattle.pt_load.specs.Sample.{sample};
 ghost use Rattle.pt_live.specs.Trace.{IsWhole};
-ghost use Rattle.pt_live.specs.state.Open.{Goes, HasTracedAny, IsOpen};
+ghost use Rattle.pt_live.specs.state.Open.{HasTold, IsOpen};
 
 use crate::run::{Around, Run};
-use ep_defs::EventDef;
-use ep_live::{LiveRows, same_tests_have_the_same_stands};
+use ep_live::{LiveRows, same_tests_have_the_same_lives, same_tests_have_the_same_stands};
 use ep_live_laws::{
     a_call_that_takes_nothing_changes_no_trace, a_closed_row_is_traced, a_sweep_is_traced,
     an_opened_row_is_traced,
@@ -31,49 +29,48 @@ const REST: u64 = 1;
 
 /// Opens a session on each row, the first one first, until there is no memory for one more. Answers on how many rows it
 /// is open.
-pub(crate) fn open_all<P: Run, R: Wait, S: Sink>(
+pub(crate) fn open_all<P: Run, R: Wait, S: Sink, C: Clock, G: Gate>(
     alloc: Global,
+    around: &Around<'_, P, R, C, G>,
     rows: &mut LiveRows<'_, '_, P, R>,
     session: &mut Session<S>,
-    count: u32,
 ) -> u32
-    requires count { (count ≡ P.rows) × (count ≤ MOST_THREADS) }
     requires none { opened_count session.old ≡ 0 }
     requires stands { rows.old.stands ≡ Some 0 }
+    requires lives { (row : ℕ) → life_at rows.old row ≡ 0 }
     requires is_open { IsOpen P.rows 0 0 rows.old session.old }
-    requires traced { HasTracedAny S.tells_taken S.taken P.events P.writes 0 session.old }
-    ensures within { result ≤ count }
+    requires told { HasTold S.Sink P.run P.events P.writes 0 session.old }
+    ensures within { result ≤ P.rows }
     ensures is_open { IsOpen P.rows 0 result rows.new session.new }
     ensures stands { rows.new.stands ≡ Some 0 }
     ensures marks { (rest_of session.new).marks ≡ (rest_of session.old).marks }
-    ensures goes { Goes S.tells_taken S.taken S.write_faults P.events P.writes 0 result session.old session.new }
+    ensures told { HasTold S.Sink P.run P.events P.writes result session.new }
 {
     an_opened_row_is_traced::<S>();
     a_call_that_takes_nothing_changes_no_trace::<S>();
     same_tests_have_the_same_stands();
-    for place in 0..count {
+    same_tests_have_the_same_lives();
+    for place in 0..around.plan.threads {
         if session.attach(alloc, rows, place + 1).is_err() {
             return place;
         }
     }
-    count
+    around.plan.threads
 }
 
 /// Takes what the threads write, again and again, until they have ended or the session has failed.
 pub(crate) fn stream<P: Run, R: Wait + Timer, S: Sink, C: Clock, G: Gate>(
     alloc: Global,
-    around: &Around<'_, R, C, G>,
+    around: &Around<'_, P, R, C, G>,
     rows: &mut LiveRows<'_, '_, P, R>,
     session: &mut Session<S>,
-    events: &[EventDef],
     ended: &AtomicBool,
 )
-    requires events { events.now ≡ sample }
-    requires run { P.events ≡ sample }
     requires is_open { IsOpen P.rows 0 P.rows rows.old session.old }
+    requires told { HasTold S.Sink P.run P.events P.writes P.rows session.old }
     ensures is_open { IsOpen P.rows 0 P.rows rows.new session.new }
     ensures marks { (rest_of session.new).marks ≡ (rest_of session.old).marks }
-    ensures goes { Goes S.tells_taken S.taken S.write_faults P.events P.writes P.rows P.rows session.old session.new }
+    ensures told { HasTold S.Sink P.run P.events P.writes P.rows session.new }
 {
     sample_events_are_valid();
     a_sweep_is_traced::<S>();
@@ -81,7 +78,7 @@ pub(crate) fn stream<P: Run, R: Wait + Timer, S: Sink, C: Clock, G: Gate>(
         // Asked before the sweep, so that the last sweep comes after the last write.
         let last = ended.load(Ordering::SeqCst);
         let stamp = around.clock.now();
-        let Ok(taken) = session.sweep(alloc, rows, stamp, events) else {
+        let Ok(taken) = session.sweep(alloc, rows, stamp, around.events) else {
             return;
         };
         around.gate.pass(Moment::Swept {
@@ -100,22 +97,21 @@ pub(crate) fn stream<P: Run, R: Wait + Timer, S: Sink, C: Clock, G: Gate>(
 }
 
 /// Closes a session on the first rows, on which it is open, and gives back what it takes of each.
-pub(crate) fn close_all<P: Run, R: Wait, S: Sink>(
+pub(crate) fn close_all<P: Run, R: Wait, S: Sink, C: Clock, G: Gate>(
     alloc: Global,
+    around: &Around<'_, P, R, C, G>,
     rows: &mut LiveRows<'_, '_, P, R>,
     session: &mut Session<S>,
-    events: &[EventDef],
     opened: u32,
 )
-    requires events { events.now ≡ sample }
-    requires run { P.events ≡ sample }
     requires few { opened ≤ P.rows }
     requires is_open { IsOpen P.rows 0 opened rows.old session.old }
+    requires told { HasTold S.Sink P.run P.events P.writes opened session.old }
     ensures is_open { IsOpen P.rows opened opened rows.new session.new }
     ensures marks { (to : ℕ) → rows.old.stands ≡ Some to
         → AllByRecursion (IsWhole to) (rest_of session.old).marks
         → AllByRecursion (IsWhole to) (rest_of session.new).marks }
-    ensures goes { Goes S.tells_taken S.taken S.write_faults P.events P.writes opened opened session.old session.new }
+    ensures told { HasTold S.Sink P.run P.events P.writes opened session.new }
 {
     sample_events_are_valid();
     a_closed_row_is_traced::<S>();
@@ -123,7 +119,7 @@ pub(crate) fn close_all<P: Run, R: Wait, S: Sink>(
     same_tests_have_the_same_stands();
     for place in 0..opened {
         // A fault stays with the session, which says it at its end.
-        let _ = session.detach(alloc, rows, place + 1, events);
+        let _ = session.detach(alloc, rows, place + 1, around.events);
         session.give(rows);
     }
 }

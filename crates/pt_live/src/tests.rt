@@ -117,13 +117,31 @@ fn threads_with_no_write_are_told_by_a_point(rt: HostRuntime) -> Result<(), Fail
     Ok(())
 }
 
+/// Counts the writes that the threads make.
+#[derive(Drop)]
+struct WritesMade {
+    made: AtomicU64,
+}
+
+impl Gate for WritesMade {
+    fn pass(&self, at: Moment) {
+        if let Moment::Wrote { .. } = at {
+            self.made.fetch_add(1, Ordering::SeqCst);
+        }
+    }
+}
+
 #[test]
 fn each_failing_write_ends_the_session_and_no_thread(rt: HostRuntime) -> Result<(), Fail> {
     let alloc = rt.alloc();
     for failing in 1..1_000 {
         let mut output = MemSink::partial([failing].to_vec(alloc)?, 4);
-        let end = run(&rt, alloc, 2, 16, all(alloc, 4)?, &mut output, &OpenGate)?;
+        let gate = WritesMade {
+            made: AtomicU64::new(0),
+        };
+        let end = run(&rt, alloc, 2, 16, all(alloc, 4)?, &mut output, &gate)?;
         assert_eq!(rt; end.rows.as_slice(), [(1, 16), (2, 16)].as_slice());
+        assert_eq!(rt; gate.made.load(Ordering::SeqCst), 32);
         let threads = if failing == 1 { 0 } else { 2 };
         assert!(rt; is_whole(end.marks.as_slice(), threads, 16, 16));
         if end.fate == Fate::ProgramEnd {

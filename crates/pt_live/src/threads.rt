@@ -1,14 +1,12 @@
 //! The writers' threads, and the stream beside them.
 ghost use Rattle.std.specs.Prelude.{◌≡◌, vec_len};
 ghost use Rattle.ep_stream.specs.Session.{rest_of};
-ghost use Rattle.pt_load.specs.Sample.{sample};
-ghost use Rattle.pt_live.specs.state.Open.{Goes, IsOpen};
-ghost use Rattle.pt_live.specs.state.Writers.{AreReady, IsRunOf};
+ghost use Rattle.pt_live.specs.state.Open.{HasTold, IsOpen};
+ghost use Rattle.pt_live.specs.state.Writers.{AreReady};
 
 use crate::run::{Around, Run};
 use crate::streaming::stream;
 use crate::writers::{AtEnd, Writer, write_all};
-use ep_defs::EventDef;
 use ep_live::LiveRows;
 use ep_stream::Session;
 use pt_io::{Clock, Gate, Sink};
@@ -32,21 +30,17 @@ pub(crate) fn run_both<
     G: Gate,
 >(
     alloc: Global,
-    around: &Around<'_, R, C, G>,
-    events: &[EventDef],
+    around: &Around<'_, P, R, C, G>,
     rows: LiveRows<'r, 'g, P, R>,
     session: Session<S>,
     writers: Vec<Writer<'w, 'g, P>>,
-    writes: u32,
 ) -> (LiveRows<'r, 'g, P, R>, Session<S>, AtEnd<'w, 'g, P>)
-    requires run { IsRunOf P.plan P.rows P.events P.writes }
-    requires count { writes ≡ P.plan.writes }
-    requires events { events.now ≡ sample }
-    requires writers { (vec_len writers ≡ P.rows) × AreReady P.plan 0 writers.items }
+    requires writers { (vec_len writers ≡ P.rows) × AreReady P.run.plan 0 writers.items }
     requires is_open { IsOpen P.rows 0 P.rows rows session }
+    requires told { HasTold S.Sink P.run P.events P.writes P.rows session }
     ensures is_open { IsOpen P.rows 0 P.rows result.0 result.1 }
     ensures marks { (rest_of result.1).marks ≡ (rest_of session).marks }
-    ensures goes { Goes S.tells_taken S.taken S.write_faults P.events P.writes P.rows P.rows session result.1 }
+    ensures told { HasTold S.Sink P.run P.events P.writes P.rows result.1 }
 {
     let ended = AtomicBool::new(false);
     let (have_ended, flag) = (&ended, &ended);
@@ -54,18 +48,17 @@ pub(crate) fn run_both<
         thread::scope_env(),
         around.rt,
         move |scope|
-            requires { IsRunOf P.plan P.rows P.events P.writes × (writes ≡ P.plan.writes)
-                × (vec_len writers ≡ P.rows) × AreReady P.plan 0 writers.items × (events.now ≡ sample)
-                × IsOpen P.rows 0 P.rows rows session }
+            requires { (vec_len writers ≡ P.rows) × AreReady P.run.plan 0 writers.items
+                × IsOpen P.rows 0 P.rows rows session
+                × HasTold S.Sink P.run P.events P.writes P.rows session }
             ensures { IsOpen P.rows 0 P.rows result.0 result.1
                 × ((rest_of result.1).marks ≡ (rest_of session).marks)
-                × Goes S.tells_taken S.taken S.write_faults P.events P.writes P.rows P.rows session result.1 }
+                × HasTold S.Sink P.run P.events P.writes P.rows result.1 }
         {
             let work = move ||
-                requires { IsRunOf P.plan P.rows P.events P.writes × (writes ≡ P.plan.writes)
-                    × (vec_len writers ≡ P.rows) × AreReady P.plan 0 writers.items }
+                requires { (vec_len writers ≡ P.rows) × AreReady P.run.plan 0 writers.items }
             {
-                let done = write_all(around, writes, writers);
+                let done = write_all(around, writers);
                 have_ended.store(true, Ordering::SeqCst);
                 done
             };
@@ -73,12 +66,12 @@ pub(crate) fn run_both<
             let mut session = session;
             match scope.spawn(work) {
                 Ok(handle) => {
-                    stream(alloc, around, &mut rows, &mut session, events, flag);
+                    stream(alloc, around, &mut rows, &mut session, flag);
                     (rows, session, handle.join(around.rt))
                 }
                 Err(refused) => {
                     let done = (refused.value)();
-                    stream(alloc, around, &mut rows, &mut session, events, flag);
+                    stream(alloc, around, &mut rows, &mut session, flag);
                     (rows, session, done)
                 }
             }

@@ -1,32 +1,28 @@
 //! A run whose threads write while the stream of its one session goes to an output.
-ghost use Rattle.std.specs.Prelude.{◌≡◌, ◌≢◌, ℕ, ◌+◌, ◌*◌, ◌<◌, ◌≤◌, true, Some, IfOk, OnErr, IsTrue, vec_len};
-ghost use Rattle.ep_defs.specs.declared.limits.TheConstants.{THREADS as MOST_THREADS, WRITES};
+ghost use Rattle.std.specs.Prelude.{◌≡◌, ◌+◌, ◌*◌, ◌<◌, ◌≤◌, Some, IfOk, IsTrue, vec_len};
+ghost use Rattle.ep_defs.specs.declared.limits.TheConstants.{SESSIONS, THREADS as MOST_THREADS, WRITES};
 ghost use Rattle.ep_defs.specs.Session.{is_valid_config};
-ghost use Rattle.nt_write.specs.declared.limits.TheConstants.{FRAMED_EVENTS};
-ghost use Rattle.pt_io.specs.Faults.{HasRisen};
-ghost use Rattle.ep_stream.specs.declared.session.Fate.TheVariants as fate;
-ghost use Rattle.ep_live_laws.specs.Tracing.{is_fault};
-ghost use Rattle.pt_live.specs.Trace.{HasMarks, TookAny, TookSome, TookTrace, rows_of, taken_of, writes_of};
-ghost use Rattle.pt_live.specs.state.Kit.{Answers, IsKit};
-ghost use Rattle.pt_live.specs.state.Writers.{IsRunOf};
-ghost use Rattle.ep_live.specs.Made.{AreSlotTies};
+ghost use Rattle.ep_live.specs.Made.{AreHandTies};
+ghost use Rattle.pt_live.specs.Trace.{Traces, writes_of};
+ghost use Rattle.pt_live.specs.state.Open.{AreFirst};
+ghost use Rattle.pt_live.specs.state.Run.{IsLentTo, IsRunOf, TracesOver, first_seat};
 
-use crate::lent::{Held, Lent};
+use crate::kit::Kit;
+use crate::lent::{Lent, RunOutput};
 use crate::run::{Around, Run};
-use crate::session::{Room, streamed, untold};
+use crate::session::{streamed, untold};
 use crate::streaming::SESSION;
-use crate::writers::drafts_of;
 use ep_defs::{Config, Duplicate, EventDef, Items, MarkList, TraceInfo};
 use ep_guarded::{Agreed, Grant};
-use ep_live::{Live, LiveRows, ROW_TIES, Stands, slot_halves};
-use ep_live_laws::a_session_starts_with_no_trace;
+use ep_live::{Live, LiveRows, ROW_TIES, Stands, free_slots};
+use ep_live_laws::{a_part_is_found, a_session_starts_with_no_trace, a_traced_stream_is_found};
 use ep_pool::{Pool, PoolSeat};
 use ep_stream::{Fate, Seat, Session};
 use ep_tie::{Blank, Right};
 use nt_write::Fault;
 use pt_io::{Clock, Gate, Sink};
 use pt_load::laws::sample_events_are_valid;
-use pt_load::{Draft, Plan, sample_events};
+use pt_load::{Plan, sample_events};
 use std::alloc::{AllocError, Global};
 use std::marker::{Brand, PhantomData};
 use std::sync::Wait;
@@ -50,97 +46,56 @@ pub struct TraceEnd {
     pub fate: Fate,
 }
 
-// What a run takes memory for before it has a name: a draft for each thread, what is left of each row, and the events.
+// What a run is made of before it has a name: how much is written, the runtime, the clock and the gate, what its session
+// is asked for, the seat of its pool, the ties, and the definitions of the events.
 #[derive(Drop)]
-struct Kit {
-    drafts: Vec<Draft>,
-    rows: Vec<(u64, u32)>,
+struct Parts<'r, 'g, R, C, G> {
+    plan: &'r Plan,
+    rt: &'r R,
+    clock: &'r C,
+    gate: &'r G,
+    config: Config,
+    seat: PoolSeat,
+    blank: Blank<Agreed<'g>>,
     events: Vec<EventDef>,
-}
-
-impl Kit {
-    fn new(alloc: Global, plan: &Plan) -> Result<Kit, AllocError>
-        requires { plan.now.threads ≤ MOST_THREADS }
-        ensures { IfOk result (λ kit. IsKit plan.now kit.drafts.items kit.rows.items kit.events.items) }
-    {
-        Ok(Kit {
-            drafts: drafts_of(alloc, plan)?,
-            rows: ended_rows(alloc, plan)?,
-            events: sample_events(alloc)?,
-        })
-    }
-}
-
-// Each thread, and how many writes it makes.
-fn ended_rows(alloc: Global, plan: &Plan) -> Result<Vec<(u64, u32)>, AllocError>
-    requires { plan.now.threads ≤ MOST_THREADS }
-    ensures { IfOk result (λ rows. rows.items ≡ rows_of plan.now) }
-{
-    let mut rows = Vec::with_capacity(alloc, plan.threads as usize)?;
-    for number in 0..plan.threads {
-        rows.push((u64::from(number) + 1, plan.writes))?;
-    }
-    Ok(rows)
 }
 
 /// Runs the sample program: the threads of the plan make their writes, each in a thread of its own where one can be made,
 /// while the calling thread takes what one session gets of them and writes it to the output. Out of memory before the
 /// first thread was started there is an error; later the session ends, and the threads go on to their end.
-pub fn run_trace<R: Threads + Wait + Timer + Sync, O: Sink, C: Clock, G: Gate>(
-    rt: &R,
+pub fn run_trace<'r, R: Threads + Wait + Timer + Sync, O: Sink, C: Clock, G: Gate>(
+    rt: &'r R,
     alloc: Global,
-    plan: &Plan,
+    plan: &'r Plan,
     config: Config,
     info: &TraceInfo,
     output: &mut O,
-    clock: &C,
-    gate: &G,
+    clock: &'r C,
+    gate: &'r G,
 ) -> Result<TraceEnd, AllocError>
     requires threads { (0 < plan.now.threads) × (plan.now.threads ≤ MOST_THREADS) }
     requires writes { plan.now.writes ≤ WRITES }
     requires config { IsTrue (is_valid_config config) }
-    ensures rows { IfOk result (λ end. end.rows.items ≡ rows_of plan.now) }
-    ensures marks { IfOk result (λ end. HasMarks plan.now end.fate end.marks) }
-    ensures whole { IfOk result (λ end. end.fate ≡ fate.ProgramEnd
-        → TookTrace O.tells_taken O.taken info.now plan.now config end.marks output.old output.new) }
-    ensures part { IfOk result (λ end. is_fault end.fate ≡ true
-        → TookSome O.tells_taken O.taken info.now plan.now config end.marks output.old output.new) }
-    ensures not_asked { (conn : ℕ) → IfOk result (λ end. end.fate ≢ fate.Requested conn) }
-
-    // A fault comes only from the output, in this call.
-    ensures link_fault { IfOk result (λ end. end.fate ≡ fate.LinkFault
-        → HasRisen (O.write_faults output.old) (O.write_faults output.new)) }
-
-    // A stream is too long only for more events than it has ids for stacks.
-    ensures too_long { IfOk result (λ end. end.fate ≡ fate.TooLong
-        → FRAMED_EVENTS < taken_of end.marks) }
-    ensures memory { OnErr result (TookAny O.tells_taken O.taken info.now plan.now config output.old output.new) }
+    ensures { Traces O.Sink info.now plan.now config output.old output.new result }
 {
     let (pool, seat) = Pool::new(rt, alloc, config.chunks, plan.threads + 1)?;
     let grant = Grant {
         config: config.copy(alloc)?,
         pool,
     };
-    let blank = Blank::new(alloc, plan.threads * (ROW_TIES as u32 + 1))?;
-    let events = sample_events(alloc)?;
-    let kit = Kit::new(alloc, plan)?;
-    let around = Around { rt, clock, gate };
-    let held = Held::new(output);
-    let mut answer = Err(AllocError);
-    let _held = run_named::<Brand, _, _, _, _>(
-        alloc,
-        &around,
+    let parts = Parts {
         plan,
+        rt,
+        clock,
+        gate,
         config,
-        info,
-        &grant,
         seat,
-        blank,
-        events,
-        kit,
-        held,
-        &mut answer,
-    );
+        blank: Blank::new(alloc, plan.threads * (ROW_TIES as u32 + 1))?,
+        events: sample_events(alloc)?,
+    };
+    let lent = Lent::new(output);
+    let mut answer = Err(AllocError);
+    let _lent = run_named::<Brand, _, _, _, _>(alloc, parts, info, &grant, lent, &mut answer);
     answer
 }
 
@@ -155,44 +110,81 @@ fn run_named<
     G: Gate,
 >(
     alloc: Global,
-    around: &Around<'_, R, C, G>,
-    plan: &Plan,
-    config: Config,
+    parts: Parts<'_, 'g, R, C, G>,
     info: &TraceInfo,
     grant: &'g Grant,
-    seat: PoolSeat,
-    blank: Blank<Agreed<'g>>,
-    events: Vec<EventDef>,
-    kit: Kit,
-    held: Held<'o, O>,
+    lent: Lent<'o, O>,
     answer: &mut Result<TraceEnd, AllocError>,
-) -> Held<'o, O>
-    requires run { IsRunOf P.plan P.rows P.events P.writes }
-    requires plan { plan.now ≡ P.plan }
-    requires writes { P.writes ≡ writes_of P.plan }
-    requires loan { held.output.ghost_name ≡ P.loan }
-    requires ties { (blank.ties ≡ P.ties) × (blank.places ≡ P.rows + 128 * P.rows) }
-    requires events { events.items ≡ P.events }
-    requires kit { IsKit P.plan kit.drafts.items kit.rows.items kit.events.items }
-    requires seat { seat ≡ record { pool = grant.now.pool.pool; total = grant.now.pool.total; seats = P.rows + 1; share = P.rows + 1; taken = 0; given = 0 } }
-    ensures same { result.output.ghost_name ≡ held.entry.output.ghost_name }
-    ensures answers { Answers O.tells_taken O.taken O.write_faults info.now P.plan config held.entry.output.now result.output.now answer.new }
+) -> Lent<'o, O>
+    requires run { IsRunOf parts.plan.now P.rows P.events P.writes }
+    requires writes { P.writes ≡ writes_of P.run.plan }
+    requires lent { IsLentTo O.Sink P.run lent.output.ghost_name lent.output.now }
+    requires plan { parts.plan.now ≡ P.run.plan }
+    requires asked { (info.now ≡ P.run.info) × (parts.config ≡ P.run.config) }
+    requires ties { (parts.blank.ties ≡ P.ties) × (parts.blank.places ≡ P.rows + 128 * P.rows) }
+    requires events { parts.events.items ≡ P.events }
+    requires seat { parts.seat ≡ first_seat grant.now.pool (P.rows + 1) }
+    ensures same { result.output.ghost_name ≡ lent.entry.output.ghost_name }
+    ensures traces { TracesOver O.Sink P.run lent.entry.output.now result.output.now answer.new }
 {
     sample_events_are_valid();
+    let Parts {
+        plan,
+        rt,
+        clock,
+        gate,
+        config,
+        seat,
+        blank,
+        events,
+    } = parts;
     let (live, stands, hands) = match Live::<P>::new(alloc, blank, plan.threads, events) {
         Ok(made) => made,
         Err(error) => {
             *answer = Err(error);
-            return held;
+            return lent;
         }
     };
-    let halves = slot_halves(hands, SEAT.slot);
-    let stands = Stands::new(stands, 0);
-    let (held, end) = run_over(
-        alloc, around, plan, config, info, grant, seat, kit, &live, halves, stands, held,
-    );
+    let around = Around {
+        rt,
+        clock,
+        gate,
+        plan,
+        events: live.events(),
+        name: PhantomData,
+    };
+    let rows = match first_rows(alloc, &around, &live, grant, seat, Stands::new(stands, 0), hands) {
+        Ok(rows) => rows,
+        Err(error) => {
+            *answer = Err(error);
+            return lent;
+        }
+    };
+    let (lent, end) = run_over(alloc, &around, &live, rows, config, info, lent);
     *answer = end;
-    held
+    lent
+}
+
+// The rows of the session's slot, on which none was open, each expected in its first life.
+fn first_rows<'r, 'g, P: Run, R: Wait, C, G>(
+    alloc: Global,
+    around: &Around<'r, P, R, C, G>,
+    live: &'r Live<'g, P>,
+    grant: &'g Grant,
+    seat: PoolSeat,
+    stands: Stands<'g, P>,
+    hands: Vec<Right<P, Agreed<'g>>>,
+) -> Result<LiveRows<'r, 'g, P, R>, AllocError>
+    requires seat { seat ≡ first_seat grant.now.pool (P.rows + 1) }
+    requires stands { stands ≡ Some 0 }
+    requires count { vec_len hands ≡ P.rows * SESSIONS }
+    requires hands { AreHandTies P.rows hands.items }
+    ensures { IfOk result (AreFirst P.rows) }
+{
+    let mut slots = free_slots(alloc, hands)?;
+    let free = slots.swap_remove(SEAT.slot as usize);
+    let lives = vec![in alloc; 0; live.threads() as usize]?;
+    Ok(LiveRows::new(around.rt, live, free, grant, seat, stands, lives))
 }
 
 // The run over rows that no thread and no session has used.
@@ -207,64 +199,46 @@ fn run_over<
     G: Gate,
 >(
     alloc: Global,
-    around: &Around<'_, R, C, G>,
-    plan: &Plan,
+    around: &Around<'_, P, R, C, G>,
+    live: &'w Live<'g, P>,
+    rows: LiveRows<'w, 'g, P, R>,
     config: Config,
     info: &TraceInfo,
-    grant: &'g Grant,
-    seat: PoolSeat,
-    kit: Kit,
-    live: &'w Live<'g, P>,
-    halves: Vec<Right<P, Agreed<'g>>>,
-    stands: Stands<'g, P>,
-    held: Held<'o, O>,
-) -> (Held<'o, O>, Result<TraceEnd, AllocError>)
-    requires run { IsRunOf P.plan P.rows P.events P.writes }
-    requires plan { plan.now ≡ P.plan }
-    requires writes { P.writes ≡ writes_of P.plan }
-    requires loan { held.output.ghost_name ≡ P.loan }
-    requires kit { IsKit P.plan kit.drafts.items kit.rows.items kit.events.items }
-    requires seat { seat ≡ record { pool = grant.now.pool.pool; total = grant.now.pool.total; seats = P.rows + 1; share = P.rows + 1; taken = 0; given = 0 } }
-    requires halves { (vec_len halves ≡ P.rows) × AreSlotTies P.rows 0 halves.items }
-    requires stands { stands ≡ Some 0 }
-    ensures same { result.0.output.ghost_name ≡ held.entry.output.ghost_name }
-    ensures answers { Answers O.tells_taken O.taken O.write_faults info.now P.plan config held.entry.output.now result.0.output.now result.1 }
+    lent: Lent<'o, O>,
+) -> (Lent<'o, O>, Result<TraceEnd, AllocError>)
+    requires writes { P.writes ≡ writes_of P.run.plan }
+    requires lent { IsLentTo O.Sink P.run lent.output.ghost_name lent.output.now }
+    requires asked { (info.now ≡ P.run.info) × (config ≡ P.run.config) }
+    requires first { AreFirst P.rows rows }
+    ensures same { result.0.output.ghost_name ≡ lent.entry.output.ghost_name }
+    ensures traces { TracesOver O.Sink P.run lent.entry.output.now result.0.output.now result.1 }
 {
-    a_session_starts_with_no_trace::<Lent<'o, O, P>>();
-    let Kit {
-        drafts,
-        rows,
-        events,
-    } = kit;
-    let room = match Room::new(alloc, plan.threads) {
-        Ok(room) => room,
-        Err(error) => return (held, Err(error)),
+    a_session_starts_with_no_trace::<RunOutput<'o, O, P>>();
+    a_traced_stream_is_found();
+    a_part_is_found();
+    let kit = match Kit::new(alloc, around, live) {
+        Ok(kit) => kit,
+        Err(error) => return (lent, Err(error)),
     };
-    let set = LiveRows::new(around.rt, live, SEAT.slot, grant, halves, seat, stands);
-    let lent: Lent<'o, O, P> = Lent {
-        held,
-        run: PhantomData,
+    let output: RunOutput<'o, O, P> = RunOutput {
+        lent,
+        name: PhantomData,
     };
-    match Session::start(alloc, lent, &[], SEAT, config, info, plan.threads) {
+    match Session::start(alloc, output, &[], SEAT, config, info, around.plan.threads) {
         Ok(session) => {
-            let (lent, ended) = streamed(
-                alloc, around, live, plan, &events, set, session, drafts, room,
-            );
-            let Lent { held, run: _ } = lent;
-            match ended {
-                Ok((marks, fate)) => (held, Ok(TraceEnd { rows, marks, fate })),
-                Err(error) => (held, Err(error)),
-            }
+            let (output, end) = streamed(alloc, around, rows, session, kit);
+            let RunOutput { lent, name: _ } = output;
+            (lent, end)
         }
-        Err((lent, fault)) => {
-            let Lent { held, run: _ } = lent;
+        Err((output, fault)) => {
+            let RunOutput { lent, name: _ } = output;
             match fault {
-                Fault::OutOfMemory => (held, Err(AllocError)),
+                Fault::OutOfMemory => (lent, Err(AllocError)),
                 _ => {
-                    untold(around, live, plan, set, drafts, room);
+                    let rows = untold(around, rows, kit);
                     let marks = Items::new(Vec::new(alloc));
                     let fate = Fate::LinkFault;
-                    (held, Ok(TraceEnd { rows, marks, fate }))
+                    (lent, Ok(TraceEnd { rows, marks, fate }))
                 }
             }
         }

@@ -1,8 +1,9 @@
 //! The threads that write.
-ghost use Rattle.std.specs.Prelude.{◌≡◌, ℕ, ◌<◌, ◌≤◌, [], Some, IfOk, length, vec_len, vec_capacity};
+ghost use Rattle.std.specs.Prelude.{◌≡◌, ◌<◌, ◌≤◌, [], IfOk, length, vec_len, vec_capacity};
 ghost use Rattle.ep_defs.specs.declared.limits.TheConstants.{THREADS as MOST_THREADS};
 ghost use Rattle.ep_live.specs.Made.{AreStands};
-ghost use Rattle.pt_live.specs.state.Writers.{AreDrafts, AreReady, IsRunOf, StandsAt};
+ghost use Rattle.pt_live.specs.Trace.{rows_of};
+ghost use Rattle.pt_live.specs.state.Writers.{AreDrafts, AreReady, StandsAt};
 
 use crate::run::{Around, Run};
 use ep_guarded::{Agreed, Program};
@@ -57,9 +58,9 @@ pub(crate) fn writers_of<'w, 'a, P: Run>(
     requires room { vec_len halves ≤ vec_capacity writers.old }
     requires equal { vec_len drafts ≡ vec_len halves }
     requires halves { AreStands 0 halves.items }
-    requires drafts { AreDrafts P.plan drafts.items }
+    requires drafts { AreDrafts P.run.plan drafts.items }
     ensures count { vec_len writers.new ≡ vec_len halves.entry }
-    ensures ready { AreReady P.plan 0 writers.new.items }
+    ensures ready { AreReady P.run.plan 0 writers.new.items }
 {
     for (half, draft) in halves.into_iter().zip(drafts) {
         writers.push_reserved(Writer { live, half, draft });
@@ -70,20 +71,17 @@ impl<'w, 'a, P: Run> Writer<'w, 'a, P> {
     /// Makes all writes of the thread.
     fn write_all<R: Wait, C: Clock, G: Gate>(
         &mut self,
-        around: &Around<'_, R, C, G>,
+        around: &Around<'_, P, R, C, G>,
         number: usize,
-        writes: u32,
     )
-        requires run { IsRunOf P.plan P.rows P.events P.writes }
         requires row { number < P.rows }
-        requires count { writes ≡ P.plan.writes }
-        requires ready { StandsAt P.plan number 0 self.old }
-        ensures { StandsAt P.plan number P.plan.writes self.new }
+        requires ready { StandsAt P.run.plan number 0 self.old }
+        ensures { StandsAt P.run.plan number P.run.plan.writes self.new }
     {
         sample_events_are_valid();
         sample_writes_can_be_made();
         let thread = number as u32 + 1;
-        for index in 0..writes {
+        for index in 0..around.plan.writes {
             let begun = Moment::Begun { thread, index };
             let write = self.draft.nth(index);
             let stamp = around.clock.now();
@@ -105,63 +103,69 @@ impl<'w, 'a, P: Run> Writer<'w, 'a, P> {
 #[derive(Drop)]
 pub(crate) struct AtEnd<'w, 'a, P: Run> {
     writers: Vec<Writer<'w, 'a, P>>,
-    ghost count: { vec_len writers ≡ P.plan.threads },
-    ghost ended: { AreReady P.plan P.plan.writes writers.items },
+    ghost count: { vec_len writers ≡ P.run.plan.threads },
+    ghost ended: { AreReady P.run.plan P.run.plan.writes writers.items },
 }
 
 /// Lets each writer make its writes, in a thread of its own where one can be made.
 pub(crate) fn write_all<'w, 'a, P: Run + Send + Sync, R: Threads + Wait + Sync, C: Clock, G: Gate>(
-    around: &Around<'_, R, C, G>,
-    writes: u32,
+    around: &Around<'_, P, R, C, G>,
     writers: Vec<Writer<'w, 'a, P>>,
 ) -> AtEnd<'w, 'a, P>
-    requires run { IsRunOf P.plan P.rows P.events P.writes }
-    requires count { writes ≡ P.plan.writes }
     requires rows { vec_len writers ≡ P.rows }
-    requires ready { AreReady P.plan 0 writers.items }
+    requires ready { AreReady P.run.plan 0 writers.items }
 {
     let mut writers = writers;
-    write_each(around, writes, writers.as_mut_slice());
+    write_each(around, writers.as_mut_slice());
     AtEnd { writers }
 }
 
 // The same of writers that are lent.
 fn write_each<'w, 'a, P: Run + Send + Sync, R: Threads + Wait + Sync, C: Clock, G: Gate>(
-    around: &Around<'_, R, C, G>,
-    writes: u32,
+    around: &Around<'_, P, R, C, G>,
     writers: &mut [Writer<'w, 'a, P>],
 )
-    requires run { IsRunOf P.plan P.rows P.events P.writes }
-    requires count { writes ≡ P.plan.writes }
     requires rows { length writers.old ≡ P.rows }
-    requires ready { AreReady P.plan 0 writers.old }
-    ensures { AreReady P.plan P.plan.writes writers.new }
+    requires ready { AreReady P.run.plan 0 writers.old }
+    ensures { AreReady P.run.plan P.run.plan.writes writers.new }
 {
     let writing = |number: usize, writer: &mut Writer<'_, '_, P>|
-        requires { IsRunOf P.plan P.rows P.events P.writes × (writes ≡ P.plan.writes)
-            × (number < P.rows) × StandsAt P.plan number 0 writer.now }
-        ensures { StandsAt P.plan number P.plan.writes writer.exit.now }
-    { writer.write_all(around, number, writes) };
+        requires { (number < P.rows) × StandsAt P.run.plan number 0 writer.now }
+        ensures { StandsAt P.run.plan number P.run.plan.writes writer.exit.now }
+    { writer.write_all(around, number) };
     let threads = writers.len();
     thread::for_each_mut(around.rt, writers, threads, &writing);
 }
 
 impl<'w, 'a, P: Run> AtEnd<'w, 'a, P> {
-    /// The halves of the writers, in memory that is there.
-    pub(crate) fn give_halves(self, halves: &mut Vec<Right<P, Agreed<'a>>>)
-        requires none { halves.old.items ≡ [] }
-        requires room { P.plan.threads ≤ vec_capacity halves.old }
-        ensures count { vec_len halves.new ≡ P.plan.threads }
-        ensures halves { AreStands P.plan.writes halves.new.items }
+    /// Reads from each row how far its thread has come, and gives the halves of the writers, both by row and in memory
+    /// that is there. It waits for the rows.
+    pub(crate) fn give_back<R: Wait, C: Clock, G: Gate>(
+        self,
+        around: &Around<'_, P, R, C, G>,
+        rows: &mut Vec<(u64, u32)>,
+        halves: &mut Vec<Right<P, Agreed<'a>>>,
+    )
+        requires none { (rows.old.items ≡ []) × (halves.old.items ≡ []) }
+        requires row_room { P.rows ≤ vec_capacity rows.old }
+        requires half_room { P.rows ≤ vec_capacity halves.old }
+        ensures rows { rows.new.items ≡ rows_of P.run.plan }
+        ensures count { vec_len halves.new ≡ P.rows }
+        ensures halves { AreStands P.run.plan.writes halves.new.items }
     {
         let AtEnd { writers } = self;
+        let mut number = 0;
         for writer in writers {
             let Writer {
-                live: _,
+                live,
                 half,
                 draft: _,
             } = writer;
+            let mut half = half;
+            let stand = live.stand(around.rt, number, &mut half);
+            rows.push_reserved((stand.thread, stand.index));
             halves.push_reserved(half);
+            number += 1;
         }
     }
 }

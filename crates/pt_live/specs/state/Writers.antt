@@ -1,24 +1,10 @@
 -- What the writers of a run have. All of it is this project's own.
-use Rattle.std.specs.Prelude.{◌≡◌, ℕ, ◌+◌, ◌<◌, ◌≤◌, List, Some, slice_get}
-use Rattle.ep_defs.specs.declared.limits.TheConstants.{THREADS, WRITES}
-use Rattle.ep_defs.specs.declared.event.EventDef.{EventDef}
-use Rattle.ep_defs.specs.declared.session.Write.{Write}
+use Rattle.std.specs.Prelude.{◌≡◌, ℕ, ◌+◌, List, Some, slice_get}
 use Rattle.ep_tie.specs.Tied.{Tied}
 use Rattle.ep_guarded.specs.declared.agreed.Agreed.{Agreed}
 use Rattle.ep_guarded.specs.Tied.{stand_in}
-use Rattle.pt_load.specs.Sample.{sample}
 use Rattle.pt_load.specs.Shape.{Drafted}
 use Rattle.pt_load.specs.declared.plan.Plan.{Plan}
-use Rattle.pt_live.specs.Trace.{writes_of}
-
--- The program is the sample program, as the plan says, in its bounds.
-pub record IsRunOf (plan : Plan) (rows : ℕ) (events : List EventDef) (writes : ℕ → List Write) : Type 0 where
-  pub rows_are : rows ≡ plan.threads
-  pub events_are : events ≡ sample
-  pub writes_are : (thread : ℕ) → writes thread ≡ writes_of plan thread
-  pub some : 0 < plan.threads
-  pub few : plan.threads ≤ THREADS
-  pub few_writes : plan.writes ≤ WRITES
 
 -- The draft of each thread, the first being thread 1.
 abbrev pub AreDrafts : Plan → List Drafted → Type 0

@@ -1,4 +1,4 @@
-use Rattle.std.proofs.Common.{ℕ, sym, ap, subst}
+use Rattle.std.proofs.Common.{◌∙◌, ℕ, sym, ap, subst}
 use Rattle.ep_live.specs.Made.{AreStands}
 use Rattle.ep_live.specs.RowSet.{LiveRowsState}
 use Rattle.pt_load.specs.declared.plan.Plan.{Plan}
@@ -16,7 +16,7 @@ run_both-rows-requires-clause-is_open g c κs within =
 
 pub take_back-requires-clause-halves : goal.take_back-requires-clause-halves
 take_back-requires-clause-halves g c =
-    subst (λ (n : ℕ). AreStands n c.give_halves.new.halves.items) (sym (ap (λ (p : Plan). p.writes) c.requires.plan)) c.give_halves.ensures.halves
+    subst (λ (n : ℕ). AreStands n c.give_back.new.halves.items) (sym (ap (λ (p : Plan). p.writes) c.args.around.now.plan_is)) c.give_back.ensures.halves
 
 pub returns-clause-is_open : goal.returns-clause-is_open
 returns-clause-is_open g c =

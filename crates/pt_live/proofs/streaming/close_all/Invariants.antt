@@ -2,7 +2,7 @@ use Rattle.std.proofs.Common.{◌≡◌, ℕ, Some}
 use Rattle.std.specs.List.{AllByRecursion}
 use Rattle.ep_stream.specs.Session.{rest_of}
 use Rattle.pt_live.specs.Trace.{IsWhole}
-use Rattle.pt_live.specs.state.Open.{Goes, IsOpen}
+use Rattle.pt_live.specs.state.Open.{HasTold, IsOpen}
 use Rattle.pt_live.proofs.streaming.close_all.Given as goal
 
 -- the session is closed on the rows so far
@@ -12,5 +12,5 @@ invariant-loop-place g l =
       stands : l.rows.stands ≡ l.initial.rows.stands;
       is_open : IsOpen g.P.Program.rows l.place l.opened l.rows l.session;
       marks : (to : ℕ) → l.initial.rows.stands ≡ Some to → AllByRecursion (IsWhole to) (rest_of l.initial.session).marks → AllByRecursion (IsWhole to) (rest_of l.session).marks;
-      goes : Goes g.S.Sink.tells_taken g.S.Sink.taken g.S.Sink.write_faults g.P.Program.events g.P.Program.writes l.opened l.opened l.initial.session l.session;
+      told : HasTold g.S.Sink g.P.Run.run g.P.Program.events g.P.Program.writes l.opened l.session;
     }

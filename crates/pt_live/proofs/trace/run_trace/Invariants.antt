@@ -4,12 +4,24 @@ use Rattle.pt_live.proofs.trace.run_trace.Given as goal
 
 -- the ties that were just made
 abbrev pub ghosts-run_named-P-Named : goal.ghosts-run_named-P-Named
-ghosts-run_named-P-Named g a = record { ties = a.blank.ties }
+ghosts-run_named-P-Named g a = record { ties = a.parts.blank.ties }
 
 -- the sample program
 abbrev pub ghosts-run_named-P-Program : goal.ghosts-run_named-P-Program
-ghosts-run_named-P-Program g a = record { rows = a.plan.now.threads; events = sample; writes = writes_of a.plan.now }
+ghosts-run_named-P-Program g a = record { rows = a.parts.plan.now.threads; events = sample; writes = writes_of a.parts.plan.now }
 
--- the reference to the output
+-- what is asked for, and the output as it is
 abbrev pub ghosts-run_named-P-Run : goal.ghosts-run_named-P-Run
-ghosts-run_named-P-Run g a = record { plan = a.plan.now; loan = a.held.output.ghost_name }
+ghosts-run_named-P-Run g a =
+    record {
+      run =
+          record {
+            plan = a.parts.plan.now;
+            info = a.info.now;
+            config = a.parts.config;
+            loan = a.lent.output.ghost_name;
+            tells = g.O.Sink.tells_taken a.lent.output.now;
+            before = g.O.Sink.taken a.lent.output.now;
+            faults = g.O.Sink.write_faults a.lent.output.now;
+          };
+    }

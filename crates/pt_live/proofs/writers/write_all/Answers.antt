@@ -1,6 +1,7 @@
 use Rattle.std.proofs.Common.{◌≡◌, ◌∙◌, ℕ, List, ◌++◌, Some, length, take, drop, sym, ap, subst, arith}
 use Rattle.std.specs.Prelude.{slice_get}
 use Rattle.std.proofs.Math.Seq.{take-append_seam}
+use Rattle.pt_load.specs.declared.plan.Plan.{Plan}
 use Rattle.pt_live.specs.state.Writers.{WriterState}
 use Rattle.pt_live.proofs.writers.write_all.Goals as goal
 
@@ -15,6 +16,6 @@ invariant_of-result g c =
     let long : c.args.writers.len ≡ length now = omega (arith, c.write_each.auto, c.as_mut_slice.ensures.len, c.as_mut_slice.auto, c.args.writers.ok.0) in
     let whole = ap (λ (n : ℕ). take n (now ++ rest)) long ∙ take-append_seam now rest in
     record {
-      count = c.requires.rows ∙ c.requires.run.rows_are;
+      count = c.requires.rows ∙ c.args.around.now.is_run.rows_are ∙ ap (λ (p : Plan). p.threads) c.args.around.now.plan_is;
       ended = λ k writer is. c.write_each.ensures k writer (subst (λ (ws : List WriterState). slice_get ws k ≡ Some writer) whole is);
     }
