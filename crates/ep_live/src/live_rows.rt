@@ -188,6 +188,8 @@ impl<P: Program, R: Wait> RowSet for LiveRows<'_, '_, P, R> {
 
     ghost tests_marks = { tests_marks_in P.events P.writes };
 
+    ghost refused = { λ set. Some set.seat.dry };
+
     fn threads(&self) -> u32 {
         self.live.threads()
     }
