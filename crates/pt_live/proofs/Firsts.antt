@@ -1,8 +1,9 @@
 -- Threads in their first lives, opened one after the other.
-use Rattle.std.proofs.Common.{◌≡◌, ◌∙◌, ℕ, zero, suc, ◌+◌, ◌-◌, ◌<◌, ◌≤◌, Bool, true, false, List, [], ◌∷◌, None, refl, sym, ap, subst, arith}
-use Rattle.std.specs.Prelude.{◌==◌, ◌||◌, nat_lt, if◌then◌else◌}
+use Rattle.std.proofs.Common.{◌≡◌, ◌∙◌, ℕ, zero, suc, ◌+◌, ◌-◌, ◌<◌, ◌≤◌, ⊎_elim, Bool, true, false, List, [], ◌∷◌, None, refl, sym, ap, subst, arith}
+use Rattle.std.specs.Prelude.{◌==◌, ◌||◌, nat_lt, if◌then◌else◌, replicate, slice_index}
 use Rattle.std.specs.List.{list_any, range_with_len}
-use Rattle.std.proofs.lemmas.Bool.{eqb-true, ltb-true}
+use Rattle.std.proofs.lemmas.Bool.{cases_lt, eqb-true, ltb-true}
+use Rattle.std.proofs.lemmas.List.{get_or-replicate, get_or_past, length-replicate}
 use Rattle.std.proofs.lemmas.Option.{none-some}
 use Rattle.ep_defs.specs.declared.session.Config.{Config}
 use Rattle.ep_guarded.specs.Tied.{thread_of}
@@ -85,3 +86,11 @@ open-first rows set session seat config slot none rest first =
       no_hands = λ row s not. first.closed row s;
       none_out = λ s not. first.given s;
     }
+
+-- Where all are 0 each is.
+pub none-first : (rows k : ℕ) → slice_index (replicate rows 0) k ≡ 0
+none-first rows k =
+    ⊎_elim
+    (λ (small : k < rows). get_or-replicate rows k 0 0 small)
+    (λ (past : rows ≤ k). get_or_past (replicate rows 0) k 0 (let long = length-replicate {A = ℕ} rows 0 in omega (arith, long, past)))
+    (cases_lt k rows)

@@ -1,5 +1,5 @@
 //! A run whose threads write while the stream of its one session goes to an output.
-ghost use Rattle.std.specs.Prelude.{◌≡◌, ◌+◌, ◌*◌, ◌<◌, ◌≤◌, Some, IfOk, IsTrue, vec_len};
+ghost use Rattle.std.specs.Prelude.{◌≡◌, ◌+◌, ◌*◌, ◌<◌, ◌≤◌, Some, IfOk, IsTrue, replicate, vec_len};
 ghost use Rattle.ep_defs.specs.declared.limits.TheConstants.{SESSIONS, THREADS as MOST_THREADS, WRITES};
 ghost use Rattle.ep_defs.specs.Session.{is_valid_config};
 ghost use Rattle.ep_live.specs.Made.{AreHandTies};
@@ -153,7 +153,15 @@ fn run_named<
         events: live.events(),
         name: PhantomData,
     };
-    let rows = match first_rows(alloc, &around, &live, grant, seat, Stands::new(stands, 0), hands) {
+    let rows = match first_rows(
+        alloc,
+        &around,
+        &live,
+        grant,
+        seat,
+        Stands::new(stands, 0),
+        hands,
+    ) {
         Ok(rows) => rows,
         Err(error) => {
             *answer = Err(error);
@@ -163,6 +171,14 @@ fn run_named<
     let (lent, end) = run_over(alloc, &around, &live, rows, config, info, lent);
     *answer = end;
     lent
+}
+
+// The life in which each row is expected: its first one.
+fn first_lives(alloc: Global, rows: u32) -> Result<Vec<u32>, AllocError>
+    ensures count { IfOk result (λ lives. vec_len lives ≡ rows) }
+    ensures first { IfOk result (λ lives. lives.items ≡ replicate rows 0) }
+{
+    vec![in alloc; 0u32; rows as usize]
 }
 
 // The rows of the session's slot, on which none was open, each expected in its first life.
@@ -183,7 +199,7 @@ fn first_rows<'r, 'g, P: Run, R: Wait, C, G>(
 {
     let mut slots = free_slots(alloc, hands)?;
     let free = slots.swap_remove(SEAT.slot as usize);
-    let lives = vec![in alloc; 0; live.threads() as usize]?;
+    let lives = first_lives(alloc, live.threads())?;
     Ok(LiveRows::new(around.rt, live, free, grant, seat, stands, lives))
 }
 

@@ -14,8 +14,8 @@ use Rattle.pt_live.proofs.Answering.{of-sample, other-fault, sound-says, told-be
 use Rattle.pt_live.proofs.Firsts.{open-first}
 use Rattle.pt_live.proofs.trace.run_over.Goals as goal
 
-pub returns-in-Err-new-clause-traces : goal.returns-in-Err-new-clause-traces
-returns-in-Err-new-clause-traces g c =
+pub returns-in-Err-clause-traces : goal.returns-in-Err-clause-traces
+returns-in-Err-clause-traces g c =
     let run = g.P.Run.run in
     traces-memory g.O.Sink run.info run.plan run.config _ _ _ (λ told. unwritten-none run.info run.plan run.config _)
 

@@ -18,17 +18,18 @@ use Rattle.pt_live.proofs.writers.AtEnd.give_back.Goals as goal
 same : (a b : Stand) → Some a ≡ Some b → a ≡ b
 same a b e = cc
 
-pub stand-requires-clause-row : goal.stand-requires-clause-row
-stand-requires-clause-row g c =
+pub stand-stand-requires-clause-row : goal.stand-stand-requires-clause-row
+stand-stand-requires-clause-row g c =
     let gives = c.into_iter-writer-iterator.ensures.into_iter_gives in
     let turn = YieldsList-turn (YieldsList-from_vec {s = c.into_iter-writer-iterator.result} c.args.self.writers.items gives.0 (gives.1 ∙ c.args.self.writers.ok.0)) c.loop-writer.yielded c.loop-writer.writer-iterator c.loop-writer.yielded_by c.next.result c.next.new.self c.in-Some.writer c.in-Some.is c.next.ensures.steps in
     let at = slice_get_read c.args.self.writers.items _ (length c.loop-writer.yielded) c.in-Some.writer refl turn.0 turn.1 in
     let is = c.args.self.ended (length c.loop-writer.yielded) c.in-Some.writer at in
     let inv = c.loop-writer.invariant in
-    omega (arith, turn.0, inv.number, c.args.self.count, c.args.self.writers.ok.0)
+    let threads = ap (λ (p : Plan). p.threads) c.args.around.now.plan_is in
+    omega (arith, turn.0, inv.number, c.args.self.count, c.args.self.writers.ok.0, c.args.around.now.is_run.rows_are, threads)
 
-pub stand-requires-clause-place : goal.stand-requires-clause-place
-stand-requires-clause-place g c =
+pub stand-stand-requires-clause-place : goal.stand-stand-requires-clause-place
+stand-stand-requires-clause-place g c =
     let gives = c.into_iter-writer-iterator.ensures.into_iter_gives in
     let turn = YieldsList-turn (YieldsList-from_vec {s = c.into_iter-writer-iterator.result} c.args.self.writers.items gives.0 (gives.1 ∙ c.args.self.writers.ok.0)) c.loop-writer.yielded c.loop-writer.writer-iterator c.loop-writer.yielded_by c.next.result c.next.new.self c.in-Some.writer c.in-Some.is c.next.ensures.steps in
     let at = slice_get_read c.args.self.writers.items _ (length c.loop-writer.yielded) c.in-Some.writer refl turn.0 turn.1 in
@@ -60,12 +61,12 @@ loop-writer-preserved g c =
           ∙ ap (λ (rows : List (ℕ × ℕ)). rows ++ (c.stand-stand.result.thread, c.stand-stand.result.index) ∷ []) inv.rows
           ∙ ap (λ (s : Stand). map (λ (t : ℕ). row-of g.P.Run.run.plan.writes t) (range_with_len 1 c.loop-writer.number) ++ (s.thread, s.index) ∷ []) stand
           ∙ sym (rows-more g.P.Run.run.plan.writes c.loop-writer.number);
-      count = omega (arith, c.push_reserved-2.ensures.len, inv.count);
+      count = omega (arith, c.push_reserved-in-loop-writer.ensures.len, inv.count);
       row_count = omega (arith, c.push_reserved.ensures.len, inv.row_count);
-      room = omega (arith, c.push_reserved-2.ensures.capacity, inv.room);
+      room = omega (arith, c.push_reserved-in-loop-writer.ensures.capacity, inv.room);
       row_room = omega (arith, c.push_reserved.ensures.capacity, inv.row_room);
       each = subst
           (λ (hs : List (Tied Agreed)). (k : ℕ) (h : Tied Agreed) → slice_get hs k ≡ Some h → IsStand g.P.Run.run.plan.writes k h)
-          (sym c.push_reserved-2.ensures.items)
+          (sym c.push_reserved-in-loop-writer.ensures.items)
           (each-push (IsStand g.P.Run.run.plan.writes) halves c.stand-stand.new.half inv.each (subst (IsStand g.P.Run.run.plan.writes (length halves)) (sym c.stand-stand.ensures.same) half));
     }

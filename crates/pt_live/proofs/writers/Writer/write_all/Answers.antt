@@ -4,7 +4,7 @@ use Rattle.ep_guarded.specs.declared.agreed.Stand.{Stand}
 use Rattle.pt_load.specs.Sample.{nth}
 use Rattle.pt_load.specs.Shape.{Drafted}
 use Rattle.pt_load.specs.declared.plan.Plan.{Plan}
-use Rattle.pt_live.specs.state.Writers.{StandsAt, WriterState}
+use Rattle.pt_live.specs.state.Writers.{StandsAt}
 use Rattle.pt_live.proofs.Load.{write-at}
 use Rattle.pt_live.proofs.writers.Writer.write_all.Goals as goal
 
@@ -31,4 +31,4 @@ write-requires-clause-next g c κs within x is =
 pub returns : goal.returns
 returns g c =
     let all : c.loop-index.index ≡ c.args.around.now.plan.now.writes = omega (arith, c.loop-index-test.false, c.loop-index.auto) in
-    subst (λ (n : ℕ). StandsAt g.P.Run.run.plan c.args.number n _) (all ∙ ap (λ (p : Plan). p.writes) c.args.around.now.plan_is) c.loop-index.invariant
+    subst (λ (n : ℕ). StandsAt g.P.Run.run.plan c.args.number n (record { half = c.loop-index.self-inside.half; draft = c.loop-index.self-inside.draft })) (all ∙ ap (λ (p : Plan). p.writes) c.args.around.now.plan_is) c.loop-index.invariant
