@@ -6,7 +6,7 @@
 //! for what the stream has told, and on pt_io, for the output, the clock and the gate. What it answers is defined in
 //! `specs/Trace`.
 //!
-//! Its one contract: the clauses of `run_trace`.
+//! Its one contract: the clause of `run_trace`.
 #![tactic(auto)]
 
 mod kit;
