@@ -373,7 +373,8 @@ fn list_of_two<'a, P: Program>(
     Ok(threads)
 }
 
-// Two threads write beside the session, which was opened before and is closed behind them.
+// Two threads write beside the session, which was opened before and is closed behind them. Says whether all shares and
+// chunks have come back to the seat, and the slot to the run, and how many chunks there were.
 fn beside<'r, 'a, P: Program + Send + Sync, R: Threads + Wait + Sync>(
     rt: &'r R,
     alloc: Global,
@@ -381,7 +382,7 @@ fn beside<'r, 'a, P: Program + Send + Sync, R: Threads + Wait + Sync>(
     rows: LiveRows<'r, 'a, P, R>,
     config: &Config,
     write: &'r Write,
-) -> Result<(Marks, Marks, PoolSeat), AllocError>
+) -> Result<(Marks, Marks, bool, u32), AllocError>
     requires two { P.rows ≡ 2 }
     requires closed { AreClosed rows }
     requires stands { rows.stands ≡ Some 0 }
@@ -389,7 +390,6 @@ fn beside<'r, 'a, P: Program + Send + Sync, R: Threads + Wait + Sync>(
     requires writes { (t : ℕ) → P.writes t ≡ replicate TURNS write.now }
     requires event { write.now.event ≡ 1 }
     requires fits { IsTrue (valid.fits write.now) }
-    ensures taken { IfOk result (λ ended. (ended.2.share ≡ 3) × (ended.2.taken ≡ ended.2.given)) }
 {
     let mut rows = rows;
     let hands = open_both(alloc, &mut rows, config)?;
@@ -415,7 +415,10 @@ fn beside<'r, 'a, P: Program + Send + Sync, R: Threads + Wait + Sync>(
     );
     rows.take_back(list_of_two(alloc, halves)?, TURNS);
     let (one, other) = close_both(&mut rows, hands);
-    Ok((one, other, rows.end().seat))
+    let ended = rows.end();
+    let back = ended.seat().share() == 3 && ended.seat().taken() == ended.seat().given();
+    let (free, chunks) = ended.retire(rt);
+    Ok((one, other, back && free.slot() == 3, chunks))
 }
 
 // A run of the two threads, from its begin to its end.
@@ -427,7 +430,7 @@ fn run<'a, P: Program + Send + Sync, R: Threads + Wait + Sync>(
     write: &Write,
     grant: &'a Grant,
     seat: PoolSeat,
-) -> Result<(Marks, Marks, PoolSeat), AllocError>
+) -> Result<(Marks, Marks, bool, u32), AllocError>
     requires ties { blank.ties ≡ P.ties }
     requires places { blank.places ≡ 258 }
     requires rows { P.rows ≡ 2 }
@@ -437,7 +440,6 @@ fn run<'a, P: Program + Send + Sync, R: Threads + Wait + Sync>(
     requires event { write.now.event ≡ 1 }
     requires fits { IsTrue (valid.fits write.now) }
     requires seat { seat ≡ record { pool = grant.now.pool.pool; total = grant.now.pool.total; seats = 3; share = 3; taken = 0; given = 0; dry = 0 } }
-    ensures taken { IfOk result (λ ended. (ended.2.share ≡ 3) × (ended.2.taken ≡ ended.2.given)) }
 {
     let (live, threads, hands) = Live::<P>::new(alloc, blank, 2, events)?;
     let stands = Stands::new(threads, 0);
@@ -465,8 +467,9 @@ fn a_session_takes_beside_two_threads(rt: HostRuntime) -> Result<(), Fail> {
     let blank = Blank::new(alloc, 258)?;
     let events = Vec::from_array(alloc, [event(alloc)?])?;
     let write = write(alloc);
-    let (one, other, seat) = run::<Brand, _>(&rt, alloc, blank, events, &write, &grant, seat)?;
+    let (one, other, back, chunks) =
+        run::<Brand, _>(&rt, alloc, blank, events, &write, &grant, seat)?;
     assert!(rt; are_whole(&one, 1) && are_whole(&other, 2));
-    assert!(rt; seat.share() == 3 && seat.taken() == seat.given());
+    assert!(rt; back && chunks == 4);
     Ok(())
 }

@@ -4,7 +4,6 @@ ghost use Rattle.ep_pool.specs.Shared.{IsSeatOf};
 ghost use Rattle.ep_pool.specs.declared.tests.TheConstants.{TURNS};
 
 use super::*;
-use ep_chunk::Chain;
 use std::sync::Wait;
 use std::test::Fail;
 use std::thread;
@@ -77,46 +76,45 @@ fn a_seat_is_lent_as_a_purse(rt: HostRuntime) -> Result<(), Fail> {
     Ok(())
 }
 
-// Whether a seat got a chunk before and after all were taken, and once another seat gave one back.
+// Whether a seat got a chunk in each of three takes, and in one more once another seat gave one back.
 #[derive(Clone, Copy, Debug, PartialEq, Eq)]
 struct Takes {
     first: bool,
-    dry: bool,
+    second: bool,
+    third: bool,
     again: bool,
 }
 
-// A seat that has a part of the shares takes all chunks of a pool and one more, and another gives one of them back.
-fn takes_of_two_seats(rt: &(impl Wait + AllocGlobal), chunks: u32) -> Result<Takes, Fail>
+// The takes of a seat that has one of a pool's two shares.
+fn takes_of_one_share(rt: &(impl Wait + AllocGlobal), chunks: u32) -> Result<Takes, Fail>
     requires { 0 < chunks }
 {
     let (pool, mut seat) = Pool::new(rt, rt.alloc(), chunks, 2)?;
     let mut other = pool.split(&mut seat);
-    let mut out = Chain::empty(rt.alloc());
-    for _ in 0..chunks {
-        if let Some(chunk) = pool.take(rt, &mut seat) {
-            out.join(chunk);
-        }
-    }
-    let first = out.count() == chunks;
-    let dry = pool.take(rt, &mut seat).is_none();
-    if let Some(chunk) = out.split_first() {
-        pool.give(rt, &mut other, chunk);
-    }
-    let again = pool.take(rt, &mut seat).is_some();
-    Ok(Takes { first, dry, again })
+    let first = pool.take(rt, &mut seat);
+    let second = pool.take(rt, &mut seat);
+    let third = pool.take(rt, &mut seat);
+    let mut takes = Takes {
+        first: first.is_some(),
+        second: second.is_some(),
+        third: third.is_some(),
+        again: false,
+    };
+    pool.give(rt, &mut other, first.ok_or("no chunk")?);
+    takes.again = pool.take(rt, &mut seat).is_some();
+    Ok(takes)
 }
 
 #[test]
-fn a_seat_with_one_of_two_shares_takes_what_the_other_gave_back(
-    rt: HostRuntime,
-) -> Result<(), Fail> {
-    let all = Takes {
+fn a_seat_with_one_of_two_shares_takes_what_the_other_gave_back(rt: HostRuntime) -> Result<(), Fail> {
+    let takes = |second| Takes {
         first: true,
-        dry: true,
+        second,
+        third: false,
         again: true,
     };
-    assert_eq!(rt; takes_of_two_seats(&rt, 1)?, all);
-    assert_eq!(rt; takes_of_two_seats(&rt, 2)?, all);
+    assert_eq!(rt; takes_of_one_share(&rt, 1)?, takes(false));
+    assert_eq!(rt; takes_of_one_share(&rt, 2)?, takes(true));
     Ok(())
 }
 

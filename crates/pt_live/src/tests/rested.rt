@@ -1,8 +1,10 @@
 //! A thread that rests after each write.
 use super::{LOOKS, all, run};
-use ep_defs::Marks;
+use ep_defs::{ItemKind, Marks};
 use ep_stream::Fate;
+use nt_read::TraceReader;
 use pt_io::{Gate, MemSink, Moment};
+use std::alloc::Global;
 use std::sync::atomic::{AtomicBool, AtomicU64, Ordering};
 use std::test::Fail;
 use std::thread;
@@ -42,8 +44,18 @@ impl Gate for Rested {
     }
 }
 
+// How many events of a stream have this stamp.
+fn events_at(alloc: Global, stream: &[u8], stamp: u64) -> Result<usize, Fail> {
+    let mut reader = TraceReader::new(alloc);
+    let mut items = Vec::new(alloc);
+    reader.feed(stream, &mut items)?;
+    reader.finish()?;
+    let is_at = |kind: &ItemKind| matches!(kind, ItemKind::Event { stamp: at, .. } if *at == stamp);
+    Ok(items.iter().filter(|item| is_at(&item.kind)).count())
+}
+
 // A sweep that has begun when the thread is held may have passed its row. The second one takes the write and gives its
-// chunk back, so four chunks are enough for any number of writes.
+// chunk back, so four chunks are enough for any number of writes. The clock of a run stands at 100.
 #[test]
 fn nothing_is_refused_while_chunks_come_back(rt: HostRuntime) -> Result<(), Fail> {
     let alloc = rt.alloc();
@@ -63,5 +75,6 @@ fn nothing_is_refused_while_chunks_come_back(rt: HostRuntime) -> Result<(), Fail
         refused: 0,
     };
     assert_eq!(rt; end.marks.as_slice(), [mark].as_slice());
+    assert_eq!(rt; events_at(alloc, output.taken(), 100)?, 100);
     Ok(())
 }

@@ -1,4 +1,5 @@
 use Rattle.std.proofs.Common.{◌≡◌, ◌∙◌, ℕ, List, [], ◌∷◌, ◌++◌, length, refl, ap, sym, subst, arith, rules}
+use Rattle.std.proofs.lemmas.List.{length-append}
 use Rattle.std.proofs.lemmas.Option.{slice_get_read}
 use Rattle.std.proofs.lemmas.Iterator.Adapters.{YieldsList-from_vec}
 use Rattle.std.proofs.lemmas.Iterator.Consumers.{YieldsList-turn}
@@ -25,6 +26,6 @@ loop-column-preserved g c =
     let inv = c.loop-column.invariant in
     let len : length slots ≡ length c.loop-column.yielded = sym c.loop-column.slots.ok.0 ∙ inv.count in
     record {
-      count = search rules;
+      count = omega (arith, c.in_ok-push.ensures.len, inv.count, length-append c.loop-column.yielded (c.in-Some.column ∷ []));
       slots = subst AreSlots (sym c.in_ok-push.ensures.items) (each-push (λ k slot. slot ≡ k) slots c.whole.result inv.slots (c.whole.ensures ∙ all.0 ∙ sym len));
     }

@@ -30,26 +30,8 @@ open-requires-clause-share g c =
     let some = room halves (c.args.row - 1) half at (counts-none half off).0 in
     omega (arith, some, c.self.invariant.share, c.self.invariant.count)
 
-pub returns-in-Err-open-clause-none : goal.returns-in-Err-open-clause-none
-returns-in-Err-open-clause-none g c =
-    let halves = c.self.inside.halves.items in
-    let half = c.index_mut.result.now in
-    let count : length halves ≡ length c.args.self.now.halves = ap (λ (v : LiveRowsState). length v.halves) c.self.view_is in
-    let at = slice_get_read halves _ (c.args.row - 1) half refl (omega (arith, count, c.requires.row)) c.index_mut.ensures.value in
-    let stays : slice_set halves (c.args.row - 1) c.open.new.half ≡ halves = ap (λ (h : Tied _). slice_set halves (c.args.row - 1) h) c.in-Err-open.ensures.none.0 ∙ set-same halves (c.args.row - 1) half at in
-    (λ r s. ap (λ (hs : List (Tied _)). said_by hand_in hs c.self.inside.slot r s) stays ∙ ap (λ (v : LiveRowsState). expected_in v r s) c.self.view_is)
-
-pub returns-in-Err-open-clause-none_configured : goal.returns-in-Err-open-clause-none_configured
-returns-in-Err-open-clause-none_configured g c =
-    let halves = c.self.inside.halves.items in
-    let half = c.index_mut.result.now in
-    let count : length halves ≡ length c.args.self.now.halves = ap (λ (v : LiveRowsState). length v.halves) c.self.view_is in
-    let at = slice_get_read halves _ (c.args.row - 1) half refl (omega (arith, count, c.requires.row)) c.index_mut.ensures.value in
-    let stays : slice_set halves (c.args.row - 1) c.open.new.half ≡ halves = ap (λ (h : Tied _). slice_set halves (c.args.row - 1) h) c.in-Err-open.ensures.none.0 ∙ set-same halves (c.args.row - 1) half at in
-    (λ r s. ap (λ (hs : List (Tied _)). said_by config_in hs c.self.inside.slot r s) stays ∙ ap (λ (v : LiveRowsState). configured_in v r s) c.self.view_is)
-
-pub invariant_of-self-2 : goal.invariant_of-self-2
-invariant_of-self-2 g c =
+pub invariant_of-self : goal.invariant_of-self
+invariant_of-self g c =
     let halves = c.self.inside.halves.items in
     let half = c.index_mut.result.now in
     let count : length halves ≡ length c.args.self.now.halves = ap (λ (v : LiveRowsState). length v.halves) c.self.view_is in
@@ -58,13 +40,13 @@ invariant_of-self-2 g c =
     let off = ap (λ h. hand_in h.value) (sym (half-is halves c.args.row half c.requires.row.0 at)) ∙ sym (said-own hand_in halves c.self.inside.slot c.args.row c.args.slot own) ∙ ap (λ (v : LiveRowsState). expected_in v c.args.row c.args.slot) c.self.view_is ∙ c.requires.off in
     let some = room halves (c.args.row - 1) half at (counts-none half off).0 in
     let was = counts-none half off in
-    let opened = c.in-Ok-open.ensures.opens in
-    let now = counts c.open.new.half c.in-Ok-open.hand opened.half_is in
+    let opened = c.in-Ok.ensures.opens in
+    let now = counts c.open.new.half c.in-Ok.hand opened.half_is in
     let none = ap (λ h. h.stolen) opened.hand_is in
     let share = ap (λ s. s.share) opened.seat_is in
     let taken = ap (λ s. s.taken) opened.seat_is in
     rows-changed _ _ _ halves c.self.inside.seat c.open.new.seat c.self.inside.openings (c.self.inside.openings + 1) (c.args.row - 1) _ half c.open.new.half c.self.invariant at
-    c.in-Ok-open.ensures.place
+    c.in-Ok.ensures.place
     (λ grant is. same grant c.self.inside.grant.now (sym is ∙ opened.grant_is))
     (omega (arith, now, none)) (ap (λ s. s.pool) opened.seat_is) (ap (λ s. s.total) opened.seat_is) (ap (λ s. s.seats) opened.seat_is)
     (omega (arith, was, now, share, some, c.self.invariant.share, c.self.invariant.count)) (ap (λ s. s.given) opened.seat_is) (omega (arith, was, now, taken)) (omega (arith, was, now, taken)) (omega (arith, c.self.invariant.few, c.if-self-eq-SESSION_THREADS.false))
@@ -72,17 +54,8 @@ invariant_of-self-2 g c =
     same : (a b : Grant) → Some a ≡ Some b → a ≡ b
     same a b e = cc
 
-pub returns-clause-configured : goal.returns-clause-configured
-returns-clause-configured g c r s =
-    let halves = c.self.inside.halves.items in
-    let count : length halves ≡ length c.args.self.now.halves = ap (λ (v : LiveRowsState). length v.halves) c.self.view_is in
-    let own : c.args.slot ≡ c.self.inside.slot = omega (arith, c.if-slot-self.false) in
-    let config_is : config_in c.open.new.half.value ≡ Some c.args.config.now = ap (λ (o : Option Grant). option_map (λ g. g.config) o) c.in-Ok-open.ensures.opens.grant_is ∙ ap (λ (x : Config). Some x) (sym (c.is_same.ensures (search (c.if-not-is_same, rules)))) in
-    said-set config_in halves c.self.inside.slot c.args.row c.args.slot c.open.new.half (Some c.args.config.now) own c.requires.row.0 (omega (arith, count, c.requires.row)) config_is r s
-    ∙ ap (λ (v : LiveRowsState). if (r == c.args.row) && (s == c.args.slot) then Some c.args.config.now else configured_in v r s) c.self.view_is
-
-pub returns-clause-out : goal.returns-clause-out
-returns-clause-out g c s =
+pub returns-in-Ok-clause-out : goal.returns-in-Ok-clause-out
+returns-in-Ok-clause-out g c s =
     let halves = c.self.inside.halves.items in
     let half = c.index_mut.result.now in
     let count : length halves ≡ length c.args.self.now.halves = ap (λ (v : LiveRowsState). length v.halves) c.self.view_is in
@@ -90,8 +63,8 @@ returns-clause-out g c s =
     let own : c.args.slot ≡ c.self.inside.slot = omega (arith, c.if-slot-self.false) in
     let off = ap (λ h. hand_in h.value) (sym (half-is halves c.args.row half c.requires.row.0 at)) ∙ sym (said-own hand_in halves c.self.inside.slot c.args.row c.args.slot own) ∙ ap (λ (v : LiveRowsState). expected_in v c.args.row c.args.slot) c.self.view_is ∙ c.requires.off in
     let was = counts-none half off in
-    let opened = c.in-Ok-open.ensures.opens in
-    let now = counts c.open.new.half c.in-Ok-open.hand opened.half_is in
+    let opened = c.in-Ok.ensures.opens in
+    let now = counts c.open.new.half c.in-Ok.hand opened.half_is in
     let none = ap (λ h. h.stolen) opened.hand_is in
     let chunks = sum-set stolen_in halves (c.args.row - 1) half c.open.new.half at in
     let taken = ap (λ s. s.taken) opened.seat_is in
