@@ -7,9 +7,9 @@
 //! threads is `specs/Traced`, what its bytes are `specs/Streams`, what holds between calls `specs/Tracing`, and what
 //! each call makes of a session `specs/Calls`.
 //!
-//! Its one contract: a session that is opened on some of a run's threads, each once and in a row of its own, swept any
-//! number of times, closed on each row and ended, has told all that was taken, and its sink took the stream of faithful
-//! entries; or, after a fault, what begins the stream of entries that are a part of what the threads wrote.
+//! Its one contract: a session that is opened on some of a run's threads, each once and one of a row at a time, swept
+//! any number of times, closed on each row and ended, has told all that was taken, and its sink took the stream of
+//! faithful entries; and whatever its fate, what begins the stream of entries that are a part of what the threads wrote.
 #![tactic(auto)]
 
 pub mod examples;
