@@ -52,15 +52,15 @@ sound-says faults was session sound wrote = record { fault = λ is. absurd (no-f
 -- It has told nothing yet.
 pub told-begun : {S : Type 0} (side : Sink S) (run : RunState) (events : List EventDef) (writes : ℕ → List Write) (session : Session S) (before : List ℕ) (info : TraceInfo) (config : Config)
     → info ≡ run.info → config ≡ run.config → (IsTrue run.tells → before ≡ run.before)
-    → IsTracing side.tells_taken side.taken (record (watch_of run events writes before) { info = info; config = config }) [] [] session
+    → IsTracing side (record (watch_of run events writes before) { info = info; config = config }) [] [] session
     → SaysFaults side.write_faults run.faults session → HasTold side run events writes 0 session
 told-begun side run events writes session before info config info_is config_is begins tracing says =
     record {
       before = before;
       begins = begins;
       told = [];
-      tracing = subst (λ (i : TraceInfo). IsTracing side.tells_taken side.taken (record (watch_of run events writes before) { info = i }) [] [] session) info_is
-          (subst (λ (c : Config). IsTracing side.tells_taken side.taken (record (watch_of run events writes before) { info = info; config = c }) [] [] session) config_is tracing);
+      tracing = subst (λ (i : TraceInfo). IsTracing side (record (watch_of run events writes before) { info = i }) [] [] session) info_is
+          (subst (λ (c : Config). IsTracing side (record (watch_of run events writes before) { info = info; config = c }) [] [] session) config_is tracing);
       says = says;
     }
 
@@ -76,7 +76,7 @@ module _ {O L : Type 0} (side : Sink L) (output : Sink O) (out : L → O) (run :
       sym (taken_is l) ∙ took ∙ ap (λ (bytes : List ℕ). bytes ++ part) (begins (subst IsTrue lent.tells_is told) ∙ sym lent.before_is)
 
   pub took-whole : (laws : Laws run.plan run.config) (before : List ℕ) (marks : List Marks) (l : L) → (IsTrue run.tells → before ≡ run.before)
-      → TookTraced side.tells_taken side.taken before run.info sample run.config (writes_of run.plan) marks l
+      → TookTraced side before run.info sample run.config (writes_of run.plan) marks l
       → IsTrue (output.tells_taken old) → TookTrace run.info run.plan run.config marks (output.taken old) (output.taken (out l))
   took-whole laws before marks l begins t told =
       let stream = t.stream (tells-so l told) in
@@ -87,7 +87,7 @@ module _ {O L : Type 0} (side : Sink L) (output : Sink O) (out : L → O) (run :
       }
 
   pub took-part : (laws : Laws run.plan run.config) (before : List ℕ) (marks : List Marks) (l : L) → (IsTrue run.tells → before ≡ run.before)
-      → TookTracedPart side.tells_taken side.taken before run.info sample run.config (writes_of run.plan) marks l
+      → TookTracedPart side before run.info sample run.config (writes_of run.plan) marks l
       → IsTrue (output.tells_taken old) → TookPart run.info run.plan run.config marks (output.taken old) (output.taken (out l))
   took-part laws before marks l begins t told =
       let stream = t.stream (tells-so l told) in

@@ -10,6 +10,7 @@ use Rattle.ep_guarded.specs.Tied.{thread_of}
 use Rattle.ep_guarded.proofs.Lives.{first-life}
 use Rattle.ep_live.specs.RowSet.{LiveRowsState, life_at}
 use Rattle.ep_model.specs.History.{insert_ascending}
+use Rattle.pt_io.specs.declared.sink.Sink.{Ghosts as Sink}
 use Rattle.ep_stream.specs.declared.session.Seat.{Seat}
 use Rattle.ep_stream.specs.declared.session.Session.{Session}
 use Rattle.ep_stream.specs.Session.{Rest, hand_on, new_rest, rest_of}
@@ -49,11 +50,11 @@ insert-next first (suc n) =
     ∙ ap (λ ks. first ∷ ks) (insert-next (first + 1) n)
 
 -- With the next thread the session was opened on one more.
-pub opens-next : {S : Type 0} (tells : S → Bool) (taken : S → List ℕ) (watch : Watch) (n : ℕ) (old new : Session S)
-    → TellsSame tells taken watch (range_with_len 1 n) (insert_ascending (n + 1) (range_with_len 1 n)) old new → TellsSame tells taken watch (range_with_len 1 n) (range_with_len 1 (n + 1)) old new
-opens-next tells taken watch n old new same =
+pub opens-next : {S : Type 0} (side : Sink S) (watch : Watch) (n : ℕ) (old new : Session S)
+    → TellsSame side watch (range_with_len 1 n) (insert_ascending (n + 1) (range_with_len 1 n)) old new → TellsSame side watch (range_with_len 1 n) (range_with_len 1 (n + 1)) old new
+opens-next side watch n old new same =
     let next : insert_ascending (n + 1) (range_with_len 1 n) ≡ range_with_len 1 (n + 1) = ap (λ (k : ℕ). insert_ascending k (range_with_len 1 n)) (omega arith) ∙ insert-next 1 n in
-    subst (λ (threads : List ℕ). TellsSame tells taken watch (range_with_len 1 n) threads old new) next same
+    subst (λ (threads : List ℕ). TellsSame side watch (range_with_len 1 n) threads old new) next same
 
 -- A row in its first life serves the thread with its number.
 pub served : (rows : ℕ) (set : LiveRowsState) (place : ℕ) → ((row : ℕ) → life_at set row ≡ 0) → thread_of rows (place + 1 - 1) (life_at set (place + 1)) ≡ place + 1

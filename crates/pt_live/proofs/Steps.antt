@@ -77,7 +77,7 @@ marks-more P mark (m ∷ marks) here all =
 module _ {S : Type 0} (side : Sink S) (run : RunState) (events : List EventDef) (writes : ℕ → List Write) where
   -- The second session has told what the first has, and has its writer.
   pub told-by : (first second : ℕ) (old new : Session S)
-      → ((before : List ℕ) → TellsSame side.tells_taken side.taken (watch_of run events writes before) (range_with_len 1 first) (range_with_len 1 second) old new)
+      → ((before : List ℕ) → TellsSame side (watch_of run events writes before) (range_with_len 1 first) (range_with_len 1 second) old new)
       → writer_of new ≡ writer_of old → HasTold side run events writes first old → HasTold side run events writes second new
   told-by first second old new law same_writer t =
       record {
@@ -90,7 +90,7 @@ module _ {S : Type 0} (side : Sink S) (run : RunState) (events : List EventDef) 
 
   -- The second session has told some entries more.
   pub told-more : {A : Type 0} (opened : ℕ) (old new : Session S) (result : Result A Fault)
-      → ((before : List ℕ) → TellsMore side.tells_taken side.taken (watch_of run events writes before) old new)
+      → ((before : List ℕ) → TellsMore side (watch_of run events writes before) old new)
       → IsFaulty side.write_faults (writer_of old) (writer_of new) result → HasTold side run events writes opened old → HasTold side run events writes opened new
   told-more opened old new result law faulty t =
       let after = law t.before (range_with_len 1 opened) t.told t.tracing in

@@ -24,7 +24,7 @@ pub record HasEnded {S : Type 0} (side : Sink S) (run : RunState) (events : List
   pub before : List ℕ
   pub begins : IsTrue run.tells → before ≡ run.before
   pub whole : AllByRecursion (IsWhole to) marks
-  pub outcome : IsOutcome side.tells_taken side.taken (watch_of run events writes before) (range_with_len 1 opened) fate.ProgramEnd marks end sink
+  pub outcome : IsOutcome side (watch_of run events writes before) (range_with_len 1 opened) fate.ProgramEnd marks end sink
   pub well : EndsWell side.write_faults run.faults end sink
 
 -- It was open on some of the rows, and ended before a thread made a write.

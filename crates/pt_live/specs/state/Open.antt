@@ -67,5 +67,5 @@ pub record HasTold {S : Type 0} (sink : Sink S) (run : RunState) (events : List 
   pub before : List ℕ
   pub begins : IsTrue run.tells → before ≡ run.before
   pub told : List Entry
-  pub tracing : IsTracing sink.tells_taken sink.taken (watch_of run events writes before) (range_with_len 1 opened) told session
+  pub tracing : IsTracing sink (watch_of run events writes before) (range_with_len 1 opened) told session
   pub says : SaysFaults sink.write_faults run.faults session

@@ -29,7 +29,7 @@ returns g c to is =
       begins = t.begins;
       whole = subst (AllByRecursion (IsWhole to)) marks (c.close_all.ensures.marks to is (subst (AllByRecursion (IsWhole to)) (sym c.requires.marks) (record {})));
       outcome = subst
-          (λ (ms : List Marks). IsOutcome g.S.Sink.tells_taken g.S.Sink.taken (watch_of run g.P.Program.events g.P.Program.writes t.before) (range_with_len 1 c.args.opened) fate.ProgramEnd ms c.finish.result.fate c.finish.result.sink)
+          (λ (ms : List Marks). IsOutcome g.S.Sink (watch_of run g.P.Program.events g.P.Program.writes t.before) (range_with_len 1 c.args.opened) fate.ProgramEnd ms c.finish.result.fate c.finish.result.sink)
           marks
           (c.a_session_that_ends_has_traced.ensures (watch_of run g.P.Program.events g.P.Program.writes t.before) (range_with_len 1 c.args.opened) fate.ProgramEnd c.finish.result.fate session c.finish.result.sink
           (record { told = t.told; stamp = c.now.result; tracing = t.tracing; shut = none; ended = c.finish.ensures.ended }));

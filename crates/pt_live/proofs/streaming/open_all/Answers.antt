@@ -61,7 +61,7 @@ loop-place-preserved g c =
       marks = ap (λ (r : Rest). r.marks) attached.rest ∙ inv.marks;
       told =
           told-by g.S.Sink run g.P.Program.events g.P.Program.writes place (place + 1) old new
-          (λ before. opens-next _ _ (watch_of run g.P.Program.events g.P.Program.writes before) place old new
+          (λ before. opens-next g.S.Sink (watch_of run g.P.Program.events g.P.Program.writes before) place old new
           (c.an_opened_row_is_traced.ensures.traced (watch_of run g.P.Program.events g.P.Program.writes before) (range_with_len 1 place) (place + 1) old new
           (record {
             fresh = next-apart place;
