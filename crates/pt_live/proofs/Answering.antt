@@ -1,15 +1,14 @@
 -- What a run answers, by what its session was at its end.
-use Rattle.std.proofs.Common.{◌≡◌, ◌≢◌, ◌∙◌, ℕ, ◌≤◌, ◌++◌, ◌⊎◌, inl, inr, true, false, List, [], ◌∷◌, None, Some, refl, sym, ap, subst, arith}
+use Rattle.std.proofs.Common.{◌≡◌, ◌≢◌, ◌∙◌, ℕ, ◌≤◌, ◌++◌, ◌⊎◌, inl, inr, true, false, List, [], ◌∷◌, None, Some, length, refl, sym, ap, subst, arith}
 use Rattle.std.specs.Prelude.{Bool, IsTrue, Result, Ok, Err, IfOk, OnErr}
 use Rattle.std.specs.List.{range_with_len}
 use Rattle.std.proofs.lemmas.List.{append-nil}
+use Rattle.ep_defs.specs.declared.limits.TheConstants.{WRITES}
 use Rattle.ep_defs.specs.declared.event.EventDef.{EventDef}
 use Rattle.ep_defs.specs.declared.session.Config.{Config}
 use Rattle.ep_defs.specs.declared.session.Marks.{Marks}
 use Rattle.ep_defs.specs.declared.session.TraceInfo.{TraceInfo}
 use Rattle.ep_defs.specs.declared.session.Write.{Write}
-use Rattle.ep_defs.specs.Entry.{Entry}
-use Rattle.nt_write.specs.Canonical.{IsCanonical}
 use Rattle.nt_write.specs.declared.fault.Fault.{Fault}
 use Rattle.nt_write.specs.declared.fault.Fault.TheVariants.{WriteFault, TooLong, OutOfMemory}
 use Rattle.pt_io.specs.declared.sink.Sink.{Ghosts as Sink}
@@ -18,23 +17,22 @@ use Rattle.ep_stream.specs.Session.{TookStart, fault_of, sink_of}
 use Rattle.ep_stream.specs.declared.session.Session.{Session}
 use Rattle.ep_stream.specs.declared.session.Fate.{Fate}
 use Rattle.ep_stream.specs.declared.session.Fate.TheVariants as fate
-use Rattle.ep_live_laws.specs.Streams.{IsTraceOf}
-use Rattle.ep_live_laws.specs.Traced.{AreTraced}
+use Rattle.ep_live_laws.specs.Streams.{PartsAreFound, TracesAreFound}
 use Rattle.ep_live_laws.specs.Tracing.{is_fault, IsTracing, TookTraced, TookTracedPart}
 use Rattle.pt_load.specs.Sample.{sample}
 use Rattle.pt_load.specs.declared.plan.Plan.{Plan}
 use Rattle.pt_live.specs.declared.trace.TraceEnd.{TraceEnd}
 use Rattle.pt_live.specs.Trace.{AreUnwritten, AreWhole, TookPart, TookSome, TookTrace, TookUnwritten, Traced, Traces, rows_of, writes_of}
 use Rattle.pt_live.specs.state.Ended.{HasEnded}
-use Rattle.pt_live.specs.state.Open.{HasTold, SaysFaults}
+use Rattle.pt_live.specs.state.Open.{HasTold, SaysFaults, watch_of}
 use Rattle.pt_live.specs.state.Run.{IsLentTo, RunState}
+use Rattle.pt_live.proofs.Load.{count-writes}
 use Rattle.pt_live.proofs.Long.{is-long}
 
--- The stream of entries that trace the threads is found.
-abbrev pub Law : Type 0
-Law =
-    (events : List EventDef) (config : Config) (writes : ℕ → List Write) (info : TraceInfo) (marks : List Marks) (entries : List Entry) (bytes : List ℕ)
-    → IsCanonical info entries bytes → AreTraced events config writes marks entries → IsTraceOf events config writes info marks bytes
+-- The stream of entries that trace the threads is found, and so is a part of it.
+pub record Laws (plan : Plan) (config : Config) : Type 0 where
+  pub traces : TracesAreFound sample config (writes_of plan)
+  pub parts : PartsAreFound sample config (writes_of plan)
 
 -- ---- a session that was begun
 
@@ -53,15 +51,16 @@ sound-says faults was session sound wrote = record { fault = λ is. absurd (no-f
 
 -- It has told nothing yet.
 pub told-begun : {S : Type 0} (side : Sink S) (run : RunState) (events : List EventDef) (writes : ℕ → List Write) (session : Session S) (before : List ℕ) (info : TraceInfo) (config : Config)
-    → info ≡ run.info → config ≡ run.config → (IsTrue run.tells → before ≡ run.before) → IsTracing side.tells_taken side.taken before info events config writes 0 [] session
+    → info ≡ run.info → config ≡ run.config → (IsTrue run.tells → before ≡ run.before)
+    → IsTracing side (record (watch_of run events writes before) { info = info; config = config }) [] [] session
     → SaysFaults side.write_faults run.faults session → HasTold side run events writes 0 session
 told-begun side run events writes session before info config info_is config_is begins tracing says =
     record {
       before = before;
       begins = begins;
       told = [];
-      tracing = subst (λ (i : TraceInfo). IsTracing side.tells_taken side.taken before i events run.config writes 0 [] session) info_is
-          (subst (λ (c : Config). IsTracing side.tells_taken side.taken before info events c writes 0 [] session) config_is tracing);
+      tracing = subst (λ (i : TraceInfo). IsTracing side (record (watch_of run events writes before) { info = i }) [] [] session) info_is
+          (subst (λ (c : Config). IsTracing side (record (watch_of run events writes before) { info = info; config = c }) [] [] session) config_is tracing);
       says = says;
     }
 
@@ -76,71 +75,76 @@ module _ {O L : Type 0} (side : Sink L) (output : Sink O) (out : L → O) (run :
   stands-behind before part l begins told took =
       sym (taken_is l) ∙ took ∙ ap (λ (bytes : List ℕ). bytes ++ part) (begins (subst IsTrue lent.tells_is told) ∙ sym lent.before_is)
 
-  pub took-whole : (law : Law) (before : List ℕ) (marks : List Marks) (l : L) → (IsTrue run.tells → before ≡ run.before)
-      → TookTraced side.tells_taken side.taken before run.info sample run.config (writes_of run.plan) marks l
+  pub took-whole : (laws : Laws run.plan run.config) (before : List ℕ) (marks : List Marks) (l : L) → (IsTrue run.tells → before ≡ run.before)
+      → TookTraced side before run.info sample run.config (writes_of run.plan) marks l
       → IsTrue (output.tells_taken old) → TookTrace run.info run.plan run.config marks (output.taken old) (output.taken (out l))
-  took-whole law before marks l begins t told =
+  took-whole laws before marks l begins t told =
       let stream = t.stream (tells-so l told) in
       record {
         stream = stream.0;
-        trace = law sample run.config (writes_of run.plan) run.info marks t.entries stream.0 stream.1 t.traced;
+        trace = laws.traces run.info marks t.entries stream.0 stream.1 t.traced;
         took = stands-behind before stream.0 l begins told stream.2;
       }
 
-  pub took-part : (before : List ℕ) (marks : List Marks) (l : L) → (IsTrue run.tells → before ≡ run.before)
-      → TookTracedPart side.tells_taken side.taken before run.info sample run.config (writes_of run.plan) marks l
+  pub took-part : (laws : Laws run.plan run.config) (before : List ℕ) (marks : List Marks) (l : L) → (IsTrue run.tells → before ≡ run.before)
+      → TookTracedPart side before run.info sample run.config (writes_of run.plan) marks l
       → IsTrue (output.tells_taken old) → TookPart run.info run.plan run.config marks (output.taken old) (output.taken (out l))
-  took-part before marks l begins t told =
+  took-part laws before marks l begins t told =
       let stream = t.stream (tells-so l told) in
       record {
-        entries = t.entries;
-        stream = stream.0;
-        canonical = stream.2;
-        told = t.part;
         part = stream.1;
-        begins = stream.3;
+        trace = laws.parts run.info marks t.entries stream.1 stream.0 stream.2 stream.3 t.part;
         took = stands-behind before stream.1 l begins told stream.4;
       }
 
-  module _ (law : Law) where
+  module _ (laws : Laws run.plan run.config) where
     -- It was open on all threads.
-    pub traces-end : (end : TraceEnd) (opened : ℕ) (l : L) → end.rows.items ≡ rows_of run.plan → opened ≡ run.plan.threads
+    pub traces-end : (end : TraceEnd) (opened : ℕ) (l : L) → run.plan.writes ≤ WRITES → end.rows.items ≡ rows_of run.plan → opened ≡ run.plan.threads
         → HasEnded side run sample (writes_of run.plan) opened run.plan.writes end.marks end.fate l → Traced output run.info run.plan run.config old (out l) end
-    traces-end end opened l rows all e =
+    traces-end end opened l most rows all e =
         record {
           rows = rows;
           marks = inl whole;
-          whole = λ is. took-whole law e.before end.marks l e.begins (e.traced.whole (ap is_fault is));
-          part = λ is told. inr (took-part e.before end.marks l e.begins (e.traced.part is) told);
+          whole = λ is. took-whole laws e.before end.marks l e.begins (e.outcome.whole (ap is_fault is) few);
+          part = λ is told. inr (took-part laws e.before end.marks l e.begins e.outcome.part told);
           not_asked = e.well.not_asked;
           link_fault = λ is.
               subst (λ (n : ℕ). HasRisen n (output.write_faults (out l))) (sym lent.faults_are)
               (subst (HasRisen run.faults) (faults_are l) (e.well.link_fault is));
-          too_long = λ is. is-long run.plan run.config end.marks whole (e.traced.too_long is);
+          too_long = λ is. is-long run.plan run.config end.marks whole (e.outcome.too_long not-long is);
         }
       where
+        few : (thread : ℕ) → length (writes_of run.plan thread) ≤ WRITES
+        few thread = let long = count-writes run.plan thread in omega (arith, long, most)
+
+        not-long : fate.ProgramEnd ≢ fate.TooLong
+        not-long is = cc
+
         whole : AreWhole run.plan run.config end.marks
         whole =
             record {
-              threads = e.traced.marks_are.threads ∙ ap (λ (n : ℕ). range_with_len 1 n) all;
+              threads = e.outcome.marks_are.threads ∙ ap (λ (n : ℕ). range_with_len 1 n) all;
               whole = e.whole;
-              counted = e.traced.marks_are.counted;
+              counted = e.outcome.marks_are.counted;
             }
 
     -- It was closed before a thread made a write.
-    pub unwritten-end : (opened : ℕ) (marks : List Marks) (end : Fate) (l : L) → opened ≤ run.plan.threads → HasEnded side run sample (writes_of run.plan) opened 0 marks end l
+    pub unwritten-end : (opened : ℕ) (marks : List Marks) (end : Fate) (l : L) → run.plan.writes ≤ WRITES → opened ≤ run.plan.threads → HasEnded side run sample (writes_of run.plan) opened 0 marks end l
         → IsTrue (output.tells_taken old) → TookUnwritten run.info run.plan run.config (output.taken old) (output.taken (out l))
-    unwritten-end opened marks end l few e told =
+    unwritten-end opened marks end l most few e told =
         record {
           marks = marks;
-          unwritten = record { count = opened; few = few; threads = e.traced.marks_are.threads; whole = e.whole };
+          unwritten = record { count = opened; few = few; threads = e.outcome.marks_are.threads; whole = e.whole };
           took = by (is_fault end) refl;
         }
       where
+        few_writes : (thread : ℕ) → length (writes_of run.plan thread) ≤ WRITES
+        few_writes thread = let long = count-writes run.plan thread in omega (arith, long, most)
+
         by : (b : Bool) → is_fault end ≡ b
             → TookSome run.info run.plan run.config marks (output.taken old) (output.taken (out l)) ⊎ TookTrace run.info run.plan run.config marks (output.taken old) (output.taken (out l))
-        by true is = inl (inr (took-part e.before marks l e.begins (e.traced.part is) told))
-        by false is = inr (took-whole law e.before marks l e.begins (e.traced.whole is) told)
+        by true is = inl (inr (took-part laws e.before marks l e.begins e.outcome.part told))
+        by false is = inr (took-whole laws e.before marks l e.begins (e.outcome.whole is few_writes) told)
 
 -- ---- a session that was not begun
 
@@ -156,7 +160,7 @@ front-empty : (bytes rest : List ℕ) → bytes ++ rest ≡ [] → bytes ≡ []
 front-empty [] rest e = refl
 front-empty (b ∷ bytes) rest e = cc
 
-module _ {O : Type 0} (output : Sink O) (run : RunState) (loan : ℕ) (old new : O) (lent : IsLentTo output run loan old) where
+module _ {O : Type 0} (run : RunState) (laws : Laws run.plan run.config) (output : Sink O) (loan : ℕ) (old new : O) (lent : IsLentTo output run loan old) where
   -- The output took no stream, or a part of what begins one.
   pub start-some : TookStart (λ _. run.tells) output.taken [] run.info old new → IsTrue (output.tells_taken old) → TookSome run.info run.plan run.config [] (output.taken old) (output.taken new)
   start-some (inl part) told =
@@ -167,12 +171,8 @@ module _ {O : Type 0} (output : Sink O) (run : RunState) (loan : ℕ) (old new :
       let stream = part tells_so in
       inr
       (record {
-        entries = [];
-        stream = stream.0;
-        canonical = stream.2;
-        told = record { rising = record {}; in_place = record {}; alone = record {} };
         part = stream.1;
-        begins = stream.3;
+        trace = laws.parts run.info [] [] stream.1 stream.0 stream.2 stream.3 (record { rising = record {}; in_place = record {}; alone = record {} });
         took = stream.4 ∙ ap (λ (bytes : List ℕ). bytes ++ stream.1) (begins tells_so ∙ append-nil (output.taken old));
       })
 

@@ -3,6 +3,6 @@ pub mod Lists
 pub mod Hands
 pub mod Steps
 pub mod Ending
-pub mod Fresh
+pub mod Firsts
 pub mod Long
 pub mod Answering

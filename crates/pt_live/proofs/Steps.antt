@@ -1,10 +1,12 @@
 -- What holds of a run's session and its rows after each call.
-use Rattle.std.proofs.Common.{◌≡◌, ◌≢◌, ℕ, ◌+◌, ◌<◌, ◌≤◌, ⊎_elim, true, false, List, [], ◌∷◌, ◌++◌, Option, None, Some, length, refl, sym, ap, ◌∙◌, subst, arith}
-use Rattle.std.specs.Prelude.{◌==◌, if◌then◌else◌, nat_lt, Result, Ok, Err}
-use Rattle.std.specs.List.{AllByRecursion}
+use Rattle.std.proofs.Common.{◌≡◌, ◌≢◌, ℕ, ◌+◌, ◌-◌, ◌<◌, ◌≤◌, ◌⊎◌, ⊎_elim, true, false, List, [], ◌∷◌, ◌++◌, Option, None, Some, length, refl, sym, ap, ◌∙◌, subst, arith}
+use Rattle.std.specs.Prelude.{Bool, ◌==◌, if◌then◌else◌, nat_lt, Result, Ok, Err}
+use Rattle.std.specs.List.{range_with_len, AllByRecursion}
 use Rattle.std.proofs.lemmas.Option.{none-some}
 use Rattle.ep_defs.specs.declared.event.EventDef.{EventDef}
+use Rattle.ep_defs.specs.declared.session.Config.{Config}
 use Rattle.ep_defs.specs.declared.session.Marks.{Marks}
+use Rattle.ep_defs.specs.declared.session.TraceInfo.{TraceInfo}
 use Rattle.ep_defs.specs.declared.session.Write.{Write}
 use Rattle.ep_defs.specs.Entry.{Entry}
 use Rattle.ep_slot.specs.Hand.{HandState}
@@ -24,8 +26,8 @@ use Rattle.ep_stream.specs.Telling.{IsFaulty}
 use Rattle.ep_stream.proofs.Telling.{later_risen, risen_later}
 use Rattle.ep_live.proofs.Pushing.{same}
 use Rattle.ep_live.specs.RowSet.{LiveRowsState, expected_in, configured_in, out_in}
-use Rattle.ep_live_laws.specs.Tracing.{IsTracing}
-use Rattle.pt_live.specs.state.Open.{AreHands, HasTold, IsOpen, SaysFaults}
+use Rattle.ep_live_laws.specs.Calls.{TellsMore, TellsSame}
+use Rattle.pt_live.specs.state.Open.{AreHands, HasTold, IsOpen, SaysFaults, watch_of}
 use Rattle.pt_live.specs.state.Run.{RunState}
 use Rattle.pt_live.proofs.Hands.{hands-detached, hands-same, hands-swept}
 
@@ -75,7 +77,7 @@ marks-more P mark (m ∷ marks) here all =
 module _ {S : Type 0} (side : Sink S) (run : RunState) (events : List EventDef) (writes : ℕ → List Write) where
   -- The second session has told what the first has, and has its writer.
   pub told-by : (first second : ℕ) (old new : Session S)
-      → ((before : List ℕ) (told : List Entry) → IsTracing side.tells_taken side.taken before run.info events run.config writes first told old → IsTracing side.tells_taken side.taken before run.info events run.config writes second told new)
+      → ((before : List ℕ) → TellsSame side (watch_of run events writes before) (range_with_len 1 first) (range_with_len 1 second) old new)
       → writer_of new ≡ writer_of old → HasTold side run events writes first old → HasTold side run events writes second new
   told-by first second old new law same_writer t =
       record {
@@ -88,11 +90,10 @@ module _ {S : Type 0} (side : Sink S) (run : RunState) (events : List EventDef) 
 
   -- The second session has told some entries more.
   pub told-more : {A : Type 0} (opened : ℕ) (old new : Session S) (result : Result A Fault)
-      → ((before : List ℕ) (told : List Entry) → IsTracing side.tells_taken side.taken before run.info events run.config writes opened told old
-      → (more : List Entry) × IsTracing side.tells_taken side.taken before run.info events run.config writes opened (told ++ more) new)
+      → ((before : List ℕ) → TellsMore side (watch_of run events writes before) old new)
       → IsFaulty side.write_faults (writer_of old) (writer_of new) result → HasTold side run events writes opened old → HasTold side run events writes opened new
   told-more opened old new result law faulty t =
-      let after = law t.before t.told t.tracing in
+      let after = law t.before (range_with_len 1 opened) t.told t.tracing in
       record {
         before = t.before;
         begins = t.begins;

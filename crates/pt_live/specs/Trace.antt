@@ -5,18 +5,14 @@ use Rattle.ep_defs.specs.declared.session.Config.{Config}
 use Rattle.ep_defs.specs.declared.session.Marks.{Marks}
 use Rattle.ep_defs.specs.declared.session.TraceInfo.{TraceInfo}
 use Rattle.ep_defs.specs.declared.session.Write.{Write}
-use Rattle.ep_defs.specs.Entry.{Entry}
 use Rattle.ep_model.specs.History.{admitted_from}
 use Rattle.pt_io.specs.declared.sink.Sink.{Ghosts as Sink}
 use Rattle.pt_io.specs.Faults.{HasRisen}
-use Rattle.pt_io.specs.Taken.{IsPrefix}
-use Rattle.nt_write.specs.Canonical.{IsCanonical}
 use Rattle.nt_write.specs.declared.limits.TheConstants.{FRAMED_EVENTS}
 use Rattle.ep_guarded.specs.Tied.{AreCounted}
 use Rattle.ep_stream.specs.declared.session.Fate.{Fate}
 use Rattle.ep_stream.specs.declared.session.Fate.TheVariants as fate
-use Rattle.ep_live_laws.specs.Streams.{IsTraceOf}
-use Rattle.ep_live_laws.specs.Traced.{ArePart}
+use Rattle.ep_live_laws.specs.Streams.{IsPartOf, IsTraceOf}
 use Rattle.ep_live_laws.specs.Tracing.{is_fault}
 use Rattle.pt_load.specs.Sample.{nth, sample}
 use Rattle.pt_load.specs.declared.plan.Plan.{Plan}
@@ -87,12 +83,8 @@ pub record TookTrace (info : TraceInfo) (plan : Plan) (config : Config) (marks :
 
 -- Behind what it had, it took what begins the one stream of entries that tell a part of that.
 pub record TookPart (info : TraceInfo) (plan : Plan) (config : Config) (marks : List Marks) (old new : List ℕ) : Type 0 where
-  pub entries : List Entry
-  pub stream : List ℕ
-  pub canonical : IsCanonical info entries stream
-  pub told : ArePart sample config (writes_of plan) marks entries
   pub part : List ℕ
-  pub begins : IsPrefix part stream
+  pub trace : IsPartOf sample config (writes_of plan) info marks part
   pub took : new ≡ old ++ part
 
 -- It took a part of a stream, if anything.

@@ -1,5 +1,6 @@
 //! The one session of a run, from its opening to its end.
 ghost use Rattle.std.specs.Prelude.{◌≡◌, ℕ, ◌≤◌, [], Some, IfOk, OnErr};
+ghost use Rattle.ep_live.specs.RowSet.{life_at};
 ghost use Rattle.ep_stream.specs.Session.{opened_count, rest_of};
 ghost use Rattle.pt_live.specs.Trace.{rows_of};
 ghost use Rattle.pt_live.specs.state.Ended.{HasEnded, HasEndedUnwritten};
@@ -61,6 +62,7 @@ pub(crate) fn streamed<
     kit: Kit<'w, 'g, P>,
 ) -> (S, Result<TraceEnd, AllocError>)
     requires stands { rows.stands ≡ Some 0 }
+    requires lives { (row : ℕ) → life_at rows row ≡ 0 }
     requires none { opened_count session ≡ 0 }
     requires marks { (rest_of session).marks ≡ [] }
     requires is_open { IsOpen P.rows 0 0 rows session }

@@ -1,12 +1,13 @@
 //! What the calling thread does while the others write.
 ghost use Rattle.std.specs.Prelude.{◌≡◌, ℕ, ◌≤◌, Some};
 ghost use Rattle.std.specs.List.{AllByRecursion};
+ghost use Rattle.ep_live.specs.RowSet.{life_at};
 ghost use Rattle.ep_stream.specs.Session.{opened_count, rest_of};
 ghost use Rattle.pt_live.specs.Trace.{IsWhole};
 ghost use Rattle.pt_live.specs.state.Open.{HasTold, IsOpen};
 
 use crate::run::{Around, Run};
-use ep_live::{LiveRows, same_tests_have_the_same_stands};
+use ep_live::{LiveRows, same_tests_have_the_same_lives, same_tests_have_the_same_stands};
 use ep_live_laws::{
     a_call_that_takes_nothing_changes_no_trace, a_closed_row_is_traced, a_sweep_is_traced,
     an_opened_row_is_traced,
@@ -36,6 +37,7 @@ pub(crate) fn open_all<P: Run, R: Wait, S: Sink, C: Clock, G: Gate>(
 ) -> u32
     requires none { opened_count session.old ≡ 0 }
     requires stands { rows.old.stands ≡ Some 0 }
+    requires lives { (row : ℕ) → life_at rows.old row ≡ 0 }
     requires is_open { IsOpen P.rows 0 0 rows.old session.old }
     requires told { HasTold S.Sink P.run P.events P.writes 0 session.old }
     ensures within { result ≤ P.rows }
@@ -47,6 +49,7 @@ pub(crate) fn open_all<P: Run, R: Wait, S: Sink, C: Clock, G: Gate>(
     an_opened_row_is_traced::<S>();
     a_call_that_takes_nothing_changes_no_trace::<S>();
     same_tests_have_the_same_stands();
+    same_tests_have_the_same_lives();
     for place in 0..around.plan.threads {
         if session.attach(alloc, rows, place + 1).is_err() {
             return place;

@@ -1,9 +1,10 @@
 //! A run whose threads write while the stream of its one session goes to an output.
-ghost use Rattle.std.specs.Prelude.{◌≡◌, ◌+◌, ◌*◌, ◌<◌, ◌≤◌, IsTrue};
-ghost use Rattle.ep_defs.specs.declared.limits.TheConstants.{THREADS as MOST_THREADS, WRITES};
+ghost use Rattle.std.specs.Prelude.{◌≡◌, ◌+◌, ◌*◌, ◌<◌, ◌≤◌, Some, IfOk, IsTrue, replicate, vec_len};
+ghost use Rattle.ep_defs.specs.declared.limits.TheConstants.{SESSIONS, THREADS as MOST_THREADS, WRITES};
 ghost use Rattle.ep_defs.specs.Session.{is_valid_config};
+ghost use Rattle.ep_live.specs.Made.{AreHandTies};
 ghost use Rattle.pt_live.specs.Trace.{Traces, writes_of};
-ghost use Rattle.pt_live.specs.state.Open.{AreFresh};
+ghost use Rattle.pt_live.specs.state.Open.{AreFirst};
 ghost use Rattle.pt_live.specs.state.Run.{IsLentTo, IsRunOf, TracesOver, first_seat};
 
 use crate::kit::Kit;
@@ -13,11 +14,11 @@ use crate::session::{streamed, untold};
 use crate::streaming::SESSION;
 use ep_defs::{Config, Duplicate, EventDef, Items, MarkList, TraceInfo};
 use ep_guarded::{Agreed, Grant};
-use ep_live::{Live, LiveRows, ROW_TIES, Stands, slot_halves};
-use ep_live_laws::{a_session_starts_with_no_trace, a_traced_stream_is_found};
+use ep_live::{Live, LiveRows, ROW_TIES, Stands, free_slots};
+use ep_live_laws::{a_part_is_found, a_session_starts_with_no_trace, a_traced_stream_is_found};
 use ep_pool::{Pool, PoolSeat};
 use ep_stream::{Fate, Seat, Session};
-use ep_tie::Blank;
+use ep_tie::{Blank, Right};
 use nt_write::Fault;
 use pt_io::{Clock, Gate, Sink};
 use pt_load::laws::sample_events_are_valid;
@@ -152,12 +153,54 @@ fn run_named<
         events: live.events(),
         name: PhantomData,
     };
-    let halves = slot_halves(hands, SEAT.slot);
-    let stands = Stands::new(stands, 0);
-    let rows = LiveRows::new(rt, &live, SEAT.slot, grant, halves, seat, stands);
+    let rows = match first_rows(
+        alloc,
+        &around,
+        &live,
+        grant,
+        seat,
+        Stands::new(stands, 0),
+        hands,
+    ) {
+        Ok(rows) => rows,
+        Err(error) => {
+            *answer = Err(error);
+            return lent;
+        }
+    };
     let (lent, end) = run_over(alloc, &around, &live, rows, config, info, lent);
     *answer = end;
     lent
+}
+
+// The life in which each row is expected: its first one.
+fn first_lives(alloc: Global, rows: u32) -> Result<Vec<u32>, AllocError>
+    ensures count { IfOk result (λ lives. vec_len lives ≡ rows) }
+    ensures first { IfOk result (λ lives. lives.items ≡ replicate rows 0) }
+{
+    vec![in alloc; 0u32; rows as usize]
+}
+
+// The rows of the session's slot, on which none was open, each expected in its first life.
+fn first_rows<'r, 'g, P: Run, R: Wait, C, G>(
+    alloc: Global,
+    around: &Around<'r, P, R, C, G>,
+    live: &'r Live<'g, P>,
+    grant: &'g Grant,
+    seat: PoolSeat,
+    stands: Stands<'g, P>,
+    hands: Vec<Right<P, Agreed<'g>>>,
+) -> Result<LiveRows<'r, 'g, P, R>, AllocError>
+    requires seat { seat ≡ first_seat grant.now.pool (P.rows + 1) }
+    requires stands { stands ≡ Some 0 }
+    requires count { vec_len hands ≡ P.rows * SESSIONS }
+    requires hands { AreHandTies P.rows hands.items }
+    ensures { IfOk result (AreFirst P.rows) }
+{
+    let mut slots = free_slots(alloc, hands)?;
+    let free = slots.swap_remove(SEAT.slot as usize);
+    let lives = first_lives(alloc, live.threads())?;
+    Ok(LiveRows::new(around.rt, live, free, grant, seat, stands, lives))
 }
 
 // The run over rows that no thread and no session has used.
@@ -182,12 +225,13 @@ fn run_over<
     requires writes { P.writes ≡ writes_of P.run.plan }
     requires lent { IsLentTo O.Sink P.run lent.output.ghost_name lent.output.now }
     requires asked { (info.now ≡ P.run.info) × (config ≡ P.run.config) }
-    requires fresh { AreFresh P.rows rows }
+    requires first { AreFirst P.rows rows }
     ensures same { result.0.output.ghost_name ≡ lent.entry.output.ghost_name }
     ensures traces { TracesOver O.Sink P.run lent.entry.output.now result.0.output.now result.1 }
 {
     a_session_starts_with_no_trace::<RunOutput<'o, O, P>>();
     a_traced_stream_is_found();
+    a_part_is_found();
     let kit = match Kit::new(alloc, around, live) {
         Ok(kit) => kit,
         Err(error) => return (lent, Err(error)),

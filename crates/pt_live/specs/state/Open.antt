@@ -1,5 +1,6 @@
 -- What a run keeps of its session and its rows between two calls. All of it is this project's own.
 use Rattle.std.specs.Prelude.{◌≡◌, ◌≢◌, ℕ, ◌<◌, ◌≤◌, List, Option, None, Some, IsSome, IsTrue, length}
+use Rattle.std.specs.List.{range_with_len}
 use Rattle.ep_defs.specs.declared.session.Write.{Write}
 use Rattle.ep_defs.specs.declared.event.EventDef.{EventDef}
 use Rattle.ep_defs.specs.Entry.{Entry}
@@ -9,9 +10,8 @@ use Rattle.pt_io.specs.declared.sink.Sink.{Ghosts as Sink}
 use Rattle.pt_io.specs.Faults.{HasRisen}
 use Rattle.ep_stream.specs.declared.session.Session.{Session}
 use Rattle.ep_stream.specs.Session.{hand_on, rest_of, fault_of, sink_of, AreRowsOf}
-use Rattle.ep_live.specs.Made.{AreSlotTies}
-use Rattle.ep_live.specs.RowSet.{LiveRowsState, expected_in, configured_in, out_in}
-use Rattle.ep_live_laws.specs.Tracing.{IsTracing}
+use Rattle.ep_live.specs.RowSet.{LiveRowsState, life_at, expected_in, configured_in, out_in}
+use Rattle.ep_live_laws.specs.Tracing.{IsTracing, Watch}
 use Rattle.pt_live.specs.state.Run.{RunState}
 
 -- ---- the rows on which it is open
@@ -34,12 +34,13 @@ pub record IsOpen {S : Type 0} (rows low high : ℕ) (set : LiveRowsState) (sess
   pub no_hands : (row slot : ℕ) → slot ≢ 0 → expected_in set row slot ≡ None
   pub none_out : (slot : ℕ) → slot ≢ 0 → out_in set slot ≡ 0
 
--- No session was open on these rows, and no thread has made a write.
-pub record AreFresh (rows : ℕ) (set : LiveRowsState) : Type 0 where
+-- No session was open on these rows, no thread has made a write, and each row is expected in its first life.
+pub record AreFirst (rows : ℕ) (set : LiveRowsState) : Type 0 where
   pub count : length set.halves ≡ rows
-  pub ties : AreSlotTies rows 0 set.halves
-  pub taken : set.seat.taken ≡ 0
+  pub closed : (row slot : ℕ) → expected_in set row slot ≡ None
+  pub given : (slot : ℕ) → out_in set slot ≡ 0
   pub stands : set.stands ≡ Some 0
+  pub lives : (row : ℕ) → life_at set row ≡ 0
 
 -- ---- what it has told
 
@@ -48,11 +49,23 @@ pub record SaysFaults {S : Type 0} (faults : S → ℕ) (was : ℕ) (session : S
   pub fault : fault_of session ≡ Some WriteFault → HasRisen was (faults (sink_of session))
   pub later : was ≤ faults (sink_of session)
 
+-- What the run's session is a session of, behind these bytes: the row with a number serves the thread with this number.
+abbrev pub watch_of : RunState → List EventDef → (ℕ → List Write) → List ℕ → Watch
+watch_of run events writes before =
+    record {
+      events = events;
+      writes = writes;
+      home = λ thread. thread;
+      config = run.config;
+      info = run.info;
+      before = before;
+    }
+
 -- The session of a run has told something of the threads of so many rows, behind what the output had taken, and says its
 -- faults.
 pub record HasTold {S : Type 0} (sink : Sink S) (run : RunState) (events : List EventDef) (writes : ℕ → List Write) (opened : ℕ) (session : Session S) : Type 0 where
   pub before : List ℕ
   pub begins : IsTrue run.tells → before ≡ run.before
   pub told : List Entry
-  pub tracing : IsTracing sink.tells_taken sink.taken before run.info events run.config writes opened told session
+  pub tracing : IsTracing sink (watch_of run events writes before) (range_with_len 1 opened) told session
   pub says : SaysFaults sink.write_faults run.faults session

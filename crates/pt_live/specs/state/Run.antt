@@ -59,4 +59,4 @@ TracesOver sink run = Traces sink run.info run.plan run.config
 
 -- The first seat of a pool has all of so many shares.
 abbrev pub first_seat : SharedPool → ℕ → SeatState
-first_seat pool seats = record { pool = pool.pool; total = pool.total; seats = seats; share = seats; taken = 0; given = 0 }
+first_seat pool seats = record { pool = pool.pool; total = pool.total; seats = seats; share = seats; taken = 0; given = 0; dry = 0 }

@@ -1,7 +1,8 @@
 use Rattle.std.proofs.Common.{◌∙◌, ◌+◌, None, refl, sym, ap, subst, arith}
-use Rattle.std.specs.List.{AllByRecursion}
+use Rattle.std.specs.List.{range_with_len, AllByRecursion}
 use Rattle.ep_stream.specs.Session.{Rest, rest_of}
 use Rattle.pt_live.specs.Trace.{IsWhole}
+use Rattle.pt_live.specs.state.Open.{watch_of}
 use Rattle.pt_live.proofs.Steps.{detached-weaker, marks-more, open-closed, told-by, told-more}
 use Rattle.pt_live.proofs.streaming.close_all.Goals as goal
 
@@ -14,12 +15,10 @@ loop-place-preserved g c =
     let inv = c.loop-place.invariant in
     let d = c.detach.ensures.detached in
     let run = g.P.Run.run in
-    let events = g.P.Program.events in
-    let writes = g.P.Program.writes in
     let opened = c.args.opened in
     record {
-      stands = c.same_tests_have_the_same_stands.ensures c.detach.new.rows c.give.new.rows c.give.ensures.set.hands
-          ∙ c.same_tests_have_the_same_stands.ensures c.loop-place.rows c.detach.new.rows c.detach.ensures.set.hands ∙ inv.stands;
+      stands = c.same_tests_have_the_same_stands.ensures g.P.Program.rows c.detach.new.rows c.give.new.rows c.give.ensures.set.hands
+          ∙ c.same_tests_have_the_same_stands.ensures g.P.Program.rows c.loop-place.rows c.detach.new.rows c.detach.ensures.set.hands ∙ inv.stands;
       is_open =
           open-closed g.P.Program.rows place opened _ _ c.loop-place.rows c.detach.new.rows c.give.new.rows old mid new inv.is_open (omega (arith, c.loop-place-test.true))
           d.hands c.give.ensures.hands c.give.ensures.rows c.detach.ensures.set.count_is c.give.ensures.set.count_is
@@ -32,13 +31,21 @@ loop-place-preserved g c =
           (inv.marks to is all));
       told =
           told-by g.S.Sink run g.P.Program.events g.P.Program.writes opened opened mid new
-          (λ before told t. c.a_call_that_takes_nothing_changes_no_trace.ensures events writes before run.info run.config opened told mid new 0 t c.give.ensures.hands c.give.ensures.rest c.give.ensures.writer)
+          (λ before. c.a_call_that_takes_nothing_changes_no_trace.ensures (watch_of run g.P.Program.events g.P.Program.writes before) (range_with_len 1 opened) mid new
+          (record { in_hand = 0; hands = c.give.ensures.hands; rest = c.give.ensures.rest; writer = c.give.ensures.writer }))
           c.give.ensures.writer
           (told-more g.S.Sink run g.P.Program.events g.P.Program.writes opened old mid c.detach.result
-          (λ before told t. c.a_closed_row_is_traced.ensures events c.args.around.now.events.now writes before run.info run.config opened told (place + 1) None None old mid c.detach.result
-          (c.args.around.now.events_are ∙ sym c.args.around.now.is_run.events_are) t
-          (detached-weaker _ _ _ _ _ c.args.around.now.events.now (place + 1) old mid (λ marks passed. passed.0) d)
-          c.detach.ensures.faulty)
+          (λ before. c.a_closed_row_is_traced.ensures (watch_of run g.P.Program.events g.P.Program.writes before) old mid
+          (record {
+            given = c.args.around.now.events.now;
+            row = place + 1;
+            told_old = None;
+            told_new = None;
+            result = c.detach.result;
+            events = c.args.around.now.events_are ∙ sym c.args.around.now.is_run.events_are;
+            detached = detached-weaker _ _ _ _ _ c.args.around.now.events.now (place + 1) old mid (λ marks passed. passed.0) d;
+            faulty = c.detach.ensures.faulty;
+          }))
           c.detach.ensures.faulty
           inv.told);
     }

@@ -1,7 +1,9 @@
 use Rattle.std.proofs.Common.{◌≡◌, ◌∙◌, ℕ, ◌+◌, refl, ap, subst, arith, rules}
 use Rattle.ep_stream.specs.Session.{Attached, SameHands, Rest, hand_on, opened_count, rest_of, WasOpened}
 use Rattle.ep_live.specs.RowSet.{tests_hand_in}
-use Rattle.pt_live.specs.state.Open.{HasTold, IsOpen}
+use Rattle.pt_live.specs.state.Open.{HasTold, IsOpen, watch_of}
+use Rattle.std.specs.List.{range_with_len}
+use Rattle.pt_live.proofs.Firsts.{next-apart, opens-next, served}
 use Rattle.pt_live.proofs.Hands.{hands-attached, hands-same}
 use Rattle.pt_live.proofs.Steps.{attached-weaker, open-after, told-by}
 use Rattle.pt_live.proofs.streaming.open_all.Goals as goal
@@ -9,8 +11,10 @@ use Rattle.pt_live.proofs.streaming.open_all.Goals as goal
 pub attach-requires-clause-new : goal.attach-requires-clause-new
 attach-requires-clause-new g c hand tested was =
     let t = c.loop-place.invariant.told in
-    c.an_opened_row_is_traced.ensures.fresh g.P.Program.events g.P.Program.writes t.before g.P.Run.run.info g.P.Run.run.config c.loop-place.place t.told c.loop-place.session t.tracing
-    (subst (λ (n : ℕ). WasOpened {S = g.row.S.Denot} c.loop-place.session n) tested.0 was)
+    let thread = tested.0 ∙ served g.P.Program.rows c.loop-place.rows c.loop-place.place c.loop-place.invariant.lives in
+    next-apart c.loop-place.place
+    (c.an_opened_row_is_traced.ensures.fresh (watch_of g.P.Run.run g.P.Program.events g.P.Program.writes t.before) (range_with_len 1 c.loop-place.place) t.told (c.loop-place.place + 1) c.loop-place.session t.tracing
+    (subst (λ (n : ℕ). WasOpened {S = g.row.S.Denot} c.loop-place.session n) thread was))
 
 pub returns-then-is_err-clause-is_open : goal.returns-then-is_err-clause-is_open
 returns-then-is_err-clause-is_open g c =
@@ -32,7 +36,8 @@ returns-then-is_err-clause-told g c =
     let same : SameHands {S = g.row.S.Denot} c.loop-place.session c.attach.new.self = search rules in
     let rest : rest_of {S = g.row.S.Denot} c.attach.new.self ≡ rest_of {S = g.row.S.Denot} c.loop-place.session = search rules in
     told-by g.S.Sink run g.P.Program.events g.P.Program.writes place place old new
-    (λ before told t. c.a_call_that_takes_nothing_changes_no_trace.ensures g.P.Program.events g.P.Program.writes before run.info run.config place told old new (rest_of old).in_hand t same rest c.attach.ensures.writer)
+    (λ before. c.a_call_that_takes_nothing_changes_no_trace.ensures (watch_of run g.P.Program.events g.P.Program.writes before) (range_with_len 1 place) old new
+    (record { in_hand = (rest_of old).in_hand; hands = same; rest = rest; writer = c.attach.ensures.writer }))
     c.attach.ensures.writer
     c.loop-place.invariant.told
 
@@ -43,11 +48,12 @@ loop-place-preserved g c =
     let place = c.loop-place.place in
     let inv = c.loop-place.invariant in
     let run = g.P.Run.run in
-    let attached : Attached {S = g.row.S.Denot} (tests_hand_in c.loop-place.rows (c.loop-place.place + 1)) (c.loop-place.place + 1) c.loop-place.session c.attach.new.self = search rules in
+    let attached : Attached {S = g.row.S.Denot} (tests_hand_in g.P.Program.rows c.loop-place.rows (c.loop-place.place + 1)) (c.loop-place.place + 1) c.loop-place.session c.attach.new.self = search rules in
     let counted : opened_count {S = g.row.S.Denot} c.attach.new.self ≡ opened_count {S = g.row.S.Denot} c.loop-place.session + 1 = search rules in
     record {
       counted = counted ∙ ap (λ (n : ℕ). n + 1) inv.counted;
-      stands = c.same_tests_have_the_same_stands.ensures c.loop-place.rows c.attach.new.rows c.attach.ensures.set.hands ∙ inv.stands;
+      stands = c.same_tests_have_the_same_stands.ensures g.P.Program.rows c.loop-place.rows c.attach.new.rows c.attach.ensures.set.hands ∙ inv.stands;
+      lives = λ row. c.same_tests_have_the_same_lives.ensures g.P.Program.rows c.loop-place.rows c.attach.new.rows (omega (arith, c.args.around.now.is_run.rows_are, c.args.around.now.is_run.some)) c.attach.ensures.set.hands row ∙ inv.lives row;
       is_open =
           open-after g.P.Program.rows 0 place 0 (place + 1) _ c.loop-place.rows c.attach.new.rows old new inv.is_open (omega arith)
           (hands-attached place attached.hand (hand_on old) (hand_on new) inv.is_open.hands (attached.tested.1 0 inv.stands) attached.hands)
@@ -55,9 +61,15 @@ loop-place-preserved g c =
       marks = ap (λ (r : Rest). r.marks) attached.rest ∙ inv.marks;
       told =
           told-by g.S.Sink run g.P.Program.events g.P.Program.writes place (place + 1) old new
-          (λ before told t. c.an_opened_row_is_traced.ensures.traced g.P.Program.events g.P.Program.writes before run.info run.config place told old new t
-          (attached-weaker (tests_hand_in c.loop-place.rows (place + 1)) (λ hand. hand.thread ≡ place + 1) (place + 1) old new (λ hand passed. passed.0) attached)
-          c.attach.ensures.writer)
+          (λ before. opens-next g.S.Sink (watch_of run g.P.Program.events g.P.Program.writes before) place old new
+          (c.an_opened_row_is_traced.ensures.traced (watch_of run g.P.Program.events g.P.Program.writes before) (range_with_len 1 place) (place + 1) old new
+          (record {
+            fresh = next-apart place;
+            shut = inv.is_open.hands.above (place + 1) (omega arith);
+            attached = attached-weaker (tests_hand_in g.P.Program.rows c.loop-place.rows (place + 1)) (λ hand. hand.thread ≡ place + 1) (place + 1) old new
+                (λ hand passed. passed.0 ∙ served g.P.Program.rows c.loop-place.rows place inv.lives) attached;
+            writer = c.attach.ensures.writer;
+          })))
           c.attach.ensures.writer
           inv.told;
     }

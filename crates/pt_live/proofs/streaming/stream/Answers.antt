@@ -1,5 +1,6 @@
 use Rattle.std.proofs.Common.{◌∙◌, None, refl, sym, ap}
 use Rattle.ep_stream.specs.Session.{Rest}
+use Rattle.pt_live.specs.state.Open.{watch_of}
 use Rattle.pt_live.proofs.Steps.{open-swept, told-more}
 use Rattle.pt_live.proofs.streaming.stream.Goals as goal
 
@@ -11,8 +12,18 @@ returns-in_default-clause-is_open g c =
 pub returns-in_default-clause-told : goal.returns-in_default-clause-told
 returns-in_default-clause-told g c =
     told-more g.S.Sink g.P.Run.run g.P.Program.events g.P.Program.writes g.P.Program.rows c.loop.session c.sweep.new.self c.sweep.result
-    (λ before told t. c.a_sweep_is_traced.ensures g.P.Program.events c.args.around.now.events.now g.P.Program.writes before g.P.Run.run.info g.P.Run.run.config g.P.Program.rows told c.now-stamp.result _ None None c.loop.session c.sweep.new.self c.sweep.result
-    (c.args.around.now.events_are ∙ sym c.args.around.now.is_run.events_are) t c.sweep.ensures.swept c.sweep.ensures.faulty)
+    (λ before. c.a_sweep_is_traced.ensures (watch_of g.P.Run.run g.P.Program.events g.P.Program.writes before) c.loop.session c.sweep.new.self
+    (record {
+      given = c.args.around.now.events.now;
+      stamp = c.now-stamp.result;
+      count = _;
+      told_old = None;
+      told_new = None;
+      result = c.sweep.result;
+      events = c.args.around.now.events_are ∙ sym c.args.around.now.is_run.events_are;
+      swept = c.sweep.ensures.swept;
+      faulty = c.sweep.ensures.faulty;
+    }))
     c.sweep.ensures.faulty
     c.loop.invariant.told
 
@@ -24,8 +35,18 @@ returns-then-last-clause-is_open g c =
 pub returns-then-last-clause-told : goal.returns-then-last-clause-told
 returns-then-last-clause-told g c =
     told-more g.S.Sink g.P.Run.run g.P.Program.events g.P.Program.writes g.P.Program.rows c.loop.session c.sweep.new.self c.sweep.result
-    (λ before told t. c.a_sweep_is_traced.ensures g.P.Program.events c.args.around.now.events.now g.P.Program.writes before g.P.Run.run.info g.P.Run.run.config g.P.Program.rows told c.now-stamp.result _ None None c.loop.session c.sweep.new.self c.sweep.result
-    (c.args.around.now.events_are ∙ sym c.args.around.now.is_run.events_are) t c.sweep.ensures.swept c.sweep.ensures.faulty)
+    (λ before. c.a_sweep_is_traced.ensures (watch_of g.P.Run.run g.P.Program.events g.P.Program.writes before) c.loop.session c.sweep.new.self
+    (record {
+      given = c.args.around.now.events.now;
+      stamp = c.now-stamp.result;
+      count = _;
+      told_old = None;
+      told_new = None;
+      result = c.sweep.result;
+      events = c.args.around.now.events_are ∙ sym c.args.around.now.is_run.events_are;
+      swept = c.sweep.ensures.swept;
+      faulty = c.sweep.ensures.faulty;
+    }))
     c.sweep.ensures.faulty
     c.loop.invariant.told
 
@@ -38,8 +59,18 @@ loop-preserved-then-taken-eq0 g c =
       marks = ap (λ (r : Rest). r.marks) c.sweep.ensures.swept.rest ∙ c.loop.invariant.marks;
       told =
           told-more g.S.Sink g.P.Run.run g.P.Program.events g.P.Program.writes g.P.Program.rows c.loop.session c.sweep.new.self c.sweep.result
-          (λ before told t. c.a_sweep_is_traced.ensures g.P.Program.events c.args.around.now.events.now g.P.Program.writes before g.P.Run.run.info g.P.Run.run.config g.P.Program.rows told c.now-stamp.result _ None None c.loop.session c.sweep.new.self c.sweep.result
-          (c.args.around.now.events_are ∙ sym c.args.around.now.is_run.events_are) t c.sweep.ensures.swept c.sweep.ensures.faulty)
+          (λ before. c.a_sweep_is_traced.ensures (watch_of g.P.Run.run g.P.Program.events g.P.Program.writes before) c.loop.session c.sweep.new.self
+          (record {
+            given = c.args.around.now.events.now;
+            stamp = c.now-stamp.result;
+            count = _;
+            told_old = None;
+            told_new = None;
+            result = c.sweep.result;
+            events = c.args.around.now.events_are ∙ sym c.args.around.now.is_run.events_are;
+            swept = c.sweep.ensures.swept;
+            faulty = c.sweep.ensures.faulty;
+          }))
           c.sweep.ensures.faulty
           c.loop.invariant.told;
     }
@@ -53,8 +84,18 @@ loop-preserved g c =
       marks = ap (λ (r : Rest). r.marks) c.sweep.ensures.swept.rest ∙ c.loop.invariant.marks;
       told =
           told-more g.S.Sink g.P.Run.run g.P.Program.events g.P.Program.writes g.P.Program.rows c.loop.session c.sweep.new.self c.sweep.result
-          (λ before told t. c.a_sweep_is_traced.ensures g.P.Program.events c.args.around.now.events.now g.P.Program.writes before g.P.Run.run.info g.P.Run.run.config g.P.Program.rows told c.now-stamp.result _ None None c.loop.session c.sweep.new.self c.sweep.result
-          (c.args.around.now.events_are ∙ sym c.args.around.now.is_run.events_are) t c.sweep.ensures.swept c.sweep.ensures.faulty)
+          (λ before. c.a_sweep_is_traced.ensures (watch_of g.P.Run.run g.P.Program.events g.P.Program.writes before) c.loop.session c.sweep.new.self
+          (record {
+            given = c.args.around.now.events.now;
+            stamp = c.now-stamp.result;
+            count = _;
+            told_old = None;
+            told_new = None;
+            result = c.sweep.result;
+            events = c.args.around.now.events_are ∙ sym c.args.around.now.is_run.events_are;
+            swept = c.sweep.ensures.swept;
+            faulty = c.sweep.ensures.faulty;
+          }))
           c.sweep.ensures.faulty
           c.loop.invariant.told;
     }

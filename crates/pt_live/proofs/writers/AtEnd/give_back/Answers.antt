@@ -1,4 +1,4 @@
-use Rattle.std.proofs.Common.{◌≡◌, ◌∙◌, ℕ, ◌+◌, List, [], ◌∷◌, ◌++◌, Some, length, refl, sym, ap, subst, arith, length-append}
+use Rattle.std.proofs.Common.{◌≡◌, ◌∙◌, ℕ, ◌+◌, ◌<◌, List, [], ◌∷◌, ◌++◌, Some, length, refl, sym, ap, subst, arith, length-append}
 use Rattle.std.specs.Prelude.{map, slice_get}
 use Rattle.std.specs.List.{range_with_len}
 use Rattle.std.proofs.lemmas.Option.{slice_get_read}
@@ -11,7 +11,7 @@ use Rattle.ep_guarded.specs.Tied.{stand_in}
 use Rattle.ep_live.specs.Made.{IsStand}
 use Rattle.ep_live.proofs.Pushing.{each-push}
 use Rattle.pt_load.specs.declared.plan.Plan.{Plan}
-use Rattle.pt_live.specs.state.Writers.{WriterState}
+use Rattle.pt_live.specs.state.Writers.{StandsAt, WriterState}
 use Rattle.pt_live.proofs.Load.{row-of, rows-more}
 use Rattle.pt_live.proofs.writers.AtEnd.give_back.Goals as goal
 
