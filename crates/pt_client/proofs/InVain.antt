@@ -3,7 +3,7 @@ use Rattle.std.proofs.Common.{◌≡◌, ℕ, List, Ok, Err, refl, sym, ap, subs
 use Rattle.std.specs.Prelude.{◌≢◌}
 use Rattle.ipc_body.specs.Reply.{reply_of}
 use Rattle.ipc_body.specs.declared.reply.Reply.TheVariants as replies
-use Rattle.ipc_call.specs.Own.{own_bytes}
+use Rattle.ipc_take.specs.Own.{own_bytes}
 use Rattle.ipc_call.specs.declared.fault.CallFault.{CallFault}
 use Rattle.ipc_call.specs.declared.fault.CallFault.TheVariants as faults
 use Rattle.pt_io.specs.declared.sink.Sink.{Ghosts as Sink}
