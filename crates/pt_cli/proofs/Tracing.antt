@@ -2,7 +2,6 @@
 use Rattle.std.proofs.Common.{◌≡◌, ℕ, ◌≤◌, refl, sym, ap, ◌∙◌, inl, inr, subst, arith}
 use Rattle.std.specs.Prelude.{true}
 use Rattle.ep_defs.specs.Session.{standard_info_of}
-use Rattle.ep_live_laws.specs.Tracing.{is_fault}
 use Rattle.ep_stream.specs.declared.session.Fate.{Fate}
 use Rattle.ep_stream.specs.declared.session.Fate.TheVariants as fates
 use Rattle.pt_io.specs.declared.sink.Sink.{Ghosts as Sink}
@@ -40,7 +39,7 @@ traces-to sink asked old new run fates.ProgramEnd end fate_is is traced =
 traces-to sink asked old new run fates.LinkFault end fate_is is traced =
     record {
       done = λ other. absurd (cc);
-      part = λ _. traced.part (ap is_fault fate_is);
+      part = λ _. traced.part (rw fate_is refl);
       memory = λ other. absurd (cc);
       written = λ _. traced.rows;
       whole = λ either. elim either [
@@ -60,7 +59,7 @@ traces-to sink asked old new run fates.TooLong end fate_is is traced =
     let long = traced.too_long fate_is in
     record {
       done = λ other. absurd (cc);
-      part = λ _. traced.part (ap is_fault fate_is);
+      part = λ _. traced.part (rw fate_is refl);
       memory = λ other. absurd (cc);
       written = λ _. traced.rows;
       whole = λ _. elim traced.marks [
@@ -83,7 +82,7 @@ traces-to sink asked old new run fates.OutOfMemory end fate_is is traced =
         | inl other ↦ absurd (cc)
         | inr other ↦ absurd (cc)
       ];
-      memory = λ _ tells. inl (traced.part (ap is_fault fate_is) tells);
+      memory = λ _ tells. inl (traced.part (rw fate_is refl) tells);
       written = λ other. absurd (other is);
       whole = λ either. elim either [
         | inl other ↦ absurd (cc)

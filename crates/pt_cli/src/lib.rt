@@ -12,16 +12,16 @@
 
 mod ends;
 pub mod limits;
-mod waitless;
 mod top;
 mod trace_words;
 mod traced;
+mod waitless;
 mod words;
 
 pub use ends::{Finished, Plain};
-pub use waitless::plain;
 pub use top::tracepipe;
 pub use trace_words::Asked;
+pub use waitless::plain;
 pub use words::Command;
 
 #[cfg(test)]

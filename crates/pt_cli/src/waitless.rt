@@ -50,12 +50,7 @@ pub fn plain<I: Source, O: Sink>(
 }
 
 // How such words end.
-fn answer<I: Source, O: Sink>(
-    alloc: Global,
-    words: &[String],
-    input: &mut I,
-    output: &mut O,
-) -> End
+fn answer<I: Source, O: Sink>(alloc: Global, words: &[String], input: &mut I, output: &mut O) -> End
     ensures comes { PlainComesTo I.Source O.Sink (meant (map string_bytes words.now)) input.old input.new output.old output.new result }
     ensures unread { reads_input (meant (map string_bytes words.now)) ≡ false → input.new ≡ input.old }
 {

@@ -6,11 +6,11 @@ ghost use Rattle.pt_gen.specs.Schedule.{generated};
 ghost use Rattle.pt_gen.specs.declared.limits.TheConstants.{MOST_WRITES};
 ghost use Rattle.pt_load.specs.Sample.{sample};
 
+use crate::Gen;
+use crate::laws::a_schedule_can_be_made;
 use crate::words::Asked;
 use ep_core::{Machine, StepFault};
 use ep_defs::standard_info;
-use crate::Gen;
-use crate::laws::a_schedule_can_be_made;
 use pt_load::laws::sample_events_are_valid;
 use pt_load::sample_events;
 use std::alloc::{AllocError, Global};

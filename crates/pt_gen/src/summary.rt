@@ -5,12 +5,12 @@ ghost use Rattle.pt_gen.specs.declared.limits.TheConstants.{MOST_WRITES};
 ghost use Rattle.pt_gen.specs.Summary.{counts_of, session_line, summary_text};
 ghost use Rattle.pt_gen.specs.state.Counted.{counted};
 
+use crate::laws::a_schedule_can_be_made;
+use crate::limits::{NARROW, WIDE};
 use crate::run::run;
 use crate::words::Asked;
 use ep_core::Machine;
 use ep_defs::Marks;
-use crate::laws::a_schedule_can_be_made;
-use crate::limits::{NARROW, WIDE};
 use ep_model::laws::finished_sessions_are_faithful;
 use pt_print::{put_end, put_number, put_word};
 use std::alloc::{AllocError, Global};

@@ -18,12 +18,7 @@ use std::alloc::Global;
 
 /// Reads a schedule from `input` to its end, and writes the stream of the session to `output`, or one error line, in one
 /// write. Nothing is written before the input was read.
-pub fn replay<I: Source, O: Sink>(
-    alloc: Global,
-    session: u32,
-    input: &mut I,
-    output: &mut O,
-) -> End
+pub fn replay<I: Source, O: Sink>(alloc: Global, session: u32, input: &mut I, output: &mut O) -> End
     ensures { Replays I.Source O.Sink session input.old input.new output.old output.new result }
 {
     a_text_has_one_outcome();

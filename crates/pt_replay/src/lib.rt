@@ -15,9 +15,9 @@ mod command;
 mod errors;
 pub mod laws;
 mod schedule;
-mod text;
 #[cfg(test)]
 mod tests;
+mod text;
 
 pub use command::replay;
 pub use errors::{Reason, Refusal};

@@ -418,12 +418,7 @@ fn each_failed_read_ends_the_run(rt: HostRuntime) -> Result<(), Fail> {
 /// The run whose first write fails.
 fn run_unwritten(alloc: Global, text: &str) -> Result<Run, Fail> {
     let fails = vec![in alloc; 1]?;
-    run_over(
-        alloc,
-        1,
-        source(alloc, text, 4096)?,
-        MemSink::new(fails),
-    )
+    run_over(alloc, 1, source(alloc, text, 4096)?, MemSink::new(fails))
 }
 
 #[test]

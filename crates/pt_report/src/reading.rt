@@ -7,11 +7,11 @@ ghost use Rattle.nt_read.specs.Reading as reading;
 ghost use Rattle.pt_report.specs.state.Read.{IsChecked, HasRead, IsOutcome, used};
 
 use crate::errors::{Flaw, Refusal};
+use crate::report::Report;
 use ep_defs::Item;
 use nt_check::{CheckFault, CheckKind};
 use nt_read::{ReadFault, TraceReader};
 use pt_command::Reads;
-use crate::report::Report;
 use std::alloc::{AllocError, Global};
 
 /// The first item that can't stand where it does.

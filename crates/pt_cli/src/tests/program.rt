@@ -9,9 +9,8 @@ use std::process::Abort;
 use std::sync::Wait;
 use std::sync::atomic::{AtomicBool, Ordering};
 use std::test::Fail;
-use std::thread;
 use std::thread::Threads;
-use std::time;
+use std::{thread, time};
 
 /// How often a gate looks before it gives up.
 const LOOKS: u32 = 10_000_000;

@@ -58,10 +58,7 @@ fn other_words_are_refused(rt: HostRuntime) -> Result<(), Fail> {
 const GOOD_WORDS: [(&[&str], &str); 7] = [
     (&["replay"], "error: end: NotFinished 1\n"),
     (&["replay", "--session=1"], "error: end: NotFinished 1\n"),
-    (
-        &["replay", "--session", "2"],
-        "error: end: NotFinished 2\n",
-    ),
+    (&["replay", "--session", "2"], "error: end: NotFinished 2\n"),
     (
         &["replay", "--session", "02"],
         "error: end: NotFinished 2\n",

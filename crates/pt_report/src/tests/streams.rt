@@ -100,7 +100,9 @@ fn a_changed_byte_is_named_with_its_place(rt: HostRuntime) -> Result<(), Fail> {
 fn each_read_and_the_write_fail(rt: HostRuntime) -> Result<(), Fail> {
     for read in 1..=6 {
         let failed = run_report(rt.alloc(), STREAM, 64, read, 0)?;
-        assert!(rt; failed.status == status::READ_FAULT && failed.at == 0 && failed.written.is_empty());
+        assert!(rt;
+            failed.status == status::READ_FAULT && failed.at == 0 && failed.written.is_empty()
+        );
     }
     let failed = run_report(rt.alloc(), STREAM, 64, 7, 1)?;
     assert!(rt; failed.status == status::WRITE_FAULT && failed.at == 0);

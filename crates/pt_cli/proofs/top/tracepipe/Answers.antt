@@ -1,7 +1,7 @@
 -- What the command comes to that the words mean.
 use Rattle.std.proofs.Common.{◌≡◌, Option, subst, ◌∙◌}
 use Rattle.pt_cli.specs.declared.words.Command.{Command}
-use Rattle.pt_cli.specs.Program.{HasFaults}
+use Rattle.pt_cli.specs.Program.{Around, HasFaults}
 use Rattle.pt_cli.proofs.Causes.{comes-faults}
 use Rattle.pt_cli.proofs.top.tracepipe.Goals as goal
 
@@ -28,4 +28,17 @@ returns-in-Ok-clause-faults g c =
     let comes = c.carry_out.ensures.comes in
     let Faults : Option Command → Type 0 =
     λ asked. HasFaults g.I.Source g.O.Sink asked c.args.input.now c.carry_out.new.input c.args.output.now c.carry_out.new.output comes.0 in
-    (comes.0, comes.1, subst Faults c.in-Ok.ensures.meant (comes-faults g.I.Source g.O.Sink g.K.Caller g.K.Link.Source g.K.Link.Sink c.in-Ok.command _ comes.0 comes.2 c.carry_out.ensures.alone.unread))
+    let result = c.carry_out.result in
+    let around : Around g.row.I.Denot g.row.O.Denot g.row.K.Denot g.row.K-Link.Denot =
+    record {
+      input_old = c.args.input.now;
+      input_new = c.carry_out.new.input;
+      output_old = c.args.output.now;
+      output_new = c.carry_out.new.output;
+      caller_old = c.args.caller.now;
+      caller_new = c.carry_out.new.caller;
+      peer = result.peer;
+      rows = result.rows.items;
+      marks = result.marks;
+    } in
+    (comes.0, comes.1, subst Faults c.in-Ok.ensures.meant (comes-faults g.I.Source g.O.Sink g.K.Caller g.K.Link.Source g.K.Link.Sink c.in-Ok.command around comes.0 comes.2 c.carry_out.ensures.alone.unread))

@@ -21,8 +21,8 @@ new-requires-clause-valid c = rw c.in_ok-sample_events.ensures c.sample_events_a
 pub new-requires-clause-distinct : goal.new-requires-clause-distinct
 new-requires-clause-distinct c = rw c.in_ok-sample_events.ensures c.sample_events_are_valid.ensures.distinct
 
-pub loop-step-init : goal.loop-step-init
-loop-step-init c =
+pub loop-machine-init : goal.loop-machine-init
+loop-machine-init c =
     record {
       past = [];
       follows = rw (← c.in_ok-sample_events.ensures, ← c.standard_info.ensures) c.in_ok-machine.ensures.fresh;
@@ -31,41 +31,41 @@ loop-step-init c =
 
 pub step-requires : goal.step-requires
 step-requires c =
-    let before = c.loop-step.invariant in
+    let before = c.loop-machine.invariant in
     let all = generated c.args.asked.seed c.args.asked.writes in
     record {
-      few = omega (arith, before.follows.count, made_so_far all before.past c.loop-step.steps before.whole, c.a_schedule_can_be_made.ensures.short c.args.asked.seed c.args.asked.writes, c.requires.few);
+      few = omega (arith, before.follows.count, made_so_far all before.past c.loop-machine.steps before.whole, c.a_schedule_can_be_made.ensures.short c.args.asked.seed c.args.asked.writes, c.requires.few);
     }
 
-pub loop-step-smaller : goal.loop-step-smaller
-loop-step-smaller c =
-    let first = given_some c.loop-step.steps c.in_ok-step.field-0 c.next.new.self c.in-Some.step c.in_ok-step.ensures.given c.in-Some.is in
+pub loop-machine-smaller : goal.loop-machine-smaller
+loop-machine-smaller c =
+    let first = given_some c.loop-machine.steps c.in_ok-step.field-0 c.next.new.self c.in-Some.step c.in_ok-step.ensures.given c.in-Some.is in
     let count = ap (λ (xs : List Step). length xs) first in
     omega (arith, count)
 
-pub loop-step-preserved : goal.loop-step-preserved
-loop-step-preserved c =
-    let before = c.loop-step.invariant in
-    let first = given_some c.loop-step.steps c.in_ok-step.field-0 c.next.new.self c.in-Some.step c.in_ok-step.ensures.given c.in-Some.is in
+pub loop-machine-preserved : goal.loop-machine-preserved
+loop-machine-preserved c =
+    let before = c.loop-machine.invariant in
+    let first = given_some c.loop-machine.steps c.in_ok-step.field-0 c.next.new.self c.in-Some.step c.in_ok-step.ensures.given c.in-Some.is in
     record {
       past = c.in-Some.step ∷ before.past;
       follows = (c.in-Ok.ensures.made sample (standard_info_of 1 1) before.past before.follows).1;
-      whole = one_more (generated c.args.asked.seed c.args.asked.writes) before.past c.in-Some.step c.loop-step.steps c.next.new.self before.whole first;
+      whole = one_more (generated c.args.asked.seed c.args.asked.writes) before.past c.in-Some.step c.loop-machine.steps c.next.new.self before.whole first;
     }
 
 pub unreachable-requires : goal.unreachable-requires
 unreachable-requires c =
-    let before = c.loop-step.invariant in
-    let first = given_some c.loop-step.steps c.in_ok-step.field-0 c.next.new.self c.in-Some.step c.in_ok-step.ensures.given c.in-Some.is in
+    let before = c.loop-machine.invariant in
+    let first = given_some c.loop-machine.steps c.in_ok-step.field-0 c.next.new.self c.in-Some.step c.in_ok-step.ensures.given c.in-Some.is in
     let can = c.a_schedule_can_be_made.ensures.made c.args.asked.seed c.args.asked.writes before.past c.in-Some.step c.next.new.self (let h = c.requires.few in omega (arith, h)) (before.whole ∙ ap (λ xs. reverse before.past ++ xs) first) in
     let why = c.step.ensures.unlawful sample (standard_info_of 1 1) before.past c.in-Err-Unlawful.field-0-0 before.follows (c.in-Err-Unlawful.is ∙ ap Err c.in-Err-Unlawful.field-0-is) in
     unlike c.in-Err-Unlawful.field-0-0.kind (sym can ∙ why.0)
 
 pub returns : goal.returns
 returns c =
-    let before = c.loop-step.invariant in
-    let none = given_none c.loop-step.steps c.in_ok-step.field-0 c.next.new.self c.in_ok-step.ensures.given c.in_default.is in
+    let before = c.loop-machine.invariant in
+    let none = given_none c.loop-machine.steps c.in_ok-step.field-0 c.next.new.self c.in_ok-step.ensures.given c.in_default.is in
     subst
-    (λ past. Follows sample (standard_info_of 1 1) past c.loop-step.machine)
-    (all_made (generated c.args.asked.seed c.args.asked.writes) before.past c.loop-step.steps before.whole none)
+    (λ past. Follows sample (standard_info_of 1 1) past c.loop-machine.machine)
+    (all_made (generated c.args.asked.seed c.args.asked.writes) before.past c.loop-machine.steps before.whole none)
     before.follows

@@ -7,13 +7,13 @@ use Rattle.pt_gen.specs.Schedule.{generated}
 use Rattle.pt_load.specs.Sample.{sample}
 use Rattle.pt_gen.proofs.run.run.Given as goal
 
-abbrev pub invariant-loop-step : goal.invariant-loop-step
-invariant-loop-step l =
+abbrev pub invariant-loop-machine : goal.invariant-loop-machine
+invariant-loop-machine l =
     record {
       past : Past;
       follows : Follows sample (standard_info_of 1 1) past l.machine;
       whole : generated l.fn.asked.seed l.fn.asked.writes ≡ reverse past ++ l.steps;
     }
 
-abbrev pub decreases-loop-step : goal.decreases-loop-step
-decreases-loop-step l = length l.steps
+abbrev pub decreases-loop-machine : goal.decreases-loop-machine
+decreases-loop-machine l = length l.steps
