@@ -28,8 +28,6 @@ use std::test::Fail;
 use std::thread;
 use std::thread::Threads;
 
-mod lives;
-
 /// How often each of two threads writes.
 const TURNS: u32 = 300;
 
