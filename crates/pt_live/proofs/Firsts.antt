@@ -41,11 +41,11 @@ not-below a b high =
     ]
     refl
 
-insert-next : (first n : ℕ) → insert_ascending (first + n) (range_with_len first n) ≡ range_with_len first (n + 1)
+insert-next : (first n : ℕ) → insert_ascending (first + n) (range_with_len first n) ≡ range_with_len first (suc n)
 insert-next first zero = ap (λ (k : ℕ). k ∷ []) (omega arith)
 insert-next first (suc n) =
     let up : (first + 1) + n ≡ first + suc n = omega arith in
-    ap (λ v. if v then first + suc n ∷ first ∷ range_with_len (first + 1) n else first ∷ insert_ascending (first + suc n) (range_with_len (first + 1) n)) (not-below (first + suc n) first (omega arith))
+    ap (λ (v : Bool). if v then (first + suc n) ∷ first ∷ range_with_len (first + 1) n else first ∷ insert_ascending (first + suc n) (range_with_len (first + 1) n)) (not-below (first + suc n) first (omega arith))
     ∙ ap (λ (k : ℕ). first ∷ insert_ascending k (range_with_len (first + 1) n)) (sym up)
     ∙ ap (λ ks. first ∷ ks) (insert-next (first + 1) n)
 
@@ -53,7 +53,11 @@ insert-next first (suc n) =
 pub opens-next : {S : Type 0} (side : Sink S) (watch : Watch) (n : ℕ) (old new : Session S)
     → TellsSame side watch (range_with_len 1 n) (insert_ascending (n + 1) (range_with_len 1 n)) old new → TellsSame side watch (range_with_len 1 n) (range_with_len 1 (n + 1)) old new
 opens-next side watch n old new same =
-    let next : insert_ascending (n + 1) (range_with_len 1 n) ≡ range_with_len 1 (n + 1) = ap (λ (k : ℕ). insert_ascending k (range_with_len 1 n)) (omega arith) ∙ insert-next 1 n in
+    let place : n + 1 ≡ 1 + n = omega arith in
+    let count : suc n ≡ n + 1 = omega arith in
+    let next : insert_ascending (n + 1) (range_with_len 1 n) ≡ range_with_len 1 (n + 1) =
+    ap (λ (k : ℕ). insert_ascending k (range_with_len 1 n)) place ∙ insert-next 1 n ∙ ap (λ (k : ℕ). range_with_len 1 k) count
+    in
     subst (λ (threads : List ℕ). TellsSame side watch (range_with_len 1 n) threads old new) next same
 
 -- A row in its first life serves the thread with its number.

@@ -1,14 +1,11 @@
 -- What holds of a run's session and its rows after each call.
-use Rattle.std.proofs.Common.{◌≡◌, ◌≢◌, ℕ, ◌+◌, ◌-◌, ◌<◌, ◌≤◌, ◌⊎◌, ⊎_elim, true, false, List, [], ◌∷◌, ◌++◌, Option, None, Some, length, refl, sym, ap, ◌∙◌, subst, arith}
-use Rattle.std.specs.Prelude.{Bool, ◌==◌, if◌then◌else◌, nat_lt, Result, Ok, Err}
+use Rattle.std.proofs.Common.{◌≡◌, ◌≢◌, ℕ, ◌+◌, ◌<◌, ◌≤◌, ⊎_elim, true, false, List, [], ◌∷◌, ◌++◌, Option, None, Some, length, refl, sym, ap, ◌∙◌, subst, arith}
+use Rattle.std.specs.Prelude.{◌==◌, if◌then◌else◌, nat_lt, Result, Ok, Err}
 use Rattle.std.specs.List.{range_with_len, AllByRecursion}
 use Rattle.std.proofs.lemmas.Option.{none-some}
 use Rattle.ep_defs.specs.declared.event.EventDef.{EventDef}
-use Rattle.ep_defs.specs.declared.session.Config.{Config}
 use Rattle.ep_defs.specs.declared.session.Marks.{Marks}
-use Rattle.ep_defs.specs.declared.session.TraceInfo.{TraceInfo}
 use Rattle.ep_defs.specs.declared.session.Write.{Write}
-use Rattle.ep_defs.specs.Entry.{Entry}
 use Rattle.ep_slot.specs.Hand.{HandState}
 use Rattle.nt_write.specs.declared.fault.Fault.{Fault}
 use Rattle.nt_write.specs.declared.fault.Fault.TheVariants.{WriteFault}

@@ -1,4 +1,4 @@
-use Rattle.std.proofs.Common.{ℕ, List, sym, subst}
+use Rattle.std.proofs.Common.{List, sym, subst}
 use Rattle.std.specs.List.{range_with_len, AllByRecursion}
 use Rattle.ep_defs.specs.declared.session.Marks.{Marks}
 use Rattle.ep_stream.specs.declared.session.Fate.TheVariants as fate

@@ -1,4 +1,4 @@
-use Rattle.std.proofs.Common.{◌∙◌, ℕ, sym, ap, subst}
+use Rattle.std.proofs.Common.{ℕ, sym, ap, subst}
 use Rattle.ep_live.specs.Made.{AreStands}
 use Rattle.ep_live.specs.RowSet.{LiveRowsState}
 use Rattle.pt_load.specs.declared.plan.Plan.{Plan}

@@ -1,5 +1,3 @@
-use Rattle.std.proofs.Common.{◌∙◌}
-use Rattle.pt_live.proofs.Answering.{unwritten-none}
 use Rattle.pt_live.proofs.trace.run_named.Goals as goal
 
 pub new-requires-clause-few : goal.new-requires-clause-few

@@ -1,5 +1,5 @@
-use Rattle.std.proofs.Common.{◌≡◌, ◌∙◌, ℕ, ◌+◌, ◌<◌, List, [], ◌∷◌, ◌++◌, Some, length, refl, sym, ap, subst, arith, length-append}
-use Rattle.std.specs.Prelude.{map, slice_get}
+use Rattle.std.proofs.Common.{◌≡◌, ◌∙◌, ℕ, ◌+◌, List, [], ◌∷◌, ◌++◌, Some, length, refl, sym, ap, subst, arith, length-append}
+use Rattle.std.specs.Prelude.{IsSome, map, slice_get}
 use Rattle.std.specs.List.{range_with_len}
 use Rattle.std.proofs.lemmas.Option.{slice_get_read}
 use Rattle.std.proofs.lemmas.Iterator.Adapters.{YieldsList-from_vec}
@@ -11,7 +11,7 @@ use Rattle.ep_guarded.specs.Tied.{stand_in}
 use Rattle.ep_live.specs.Made.{IsStand}
 use Rattle.ep_live.proofs.Pushing.{each-push}
 use Rattle.pt_load.specs.declared.plan.Plan.{Plan}
-use Rattle.pt_live.specs.state.Writers.{StandsAt, WriterState}
+use Rattle.pt_live.specs.state.Writers.{WriterState}
 use Rattle.pt_live.proofs.Load.{row-of, rows-more}
 use Rattle.pt_live.proofs.writers.AtEnd.give_back.Goals as goal
 
@@ -37,6 +37,16 @@ stand-stand-requires-clause-place g c =
     let inv = c.loop-writer.invariant in
     let seen = ap (λ (w : WriterState). w.half) c.writer.view_is in
     ap (λ (h : Tied Agreed). h.place) seen ∙ is.place ∙ sym inv.number
+
+pub stand-stand-requires-clause-here : goal.stand-stand-requires-clause-here
+stand-stand-requires-clause-here g c =
+    let gives = c.into_iter-writer-iterator.ensures.into_iter_gives in
+    let turn = YieldsList-turn (YieldsList-from_vec {s = c.into_iter-writer-iterator.result} c.args.self.writers.items gives.0 (gives.1 ∙ c.args.self.writers.ok.0)) c.loop-writer.yielded c.loop-writer.writer-iterator c.loop-writer.yielded_by c.next.result c.next.new.self c.in-Some.writer c.in-Some.is c.next.ensures.steps in
+    let at = slice_get_read c.args.self.writers.items _ (length c.loop-writer.yielded) c.in-Some.writer refl turn.0 turn.1 in
+    let is = c.args.self.ended (length c.loop-writer.yielded) c.in-Some.writer at in
+    let inv = c.loop-writer.invariant in
+    let seen = ap (λ (w : WriterState). w.half) c.writer.view_is in
+    subst IsSome (sym (ap (λ (h : Tied Agreed). stand_in h.value) seen ∙ is.stands)) refl
 
 pub loop-writer-preserved : goal.loop-writer-preserved
 loop-writer-preserved g c =
