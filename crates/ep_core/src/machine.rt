@@ -13,11 +13,11 @@ ghost use Rattle.ep_core.specs.state.Works.{CanWork, IsNext, MakesWith, EndedFol
 use crate::ended::Ended;
 use crate::work::Work;
 use ep_defs::{EventDef, Marks, TraceInfo};
-use nt_laws::a_faithful_stream_is_found;
 use ep_model::laws::{finished_sessions_are_faithful, other_sessions_steps_do_not_matter};
 use ep_model::{Step, Unlawful};
 use ep_stream_laws::a_finished_session_stays;
 use ep_tables::Judged;
+use nt_laws::a_faithful_stream_is_found;
 use std::alloc::{AllocError, Global};
 use std::collections::BTreeMap;
 
