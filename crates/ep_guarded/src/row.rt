@@ -244,8 +244,10 @@ impl<'a, P: Program> TiedRow<'a, P> {
         requires rows { (rows ≡ P.rows) × (0 < P.rows) }
         requires few { ForSome (left_in half.old.value) (λ s. s.thread + P.rows < 2 ^ 32) }
         ensures free { IsTrue result ↔ All IsNone self.old.row.slots }
-        ensures row { result ≡ true → self.new ≡ record self.old { life = self.old.life + 1;
-            row = record self.old.row { thread = self.old.row.thread + P.rows; index = 0; left = false } } }
+        ensures row { result ≡ true → self.new ≡ record self.old {
+          life = self.old.life + 1;
+          row = record self.old.row { thread = self.old.row.thread + P.rows; index = 0; left = false };
+        } }
         ensures half { result ≡ true → stand_in half.new.value ≡ option_map (next_stand P.rows) (left_in half.old.value) }
         ensures stays { result ≡ false → (self.new ≡ self.old) × (half.new ≡ half.old) }
         ensures place { half.new.place ≡ half.old.place }
@@ -290,15 +292,19 @@ impl<'a, P: Program> TiedRow<'a, P> {
             grant.now hand half.new.value seat.old seat.new) }
         ensures from { IfOk result (λ hand. hand.from ≡ self.old.row.index) }
         ensures none { OnErr result ((half.new ≡ half.old) × (seat.new ≡ seat.old)) }
-        ensures row { self.new ≡ record self.old { row = record self.old.row
-            { masks = self.new.row.masks; slots = self.new.row.slots } } }
+        ensures row { self.new ≡ record self.old {
+          row = record self.old.row
+              { masks = self.new.row.masks; slots = self.new.row.slots };
+        } }
         ensures none_row { OnErr result (self.new ≡ self.old) }
         ensures places { (buffer.new.place ≡ buffer.old.place) × (half.new.place ≡ half.old.place) }
     {
         if self.row.left() || self.life != life {
             return Err(NotOpened::Away);
         }
-        match self.open_here(alloc, ties, slot, buffer, half, session, grant, events, seat) {
+        match self.open_here(
+            alloc, ties, slot, buffer, half, session, grant, events, seat,
+        ) {
             Ok(hand) => Ok(hand),
             Err(AllocError) => Err(NotOpened::OutOfMemory),
         }
@@ -330,8 +336,10 @@ impl<'a, P: Program> TiedRow<'a, P> {
             grant.now hand half.new.value seat.old seat.new) }
         ensures from { IfOk result (λ hand. hand.from ≡ self.old.row.index) }
         ensures none { OnErr result ((half.new ≡ half.old) × (seat.new ≡ seat.old)) }
-        ensures row { self.new ≡ record self.old { row = record self.old.row
-            { masks = self.new.row.masks; slots = self.new.row.slots } } }
+        ensures row { self.new ≡ record self.old {
+          row = record self.old.row
+              { masks = self.new.row.masks; slots = self.new.row.slots };
+        } }
         ensures none_row { OnErr result (self.new ≡ self.old) }
         ensures places { (buffer.new.place ≡ buffer.old.place) × (half.new.place ≡ half.old.place) }
     {
@@ -366,8 +374,10 @@ impl<'a, P: Program> TiedRow<'a, P> {
         ensures to { result.1.to ≡ self.old.row.index }
         ensures thread { hand.thread ≡ self.old.row.thread }
         ensures half { half.new.value ≡ Some agreed.Nothing }
-        ensures row { self.new ≡ record self.old { row = record self.old.row
-            { masks = self.new.row.masks; slots = self.new.row.slots } } }
+        ensures row { self.new ≡ record self.old {
+          row = record self.old.row
+              { masks = self.new.row.masks; slots = self.new.row.slots };
+        } }
         ensures places { (buffer.new.place ≡ buffer.old.place) × (half.new.place ≡ half.old.place) }
     {
         let kept = buffer.take(ties, &mut self.buffers[slot as usize], half);
@@ -403,8 +413,10 @@ impl<'a, P: Program> TiedRow<'a, P> {
         ensures half { OnOk result (half.new.value ≡ Some agreed.Nothing) }
         ensures back { IfErr result (λ back. back ≡ hand) }
         ensures none { OnErr result ((half.new ≡ half.old) × (seat.new ≡ seat.old) × (self.new ≡ self.old)) }
-        ensures row { self.new ≡ record self.old { row = record self.old.row
-            { masks = self.new.row.masks; slots = self.new.row.slots } } }
+        ensures row { self.new ≡ record self.old {
+          row = record self.old.row
+              { masks = self.new.row.masks; slots = self.new.row.slots };
+        } }
         ensures places { (buffer.new.place ≡ buffer.old.place) × (half.new.place ≡ half.old.place) }
     {
         if self.life != life || self.row.index() != writes {

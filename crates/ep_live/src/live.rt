@@ -128,12 +128,7 @@ impl<'a, P: Program> Live<'a, P> {
     }
 
     /// How far the thread of the row with this number has come, by its half of the tie. It waits for the row.
-    pub fn stand<R: Wait>(
-        &self,
-        rt: &R,
-        number: usize,
-        half: &mut Right<P, Agreed<'a>>,
-    ) -> Stand
+    pub fn stand<R: Wait>(&self, rt: &R, number: usize, half: &mut Right<P, Agreed<'a>>) -> Stand
         requires row { number < P.rows }
         requires place { half.old.place ≡ number }
         requires here { IsSome (stand_in half.old.value) }
@@ -388,7 +383,16 @@ impl<'a, P: Program> Live<'a, P> {
     {
         let (mut row, row_held) = self.rows.take(rt, number);
         let (mut buffer, buffer_held) = self.buffers.take(rt, buffer_at(number, slot));
-        let closed = row.close_done(&self.ties, slot, life, writes, &mut buffer, half, hand, seat);
+        let closed = row.close_done(
+            &self.ties,
+            slot,
+            life,
+            writes,
+            &mut buffer,
+            half,
+            hand,
+            seat,
+        );
         self.buffers.put(buffer_held, buffer);
         self.rows.put(row_held, row);
         closed

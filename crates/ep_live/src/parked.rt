@@ -35,11 +35,7 @@ impl<'a, P: Program> Model for Parked<'a, P> {
 
 impl<'a, P: Program> Parked<'a, P> {
     /// The session's rows, which are those of this run.
-    pub fn resume<'r, R: Wait>(
-        self,
-        rt: &'r R,
-        live: &'r Live<'a, P>,
-    ) -> LiveRows<'r, 'a, P, R>
+    pub fn resume<'r, R: Wait>(self, rt: &'r R, live: &'r Live<'a, P>) -> LiveRows<'r, 'a, P, R>
         ensures { result ≡ self.entry }
     {
         let Parked {

@@ -9,9 +9,9 @@ ghost use Rattle.ep_live.specs.RowSet.{expected_in, out_in};
 ghost use Rattle.ep_live.specs.Tests.{AreOpen, AreClosed};
 ghost use Rattle.ep_stream.specs.Rows.{IsRow, IsSetAt};
 
+use crate::free::free_slots;
 use crate::live::Live;
 use crate::live_rows::{LiveRows, same_tests_have_the_same_stands};
-use crate::free::free_slots;
 use crate::stands::Stands;
 use ep_defs::{Config, EventDef, Items, Marks, Rule, Units, Write};
 use ep_guarded::{Agreed, Grant, Program};
@@ -465,8 +465,9 @@ fn a_session_takes_beside_two_threads(rt: HostRuntime) -> Result<(), Fail> {
     let blank = Blank::new(alloc, 258)?;
     let events = Vec::from_array(alloc, [event(alloc)?])?;
     let write = write(alloc);
-    let (one, other, back, chunks) =
-        run::<Brand, _>(&rt, alloc, blank, events, &write, &grant, seat)?;
+    let (one, other, back, chunks) = run::<Brand, _>(
+        &rt, alloc, blank, events, &write, &grant, seat,
+    )?;
     assert!(rt; are_whole(&one, 1) && are_whole(&other, 2));
     assert!(rt; back && chunks == 4);
     Ok(())
