@@ -1,5 +1,5 @@
 -- A command that found no memory before it began has touched nothing.
-use Rattle.std.proofs.Common.{◌≡◌, ℕ, List, [], ◌⊎◌, refl, inl, inr, Option, Some, None}
+use Rattle.std.proofs.Common.{ℕ, List, [], refl, inl, inr, Option, Some, None}
 use Rattle.pt_io.specs.declared.caller.Caller.{Ghosts as Caller}
 use Rattle.pt_io.specs.declared.sink.Sink.{Ghosts as Sink}
 use Rattle.pt_io.specs.declared.source.Source.{Ghosts as Source}
@@ -8,14 +8,10 @@ use Rattle.pt_command.specs.Answers.{Answers}
 use Rattle.pt_command.proofs.Answering.{unanswered, no-refusal, no-done}
 use Rattle.pt_client.specs.Answers.{Asks}
 use Rattle.pt_client.specs.declared.words.Command.{Command as ClientCommand}
-use Rattle.pt_gen.specs.Command.{Generates}
-use Rattle.pt_gen.specs.declared.words.Asked.{Asked as GenAsked}
-use Rattle.pt_replay.specs.Command.{Replays}
-use Rattle.pt_report.specs.Command.{Reports}
 use Rattle.pt_cli.specs.declared.trace_words.Asked.{Asked}
 use Rattle.pt_cli.specs.declared.words.Command.{Command}
 use Rattle.pt_cli.specs.declared.words.Command.TheVariants as command
-use Rattle.pt_cli.specs.Program.{Around, ComesTo, PlainComesTo}
+use Rattle.pt_cli.specs.Program.{ComesTo, PlainComesTo}
 use Rattle.pt_cli.specs.Traced.{TracesTo}
 
 no-answer : {I O : Type 0} (source : Source I) (sink : Sink O) (IsDone : List ℕ → List ℕ → Type 0) (IsError : List ℕ → ℕ → List ℕ → Type 0) (input : I) (output : O)

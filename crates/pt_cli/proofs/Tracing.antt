@@ -1,14 +1,12 @@
 -- What the command `trace` comes to by how its session ended.
-use Rattle.std.proofs.Common.{◌≡◌, ℕ, ◌≤◌, refl, sym, ap, ◌∙◌, inl, inr, subst, arith}
-use Rattle.std.specs.Prelude.{true}
+use Rattle.std.proofs.Common.{◌≡◌, refl, inl, inr, arith}
 use Rattle.ep_defs.specs.Session.{standard_info_of}
 use Rattle.ep_stream.specs.declared.session.Fate.{Fate}
 use Rattle.ep_stream.specs.declared.session.Fate.TheVariants as fates
 use Rattle.pt_io.specs.declared.sink.Sink.{Ghosts as Sink}
 use Rattle.pt_command.specs.declared.end.End.{End}
-use Rattle.pt_command.specs.declared.end.End.TheVariants as ends
 use Rattle.pt_live.specs.declared.trace.TraceEnd.{TraceEnd}
-use Rattle.pt_live.specs.Trace.{AreWhole, HasMarks, Traced}
+use Rattle.pt_live.specs.Trace.{Traced}
 use Rattle.pt_cli.specs.declared.trace_words.Asked.{Asked}
 use Rattle.pt_cli.specs.Traced.{IsEndOf, TracesTo}
 

@@ -1,5 +1,5 @@
 -- What the words of the command line mean (this project's profile).
-use Rattle.std.specs.Prelude.{◌≡◌, ℕ, Bool, true, false, ◌≤◌, ◌-◌, ◌^◌, if◌then◌else◌, List, [], ◌∷◌, codes, Option, Some, None, option_map}
+use Rattle.std.specs.Prelude.{ℕ, Bool, true, false, ◌≤◌, ◌-◌, ◌^◌, if◌then◌else◌, List, [], ◌∷◌, codes, Option, Some, None, option_map}
 use Rattle.ep_defs.specs.Event.{is_same_text}
 use Rattle.ep_plan.specs.Words.{number_in, at_least, at_most}
 use Rattle.pt_words.specs.Session.{session_in}

@@ -1,5 +1,5 @@
 -- What the command comes to that the words mean.
-use Rattle.std.proofs.Common.{◌≡◌, Option, subst, ◌∙◌}
+use Rattle.std.proofs.Common.{Option, subst, ◌∙◌}
 use Rattle.pt_cli.specs.declared.words.Command.{Command}
 use Rattle.pt_cli.specs.Program.{Around, HasFaults}
 use Rattle.pt_cli.proofs.Causes.{comes-faults}

@@ -1,5 +1,4 @@
 -- The end is named by its numbers.
-use Rattle.std.proofs.Common.{◌≡◌}
 use Rattle.pt_cli.proofs.Causes.{plain-causes, plain-words}
 use Rattle.pt_cli.proofs.waitless.plain.Goals as goal
 
