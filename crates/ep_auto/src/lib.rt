@@ -6,6 +6,8 @@
 //! made, and on ep_plan, since names, digits and parts are those of a schedule's text.
 //!
 //! Its one contract: a text is read as the configuration that it means, or refused at its first wrong field.
+//!
+//! What was chosen here, and why: docs/DECISIONS.md, "The model and the texts".
 #![tactic(auto)]
 
 mod fault;

@@ -7,6 +7,8 @@
 //! chunks. A record is appended where it fits what is left and else refused, and read back from its place as it was
 //! appended; chains are joined and split without memory. `specs/Record` says what a record is and how it is laid out,
 //! and `specs/Places` where records stand in a chunk.
+//!
+//! What was chosen here, and why: docs/DECISIONS.md, "What a thread keeps".
 #![tactic(auto)]
 
 mod chain;

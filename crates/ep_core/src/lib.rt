@@ -7,6 +7,8 @@
 //!
 //! Its one contract: after every lawful list of steps the stream of a finished session is the canonical one of its
 //! entries, and faithful; a step that can't be made is refused with its first kind and changes nothing.
+//!
+//! What was chosen here, and why: docs/DECISIONS.md, "A schedule's machine".
 #![tactic(auto)]
 
 mod ended;

@@ -9,6 +9,8 @@
 //!
 //! Its one contract: the laws of these definitions, in `laws`, one for the start and one for each kind of step, and what a
 //! step that can be made finds there: an id, a number, room, stack ids. No code runs here.
+//!
+//! What was chosen here, and why: docs/DECISIONS.md, "A schedule's machine".
 #![tactic(auto)]
 
 pub mod laws;

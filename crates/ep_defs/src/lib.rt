@@ -8,6 +8,8 @@
 //!
 //! Its one contract: a list type is the list of its items, a copy equals what it was made of, and each test answers as
 //! its definition says.
+//!
+//! What was chosen here, and why: docs/DECISIONS.md, "The ground".
 #![tactic(auto)]
 
 mod event;

@@ -7,6 +7,8 @@
 //!
 //! Its one contract: each call makes the change of its step on the lent row and buffer, which are at rest before and
 //! after.
+//!
+//! What was chosen here, and why: docs/DECISIONS.md, "Running threads".
 #![tactic(auto)]
 
 mod agreed;

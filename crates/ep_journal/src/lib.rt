@@ -8,6 +8,8 @@
 //! Its one contract: each decision is borne out by the sessions, and each session by the decisions and its slot. The ids
 //! rise with the connections. A stop is refused only where its session was not live at that decision, a ticket is never
 //! passed over, and a session ends with the program only once all writers have ended.
+//!
+//! What was chosen here, and why: docs/DECISIONS.md, "The protocol".
 #![tactic(auto)]
 
 mod decision;

@@ -10,6 +10,8 @@
 //! their ties too, so that its openings and closings stand where the threads do. A row serves one thread after another, and
 //! is entered by the next only where no session is open on it. A session's slot is free again only once all its chunks
 //! were given back.
+//!
+//! What was chosen here, and why: docs/DECISIONS.md, "Running threads".
 #![tactic(auto)]
 
 mod ended;

@@ -10,6 +10,8 @@
 //! Its one contract: a session that is opened on some of a run's threads, each once and one of a row at a time, swept
 //! any number of times, closed on each row and ended, has told all that was taken, and its sink took the stream of
 //! faithful entries; and whatever its fate, what begins the stream of entries that are a part of what the threads wrote.
+//!
+//! What was chosen here, and why: docs/DECISIONS.md, "Running threads".
 #![tactic(auto)]
 
 pub mod examples;

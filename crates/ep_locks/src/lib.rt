@@ -8,6 +8,8 @@
 //! their own, so that neighbours don't slow each other.
 //!
 //! It stands on atomic_table alone. Its one contract: what is taken meets what holds under its number.
+//!
+//! What was chosen here, and why: docs/DECISIONS.md, "Running threads".
 #![tactic(auto)]
 
 mod held;

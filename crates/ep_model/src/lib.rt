@@ -8,6 +8,8 @@
 //!
 //! Its one contract: the laws of these definitions, in `laws`. What some small schedules amount to is computed in
 //! `examples`.
+//!
+//! What was chosen here, and why: docs/DECISIONS.md, "The model and the texts".
 #![tactic(auto)]
 
 pub mod examples;

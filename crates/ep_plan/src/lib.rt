@@ -8,6 +8,8 @@
 //!
 //! Its one contract: a line is read as what the definition says, or refused at its first bad word; a step that is
 //! printed is read back.
+//!
+//! What was chosen here, and why: docs/DECISIONS.md, "The model and the texts".
 #![tactic(auto)]
 
 mod cursor;

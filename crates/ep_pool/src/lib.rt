@@ -8,6 +8,8 @@
 //! Its one contract: of a pool, the free chunks and those that are out make its total; a chunk that is taken is empty;
 //! none is given where none is free, and no chunk is lost. Only `new` takes memory. `specs/Counts` says what a pool
 //! with one owner is, `specs/Shared` and `specs/Deals` one that is shared.
+//!
+//! What was chosen here, and why: docs/DECISIONS.md, "What a thread keeps".
 #![tactic(auto)]
 
 mod limits;

@@ -10,6 +10,8 @@
 //!
 //! Its one contract: the halves show what the journal has; a free slot, an ended session and the writers' end are there
 //! with what belongs to them, and no session that waits for its role is lost.
+//!
+//! What was chosen here, and why: docs/DECISIONS.md, "The protocol".
 #![tactic(auto)]
 
 mod ends;

@@ -7,6 +7,8 @@
 //!
 //! Its one contract: each call makes the change of its step on the lent row and slot, and all else stays. `specs/Row`
 //! says what a row is and what each call makes of it.
+//!
+//! What was chosen here, and why: docs/DECISIONS.md, "What a thread keeps".
 #![tactic(auto)]
 
 mod bits;

@@ -6,6 +6,8 @@
 //! Its one contract: each call is told, as the change of that row, slot or pool, and of nothing else. `specs/Told` has
 //! the rows as they are told, `specs/Writes` what the calls of threads make of them; what those of sessions make stands
 //! in ep_stream.
+//!
+//! What was chosen here, and why: docs/DECISIONS.md, "A schedule's machine".
 #![tactic(auto)]
 
 mod column;

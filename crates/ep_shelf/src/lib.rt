@@ -7,6 +7,8 @@
 //! It stands on boxcar alone, whose vector only grows.
 //!
 //! Its one contract: a token shows the value that was placed.
+//!
+//! What was chosen here, and why: docs/DECISIONS.md, "Running threads".
 #![tactic(auto)]
 
 ghost use Rattle.std.specs.Prelude.{◌≡◌, IfOk, IfErr};

@@ -6,6 +6,8 @@
 //! Its one contract: the used numbers are those that were taken, are pending or were refused, and a write is refused
 //! exactly where it needs a chunk (`needs_chunk` of ep_model) and its purse found none. `specs/Slot` says what a slot
 //! is and what each call makes of it, `specs/Hand` when a slot and a hand agree. No call but `pair` takes memory.
+//!
+//! What was chosen here, and why: docs/DECISIONS.md, "What a thread keeps".
 #![tactic(auto)]
 
 mod hand;

@@ -7,6 +7,8 @@
 //! Its one contract: each record that is taken is told in the stream, in order and once, and what a session told is all
 //! that its sink's bytes stand for. `specs/Rows` and `specs/Steps` say what a row set promises, `specs/Telling` what a
 //! stream has told, and `specs/Session` what a session keeps between calls.
+//!
+//! What was chosen here, and why: docs/DECISIONS.md, "What a thread keeps".
 #![tactic(auto)]
 
 mod opened;

@@ -6,6 +6,8 @@
 //!
 //! Its one contract: what a session keeps follows each next step, by the change that ep_stream's call for that step
 //! makes of it; its stream's entries grow by what that call tells; and no step changes a session that has finished.
+//!
+//! What was chosen here, and why: docs/DECISIONS.md, "What a thread keeps".
 #![tactic(auto)]
 
 mod laws;

@@ -6,6 +6,8 @@
 //!
 //! Its one contract: a session gets the lowest free slot and an id that none had before it, an id is live until it is
 //! stopped or its slot is freed, and an answer that refuses leaves the table as it was. No call takes memory.
+//!
+//! What was chosen here, and why: docs/DECISIONS.md, "A schedule's machine".
 #![tactic(auto)]
 
 pub mod limits;

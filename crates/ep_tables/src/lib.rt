@@ -8,6 +8,8 @@
 //! Its one contract: tables that stand for the steps so far (`specs/Tables`) answer the first kind that stands against
 //! the next one, as ep_model defines it, and a step that is made makes of them what `specs/Made` says, and nothing else.
 //! `specs/Tied` has what holds of the tables whatever the steps were.
+//!
+//! What was chosen here, and why: docs/DECISIONS.md, "A schedule's machine".
 #![tactic(auto)]
 
 mod judged;

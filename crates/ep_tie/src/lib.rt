@@ -8,6 +8,8 @@
 //! that it is what the owner's own fields hold.
 //!
 //! Its one contract: two halves of one place show one value.
+//!
+//! What was chosen here, and why: docs/DECISIONS.md, "Running threads".
 #![tactic(auto)]
 
 mod ends;

@@ -7,6 +7,8 @@
 //!
 //! Its one contract: a request or a reply is read exactly where its bytes are one, a reply that is none is refused at
 //! its first wrong field, and what is put is read back. No count that the bytes claim makes it take memory.
+//!
+//! What was chosen here, and why: docs/DECISIONS.md, "The protocol".
 #![tactic(auto)]
 
 mod asking;

@@ -5,6 +5,8 @@
 //! stream, which is copied piece by piece, however long it is.
 //!
 //! Its one contract: an answer is what the peer's bytes say, or names the object whose count of faults rose.
+//!
+//! What was chosen here, and why: docs/DECISIONS.md, "The protocol".
 #![tactic(auto)]
 
 mod ask;

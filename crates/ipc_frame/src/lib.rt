@@ -6,6 +6,8 @@
 //!
 //! Its one contract: `put_message` appends the bytes of a message, which `take_message` finds again whatever follows
 //! them, and `take_message` says of any bytes what they begin with. It takes no memory.
+//!
+//! What was chosen here, and why: docs/DECISIONS.md, "The protocol".
 #![tactic(auto)]
 
 mod frame;

@@ -7,6 +7,8 @@
 //! and only to a request that takes some, and leaves the table as it was. An error never changes the table, and after
 //! an accepted request nothing more is taken. A server that keeps its table behind a lock takes the same decision in
 //! parts, so that no memory is taken under the lock: `asked` says what the bytes ask for, and the replies are here too.
+//!
+//! What was chosen here, and why: docs/DECISIONS.md, "The protocol".
 #![tactic(auto)]
 
 mod asks;

@@ -8,6 +8,8 @@
 //!
 //! Its one contract: `receive` answers the message's own bytes, or all that came before the link ended, and has taken no
 //! other; or it names why it has none.
+//!
+//! What was chosen here, and why: docs/DECISIONS.md, "The protocol".
 #![tactic(auto)]
 
 mod lack;

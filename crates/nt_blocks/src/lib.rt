@@ -8,6 +8,8 @@
 //! `specs/Refusals`; `specs/Drafts` has the bodies that are written, `specs/Ordered` which items may follow which.
 //!
 //! Its one contract: what is put is the body of what was added, and what is taken is what is read in the body.
+//!
+//! What was chosen here, and why: docs/DECISIONS.md, "The format".
 #![tactic(auto)]
 
 mod blob_block;

@@ -7,6 +7,8 @@
 //! took, and keeps none of them. Strangers choose the ids of a trace, so all look-ups are in ordered maps.
 //!
 //! Its one contract: an item is taken exactly where the list of the items so far with it is in order.
+//!
+//! What was chosen here, and why: docs/DECISIONS.md, "The format".
 #![tactic(auto)]
 
 mod checker;

@@ -7,6 +7,8 @@
 //!
 //! Its one contract: `put_head` appends the shortest header that says the new state after the previous one, and
 //! `take_head` answers what the header at the front of the bytes says after the previous state.
+//!
+//! What was chosen here, and why: docs/DECISIONS.md, "The format".
 #![tactic(auto)]
 
 pub mod flags;

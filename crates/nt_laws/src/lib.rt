@@ -8,6 +8,8 @@
 //! Its one contract: a well-formed stream is read whole, with the items that it holds; so the canonical stream of
 //! entries is, and its items stand in order and tell these entries, and of each thread exactly what its share has
 //! where the entries are faithful; a stream that is cut is found to go on.
+//!
+//! What was chosen here, and why: docs/DECISIONS.md, "The format".
 #![tactic(auto)]
 
 mod laws;

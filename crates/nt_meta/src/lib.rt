@@ -6,6 +6,8 @@
 //!
 //! Its one contract: what is put is the one payload of the definition, and what is taken is a payload of what is
 //! answered; bytes that are none are refused, and no others.
+//!
+//! What was chosen here, and why: docs/DECISIONS.md, "The format".
 #![tactic(auto)]
 
 mod cursor;

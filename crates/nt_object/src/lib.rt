@@ -8,6 +8,8 @@
 //! Its one contract: what is put are the bytes of the start and of a block that may stand at its offset, and
 //! `take_head` answers the kind of the object whose head stands at the front of the bytes, or the first place that is
 //! wrong.
+//!
+//! What was chosen here, and why: docs/DECISIONS.md, "The format".
 #![tactic(auto)]
 
 mod head;

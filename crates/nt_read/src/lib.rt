@@ -6,6 +6,8 @@
 //! reader has read, and what it answers, is `specs/Reading`; the verdict from any unit on is `specs/Stages`.
 //!
 //! Its one contract: however a stream was cut, the items and the answers are those of the verdict on all its bytes.
+//!
+//! What was chosen here, and why: docs/DECISIONS.md, "The format".
 #![tactic(auto)]
 
 mod fault;

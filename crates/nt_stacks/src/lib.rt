@@ -5,6 +5,8 @@
 //! both look up in ordered maps, in which no choice of keys makes a look-up slow.
 //!
 //! Its one contract: equal ids exactly for equal stacks, and under an id the bytes that it was defined with.
+//!
+//! What was chosen here, and why: docs/DECISIONS.md, "The format".
 #![tactic(auto)]
 
 mod interner;

@@ -7,6 +7,8 @@
 //! `specs/Layout` and `specs/Canonical`.
 //!
 //! Its one contract: what the sink of a `TraceWriter` took is the canonical stream of the entries of its calls.
+//!
+//! What was chosen here, and why: docs/DECISIONS.md, "The format".
 #![tactic(auto)]
 
 mod fault;

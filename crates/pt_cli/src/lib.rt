@@ -8,6 +8,8 @@
 //! and pt_words, for words, pt_command, for ends, pt_io, for the outside, and ep_defs, for the types.
 //!
 //! Its one contract: the program comes to what the command that its words mean comes to.
+//!
+//! What was chosen here, and why: docs/DECISIONS.md, "The program".
 #![tactic(auto)]
 
 mod ends;

@@ -7,6 +7,8 @@
 //!
 //! Its one contract: the clauses of `command_of`, which say what the words ask for, and of `client`, which say what
 //! comes of it. The answer is what the peer's bytes say, or names the object whose count of faults rose.
+//!
+//! What was chosen here, and why: docs/DECISIONS.md, "The program".
 #![tactic(auto)]
 
 mod ask;

@@ -5,6 +5,8 @@
 //!
 //! Its one contract: a command ends with a fault only where the object that was handed in failed in this call, and a
 //! text was written whole, or in part where the output failed (`specs/Answers`, `specs/Says`).
+//!
+//! What was chosen here, and why: docs/DECISIONS.md, "The program".
 #![tactic(auto)]
 
 mod end;

@@ -9,6 +9,8 @@
 //! pt_command. The whole list of steps is `generated` in `specs/Schedule`; what is written is `specs/Summary`.
 //!
 //! Its one contract: the command comes to the summary of the schedule that its words ask for (`specs/Command`).
+//!
+//! What was chosen here, and why: docs/DECISIONS.md, "The program".
 #![tactic(auto)]
 
 mod command;

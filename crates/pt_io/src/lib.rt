@@ -5,6 +5,8 @@
 //! objects in memory they tell all of them, over a file or a socket none. Logic never opens anything by itself.
 //!
 //! Its one contract: what a call read or took, and a count of faults that rises with each failure.
+//!
+//! What was chosen here, and why: docs/DECISIONS.md, "The ground".
 #![tactic(auto)]
 
 mod caller;

@@ -7,6 +7,8 @@
 //! `specs/Trace`.
 //!
 //! Its one contract: the clause of `run_trace`.
+//!
+//! What was chosen here, and why: docs/DECISIONS.md, "The program".
 #![tactic(auto)]
 
 mod kit;

@@ -7,6 +7,8 @@
 //! for the types.
 //!
 //! Its one contract: what a draft gives is the write of its plan, thread and index that `specs/Sample` defines.
+//!
+//! What was chosen here, and why: docs/DECISIONS.md, "The program".
 #![tactic(auto)]
 
 mod draft;

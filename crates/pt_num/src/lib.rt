@@ -7,6 +7,8 @@
 //!
 //! Its one contract: each `put_` call appends the one form that is written of its value, or nothing where memory is
 //! missing; each `take_` call answers what stands at the front of the bytes, and takes no memory.
+//!
+//! What was chosen here, and why: docs/DECISIONS.md, "The ground".
 #![tactic(auto)]
 
 mod fixed;

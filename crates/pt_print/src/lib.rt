@@ -4,6 +4,8 @@
 //! another into a buffer, which goes to the output in one piece.
 //!
 //! Its one contract: what each call appends is the part of a line that `specs/Printed` defines.
+//!
+//! What was chosen here, and why: docs/DECISIONS.md, "The ground".
 #![tactic(auto)]
 
 ghost use Rattle.std.specs.Prelude.{◌≡◌, ◌<◌, ◌^◌, ◌++◌, [], ◌∷◌, IsTrue, OnOk};

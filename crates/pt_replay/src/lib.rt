@@ -9,6 +9,8 @@
 //!
 //! Its one contract: the command comes to the stream of the session after the schedule that its input is, or to the line
 //! that says why there is none (`specs/Command`).
+//!
+//! What was chosen here, and why: docs/DECISIONS.md, "The program".
 #![tactic(auto)]
 
 mod command;

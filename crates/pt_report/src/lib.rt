@@ -10,6 +10,8 @@
 //! their units. What the bytes of a stream come to is `specs/Found`.
 //!
 //! Its one contract: the command comes to the report of the bytes of its input, or to the line of what is wrong with them.
+//!
+//! What was chosen here, and why: docs/DECISIONS.md, "The program".
 #![tactic(auto)]
 
 mod command;

@@ -5,6 +5,8 @@
 //!
 //! Its one contract: which words have which texts is a function of the words (`specs/Words`, `specs/Session`,
 //! `specs/Trace`), whatever the words are.
+//!
+//! What was chosen here, and why: docs/DECISIONS.md, "The ground".
 #![tactic(auto)]
 
 mod commands;

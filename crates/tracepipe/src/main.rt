@@ -6,6 +6,8 @@
 //! source, sink and link.
 //!
 //! Its one contract: the adapters keep the clauses of the traits.
+//!
+//! What was chosen here, and why: docs/DECISIONS.md, "The program".
 #![tactic(auto)]
 
 mod arguments;
