@@ -128,9 +128,8 @@ impl<S: Sink> TraceWriter<S> {
             (entries : List Entry)
             → IsWriting S.tells_taken S.taken before defs info entries self.old
             → (result ≡ Err TooLong) ↔ ((0 < length out.now.frames.now) × (framed entries ≡ FRAMED_EVENTS)) }
-        ensures memory { result ≡ Err OutOfMemory
+        ensures wrote { result ≢ Err WriteFault
             → S.write_faults (sink_of self.new) ≡ S.write_faults (sink_of self.old) }
-        ensures wrote { OnOk result (S.write_faults (sink_of self.new) ≡ S.write_faults (sink_of self.old)) }
         ensures later { S.write_faults (sink_of self.old) ≤ S.write_faults (sink_of self.new) }
     {
         if let Some(fault) = self.fault {
@@ -162,9 +161,8 @@ impl<S: Sink> TraceWriter<S> {
         ensures write_fault { result ≡ Err WriteFault → (fault_of self.old ≡ Some WriteFault)
             ⊎ HasRisen (S.write_faults (sink_of self.old)) (S.write_faults (sink_of self.new)) }
         ensures too_long { result ≡ Err TooLong → fault_of self.old ≡ Some TooLong }
-        ensures memory { result ≡ Err OutOfMemory
+        ensures wrote { result ≢ Err WriteFault
             → S.write_faults (sink_of self.new) ≡ S.write_faults (sink_of self.old) }
-        ensures wrote { OnOk result (S.write_faults (sink_of self.new) ≡ S.write_faults (sink_of self.old)) }
         ensures later { S.write_faults (sink_of self.old) ≤ S.write_faults (sink_of self.new) }
     {
         if let Some(fault) = self.fault {
@@ -190,9 +188,7 @@ impl<S: Sink> TraceWriter<S> {
         ensures write_fault { result.1 ≡ Err WriteFault → (fault_of self ≡ Some WriteFault)
             ⊎ HasRisen (S.write_faults (sink_of self)) (S.write_faults result.0) }
         ensures too_long { result.1 ≡ Err TooLong → fault_of self ≡ Some TooLong }
-        ensures memory { result.1 ≡ Err OutOfMemory
-            → S.write_faults result.0 ≡ S.write_faults (sink_of self) }
-        ensures wrote { OnOk result.1 (S.write_faults result.0 ≡ S.write_faults (sink_of self)) }
+        ensures wrote { result.1 ≢ Err WriteFault → S.write_faults result.0 ≡ S.write_faults (sink_of self) }
         ensures later { S.write_faults (sink_of self) ≤ S.write_faults result.0 }
     {
         let mut writer = self;
@@ -235,11 +231,10 @@ impl<S: Sink> TraceWriter<S> {
             → OnErr result (TookSome S.tells_taken S.taken start (blocks_bytes (roomy layout (entry_of def.now out.now)).blocks) (sink_of self.new)) }
         ensures too_long { (result ≡ Err TooLong) ↔ ((0 < length out.now.frames.now)
             × ((pending_of self.old).stacks.framed ≡ FRAMED_EVENTS)) }
-        ensures wrote { OnOk result (S.write_faults (sink_of self.new) ≡ S.write_faults (sink_of self.old)) }
+        ensures wrote { result ≢ Err WriteFault
+            → S.write_faults (sink_of self.new) ≡ S.write_faults (sink_of self.old) }
         ensures write_fault { result ≡ Err WriteFault
             → HasRisen (S.write_faults (sink_of self.old)) (S.write_faults (sink_of self.new)) }
-        ensures memory { result ≡ Err OutOfMemory
-            → S.write_faults (sink_of self.new) ≡ S.write_faults (sink_of self.old) }
         ensures later { S.write_faults (sink_of self.old) ≤ S.write_faults (sink_of self.new) }
     {
         if !out.frames.is_empty() && self.pending.stacks.are_spent() {

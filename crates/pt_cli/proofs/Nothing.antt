@@ -65,6 +65,7 @@ traces-nothing sink asked output =
       too_long = λ is. absurd (cc);
       short = λ few is. cc;
       write_fault = λ is. absurd (cc);
+      all_written = λ _. refl;
       ends = inr (inr (inl refl));
     }
 
