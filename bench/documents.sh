@@ -66,14 +66,45 @@ def run_all(documents):
 def counted(readme):
     """Whether the numbers of crates and of wrong bodies are those of the repository."""
     wrong = 0
-    for what, words, count in [
-        ("wrong bodies", r"([\d,]+) wrong bodies", len(glob.glob(f"{here}/crates/*/must-fail/*.edit"))),
-        ("crates", r"([\d,]+) crates", len(glob.glob(f"{here}/crates/*/src"))),
+    for what, count in [
+        ("wrong bodies", len(glob.glob(f"{here}/crates/*/must-fail/*.edit"))),
+        ("crates", len(glob.glob(f"{here}/crates/*/src"))),
     ]:
-        for said in re.findall(words, readme):
-            if int(said.replace(",", "")) != count:
+        for least, said in re.findall(rf"(more than )?([\d,]+) {what}", readme):
+            number = int(said.replace(",", ""))
+            if number != count and not (least and number < count):
                 wrong += 1
-                print(f"README.md says {said} {what}: there are {count}")
+                print(f"README.md says {least}{said} {what}: there are {count}")
+    return wrong
+
+
+def replaced(edit):
+    """What is wrong with a wrong body: each old text stands exactly once in its file, as the lines before have left it."""
+    texts, at, old = {}, None, None
+    for line in open(edit).read().splitlines():
+        word, _, text = line.partition(": ")
+        if word == "file":
+            at = f"{os.path.dirname(os.path.dirname(edit))}/{text.strip()}"
+            if not os.path.exists(at):
+                return f"has no file {text}"
+            texts.setdefault(at, open(at).read())
+        elif word == "old":
+            old = text
+            if at is None or texts[at].count(old) != 1:
+                return f"changes what does not stand exactly once: {old.strip()}"
+        elif word.rstrip(":") == "new":
+            texts[at] = texts[at].replace(old, text)
+    return None if old else "changes nothing"
+
+
+def planted():
+    """Whether each wrong body can be planted in the sources as they are."""
+    wrong = 0
+    for edit in sorted(glob.glob(f"{here}/crates/*/must-fail/*.edit")):
+        fault = replaced(edit)
+        if fault:
+            wrong += 1
+            print(f"{os.path.relpath(edit, here)} {fault}")
     return wrong
 
 
@@ -104,6 +135,6 @@ def measured(readme):
 
 readme = open(f"{here}/README.md").read()
 wrong = run_all([f"{here}/README.md", *sorted(glob.glob(f"{here}/docs/*.md"))])
-wrong += counted(readme) + quoted(readme) + measured(readme)
+wrong += counted(readme) + planted() + quoted(readme) + measured(readme)
 sys.exit(1 if wrong else 0)
 COMPARE
