@@ -112,6 +112,8 @@ impl<S: Sink> Session<S> {
         ensures memory { IfErr result (λ failed. failed.1 ≡ OutOfMemory → S.write_faults failed.0 ≡ S.write_faults sink) }
         ensures wrote { IfOk result (λ session. S.write_faults (sink_of session) ≡ S.write_faults sink) }
         ensures later { IfErr result (λ failed. S.write_faults sink ≤ S.write_faults failed.0) }
+        ensures told { IfOk result (λ session. S.tells_taken (sink_of session) ≡ S.tells_taken sink) }
+        ensures told_back { IfErr result (λ failed. S.tells_taken failed.0 ≡ S.tells_taken sink) }
         ensures hands { IfOk result (λ session. (row : ℕ) → hand_on session row ≡ None) }
         ensures rest { IfOk result (λ session. rest_of session ≡ new_rest seat config) }
         ensures count { IfOk result (λ session. opened_count session ≡ 0) }
@@ -448,6 +450,7 @@ fn write_reply<S: Sink>(sink: &mut S, reply: &[u8]) -> Result<(), Fault>
     ensures write_fault { OnErr result (HasRisen (S.write_faults sink.old) (S.write_faults sink.new)) }
     ensures fault { IfErr result (λ fault. fault ≡ WriteFault) }
     ensures later { S.write_faults sink.old ≤ S.write_faults sink.new }
+    ensures told { S.tells_taken sink.new ≡ S.tells_taken sink.old }
 {
     if !reply.is_empty() {
         sink.write(reply)?;

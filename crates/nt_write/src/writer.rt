@@ -80,6 +80,8 @@ impl<S: Sink> TraceWriter<S> {
             → S.write_faults failed.0 ≡ S.write_faults sink) }
         ensures wrote { IfOk result (λ writer. S.write_faults (sink_of writer) ≡ S.write_faults sink) }
         ensures later { IfErr result (λ failed. S.write_faults sink ≤ S.write_faults failed.0) }
+        ensures told { IfOk result (λ writer. S.tells_taken (sink_of writer) ≡ S.tells_taken sink) }
+        ensures told_back { IfErr result (λ failed. S.tells_taken failed.0 ≡ S.tells_taken sink) }
     {
         info_fits(info);
         let mut sink = sink;
@@ -386,6 +388,7 @@ fn write_start<S: Sink>(alloc: Global, sink: &mut S, info: &TraceInfo) -> Result
     ensures ok { OnOk result (TookAll S.tells_taken S.taken (S.taken sink.old) (stream_start info.now) sink.new) }
     ensures part { OnErr result (TookSome S.tells_taken S.taken (S.taken sink.old) (stream_start info.now) sink.new) }
     ensures counted { IsCounted S.write_faults sink.old sink.new result }
+    ensures told { S.tells_taken sink.new ≡ S.tells_taken sink.old }
 {
     let ids = IdTable::new(alloc)?;
     let mut bytes = Vec::new(alloc);
