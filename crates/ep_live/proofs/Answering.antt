@@ -1,28 +1,17 @@
 -- What became of a write, slot by slot.
-use Rattle.std.proofs.Common.{◌≡◌, ℕ, ◌+◌, ◌<◌, false, List, [], ◌∷◌, zero, suc, length, Option, None, Some, refl, ap, sym, subst, ◌∙◌, arith, inl, inr, get_or}
+use Rattle.std.proofs.Common.{◌≡◌, ℕ, ◌<◌, List, [], ◌∷◌, zero, suc, length, Option, None, Some, refl, ap, sym, subst, ◌∙◌, arith, inl, inr, get_or}
 use Rattle.std.specs.Prelude.{◌==◌, if◌then◌else◌, Bool, slice_set}
 use Rattle.std.specs.Int.{bit_at}
 use Rattle.std.proofs.lemmas.Bool.{cases_eq, eq-eqb, ne_eqb}
 use Rattle.std.proofs.lemmas.List.{get_or-set_other, get_or-set_same}
-use Rattle.std.proofs.lemmas.Nat.Bits.{bit_at-zero}
 use Rattle.ep_defs.specs.declared.session.Write.{Write}
 use Rattle.ep_slot.specs.declared.shown.Shown.{Shown}
 use Rattle.ep_slot.specs.Slot.{is_refused}
 use Rattle.ep_row.specs.declared.row.Opening.{Opening}
 use Rattle.ep_row.specs.Bits.{one_if, ClearsBit}
-use Rattle.ep_row.specs.Row.{RowState, slot_of, mask_of, opening_of, with_begin}
+use Rattle.ep_row.specs.Row.{RowState, slot_of, opening_of}
 use Rattle.ep_guarded.specs.Tied.{KeptState, Answers, IsAnswered}
-use Rattle.ep_live.specs.declared.written.Written.{Written}
-use Rattle.ep_live.specs.Written.{AnswersIn, IsPassedOver, AreAnswered, IsWritten}
-
--- Nothing was shown yet.
-pub none-answered : (write : Write) (row : RowState) → AreAnswered write 0 row row
-none-answered write row =
-    record {
-      seen = λ s h was now. absurd (omega (arith, was, now));
-      others = λ s h _. record { same = refl; bit = bit_at-zero s };
-      left = λ s h one. one;
-    }
+use Rattle.ep_live.specs.Written.{AnswersIn, AreAnswered}
 
 -- A place where something stands is within the list.
 within : (slots : List (Option Opening)) (slot : ℕ) (opening : Opening) → get_or slots slot None ≡ Some opening → slot < length slots
@@ -95,32 +84,4 @@ one-answered slot write shown refused now first row new_row old new are stamp sm
             | inl e ↦ let z = cleared s h e in absurd (omega (arith, z, one))
             | inr ne ↦ are.left s h (sym (kept s h ne) ∙ one)
           ];
-    }
-
--- A whole write: it was begun, all that were due have seen it, and it has ended.
-pub is-written : (stamp : ℕ) (write : Write) (old begun shown new : RowState) (written : Written) → begun ≡ with_begin old stamp write → AreAnswered write written.refused begun shown → shown.due ≡ 0 → new ≡ record shown { in_write = false } → written.number ≡ old.index + 1 → written.shown ≡ mask_of old write.event → IsWritten stamp write old new written
-is-written stamp write old begun shown new written is are none ends number mask =
-    let all : AreAnswered write written.refused (with_begin old stamp write) shown = subst (λ (r : RowState). AreAnswered write written.refused r shown) is are in
-    let seen : (s : ℕ) → bit_at shown.due s ≡ 0 = λ s. ap (λ (due : ℕ). bit_at due s) none ∙ bit_at-zero s in
-    let due : (s : ℕ) → bit_at (mask_of old write.event) s ≡ bit_at written.shown s = λ s. ap (λ (m : ℕ). bit_at m s) (sym mask) in
-    let same : (s : ℕ) → slot_of new s ≡ slot_of shown s = λ s. ap (λ (r : RowState). slot_of r s) ends in
-    record {
-      number = number;
-      shown = mask;
-      answers =
-          λ s h one.
-          let one' = all.seen s h (due s ∙ one) (seen s) in
-          record {
-            shown = one'.shown;
-            old = one'.old;
-            new = one'.new;
-            knew = one'.knew;
-            answered = one'.answered;
-            knows = same s ∙ one'.knows;
-            bit = one'.bit;
-          };
-      others =
-          λ s h off.
-          let passed = all.others s h (seen s ∙ sym (due s ∙ off)) in
-          record { same = same s ∙ passed.same; bit = passed.bit };
     }
