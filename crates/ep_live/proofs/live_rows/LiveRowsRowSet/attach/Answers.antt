@@ -17,7 +17,7 @@ open-requires-clause-place g c =
     let count : length halves ≡ length c.args.self.now.halves = ap (λ (v : LiveRowsState). length v.halves) c.self.view_is in
     let at = slice_get_read halves _ (c.args.row - 1) c.index_mut.result.now refl (omega (arith, count, c.requires.row)) c.index_mut.ensures.value in
     (c.self.invariant.halves_are (c.args.row - 1) c.index_mut.result.now at).place
-    ∙ ap (λ (slot : ℕ). hand_place g.P.Program.rows (buffer_number (c.args.row - 1) slot)) (c.requires.can_attach.0 ∙ sym (ap (λ (v : LiveRowsState). v.slot) c.self.view_is))
+    ∙ ap (λ (slot : ℕ). hand_place g.P.Program.rows (buffer_number (c.args.row - 1) slot)) (ap (λ (v : LiveRowsState). v.slot) c.self.view_is ∙ sym c.requires.can_attach.0)
 
 pub open-requires-clause-share : goal.open-requires-clause-share
 open-requires-clause-share g c =
