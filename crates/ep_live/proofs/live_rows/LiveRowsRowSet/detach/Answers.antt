@@ -102,14 +102,14 @@ returns-clause-out g c s =
     let own = said-there hand_in halves c.self.inside.slot c.args.row c.args.slot _ expected in
     let hand_is = ap (λ h. hand_in h.value) (sym (half-is halves c.args.row half c.requires.row.0 at)) ∙ sym (said-own hand_in halves c.self.inside.slot c.args.row c.args.slot own) ∙ expected in
     let was = counts half c.args.hand hand_is in
-    let none : hand_in c.close.new.half.value ≡ None = ap hand_in c.close.ensures.half in
-    let now = counts-none c.close.new.half none in
-    let seat = c.close.ensures.closes.seat_is in
+    let none : hand_in c.close_by.new.half.value ≡ None = ap hand_in c.close_by.ensures.half in
+    let now = counts-none c.close_by.new.half none in
+    let seat = c.close_by.ensures.closes.seat_is in
     let taken = ap (λ s. s.taken) seat in
     let given = ap (λ s. s.given) seat in
-    let chunks = sum-set stolen_in halves (c.args.row - 1) half c.close.new.half at in
-    let more : ℕ = length c.close.result.0.chain in
-    let all : sum_by stolen_in (slice_set halves (c.args.row - 1) c.close.new.half) + c.close.new.seat.taken - c.close.new.seat.given ≡ sum_by stolen_in halves + c.self.inside.seat.taken - c.self.inside.seat.given + more =
+    let chunks = sum-set stolen_in halves (c.args.row - 1) half c.close_by.new.half at in
+    let more : ℕ = length c.close_by.result.0.chain in
+    let all : sum_by stolen_in (slice_set halves (c.args.row - 1) c.close_by.new.half) + c.close_by.new.seat.taken - c.close_by.new.seat.given ≡ sum_by stolen_in halves + c.self.inside.seat.taken - c.self.inside.seat.given + more =
     omega (arith, was, now, taken, given, chunks, c.self.invariant.given)
     in
     out-more c.self.inside.slot c.args.slot s _ _ more own all
