@@ -44,4 +44,5 @@ pub record IsDesk {L : Type 0} (gave : L → ReadSide) (took : L → WriteSide) 
   pub told : AreTold gave took facts greeting 1 decisions conns.items
   pub counted : count ≡ length decisions
   pub few : length conns.items ≤ length decisions
+  pub most : length decisions ≤ CONNECTIONS
   pub room : CONNECTIONS ≤ vec_capacity conns

@@ -34,10 +34,7 @@ pub(crate) enum Verdict<H, F> {
     Tell(Due),
     /// A read of its link failed: it is told nothing.
     Silence,
-    Begin {
-        begun: Begun<H, F>,
-        config: Config,
-    },
+    Begin { begun: Begun<H, F>, config: Config },
 }
 
 /// What became of a connection.
