@@ -26,3 +26,6 @@ pub use desk::{ConnAnswer, ConnEnd, Desk};
 pub use process::Process;
 pub use served::Served;
 pub use unstarted::Unstarted;
+
+#[cfg(test)]
+mod tests;
