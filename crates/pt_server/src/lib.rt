@@ -8,7 +8,7 @@
 //! Its one contract: each connection is decided once and ends as its bytes ask, with a reply that its link took whole
 //! where no write failed, and with a fault only where that link's own count rose.
 //!
-//! What was chosen here, and why: docs/DECISIONS.md, "The program".
+//! What was chosen here, and why: docs/DECISIONS.md, "The protocol".
 #![tactic(auto)]
 
 mod answer;

@@ -59,7 +59,8 @@ impl<'a, N: Process, L: Link> Served<'a, N, L> {
 
     /// The link alone, and why its session did not start, by the fault that its stream's start told.
     pub fn unstarted(self, fault: Fault) -> (L, Unstarted)
-        requires start { TookStart N.facts.info N.greeting (L.tells_taken self.link) (L.taken self.link) }
+        requires start { TookStart N.facts.info N.greeting (L.tells_taken self.link)
+            (L.taken self.link) }
         requires fault { fault ≡ WriteFault → 0 < L.write_faults self.link }
         requires sound { fault ≢ WriteFault → L.write_faults self.link ≡ 0 }
         ensures link { result.0 ≡ self.entry.link }

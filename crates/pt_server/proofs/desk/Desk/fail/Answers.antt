@@ -42,5 +42,5 @@ invariant_of-self g c =
       room = rw c.push_reserved.ensures.capacity k.room;
     }
 
-pub returns-clause-one : goal.returns-clause-one
-returns-clause-one g c = rw (← c.self.view_is) (_, c.push_reserved.ensures.items)
+pub returns-clause-ended : goal.returns-clause-ended
+returns-clause-ended g c = rw (← c.self.view_is) (_, c.push_reserved.ensures.items)
