@@ -2,17 +2,22 @@
 ghost use Rattle.std.specs.Prelude.{◌≡◌, [], IfOk, IsTrue};
 ghost use Rattle.ep_defs.specs.Session.{is_valid_facts};
 ghost use Rattle.pt_io.specs.Memory.{IsUnused};
+ghost use Rattle.ipc_body.specs.declared.request.Request.TheVariants as request;
+ghost use Rattle.pt_server.specs.Connection.{HasAsked, Took};
+ghost use Rattle.pt_server.specs.Unstarted.{HasAskedSession, IsUnstarted};
 
 mod book;
 mod malformed;
 
-use crate::{ConnAnswer, Desk, Process, Unstarted};
+use crate::{Asked, ConnAnswer, Desk, Process, Served, Unstarted};
 use book::Book;
-use ep_defs::{Facts, Items, Units, standard_info};
+use ep_defs::{Config, Facts, Items, Units, standard_info};
 use ep_journal::limits::CONNECTIONS;
 use ep_journal::{Decision, Journal};
 use ipc_serve::codes::{OUT_OF_MEMORY, REFUSED};
-use pt_io::{MemLink, MemSink, MemSource, OpenGate};
+use ipc_serve::session_reply;
+use nt_write::Fault;
+use pt_io::{Failed, Link, MemLink, MemSink, MemSource, OpenGate, Sink};
 use std::alloc::{AllocError, Global};
 use std::marker::Brand;
 use std::test::Fail;
@@ -33,6 +38,10 @@ const DESCRIPTION: [u8; 78] =
 
 const SESSION_1: [u8; 28] = *b"DOTNET_IPC_V1\0\x1c\0\xff\0\0\0\x01\0\0\0\0\0\0\0";
 
+const STOP_5: [u8; 28] = *b"DOTNET_IPC_V1\0\x1c\0\x02\x01\0\0\x05\0\0\0\0\0\0\0";
+
+const SESSION_3: [u8; 28] = *b"DOTNET_IPC_V1\0\x1c\0\xff\0\0\0\x03\0\0\0\0\0\0\0";
+
 const ERROR_REFUSED: [u8; 24] = *b"DOTNET_IPC_V1\0\x18\0\xff\xff\0\0\x05\x40\0\x80";
 
 const ERROR_MEMORY: [u8; 24] = *b"DOTNET_IPC_V1\0\x18\0\xff\xff\0\0\x0e\0\x07\x80";
@@ -46,8 +55,18 @@ pub struct Peer<'a> {
     pub read_fails: &'a [u64],
     pub write_fails: &'a [u64],
     pub keep: usize,
-    /// Whether the session that it asks for starts.
-    pub starts: bool,
+    /// How the session that it asks for starts.
+    pub start: Start,
+}
+
+/// How a session starts.
+#[derive(Clone, Copy, PartialEq, Eq)]
+pub enum Start {
+    Well,
+    /// Memory is missing before its reply is written.
+    Silent,
+    /// Memory is missing once its reply was written.
+    Cut,
 }
 
 /// A peer whose link never fails and gives all in one read, or one byte in each.
@@ -58,7 +77,7 @@ pub fn sound_peer(bytes: &[u8], most: usize) -> Peer<'_> {
         read_fails: &[],
         write_fails: &[],
         keep: 0,
-        starts: true,
+        start: Start::Well,
     }
 }
 
@@ -96,6 +115,23 @@ fn link_of(alloc: Global, peer: &Peer<'_>) -> Result<MemLink, AllocError>
     Ok(MemLink::new(source, sink))
 }
 
+// The link of a session for whose start memory is missing, once its reply was written where it is cut.
+fn unstarted<N: Process, L: Link>(config: &Config, link: L, id: u64, cut: bool) -> (L, Unstarted)
+    requires asked { HasAsked (L.read_side link) (request.Collect config.now) }
+    requires silent { Took N.greeting [] (L.write_side link) }
+    ensures asked { HasAskedSession (L.read_side result.0) }
+    ensures why { IsUnstarted N.facts N.greeting (L.write_side result.0) result.1 }
+{
+    let mut served = Served::<N, L>::new(link, config);
+    if !cut {
+        return served.unstarted(Fault::OutOfMemory);
+    }
+    match served.write(&session_reply(id)) {
+        Ok(()) => served.unstarted(Fault::OutOfMemory),
+        Err(Failed) => served.unstarted(Fault::WriteFault),
+    }
+}
+
 fn serve_all<N: Process>(
     alloc: Global,
     facts: &Facts,
@@ -114,10 +150,19 @@ fn serve_all<N: Process>(
             break;
         }
         if let Some(asked) = desk.answer(alloc, facts, &OpenGate, link) {
-            if peer.starts {
-                begun.push((asked.begun.id, asked.begun.slot, asked.config.chunks))?;
+            let Asked {
+                begun: session,
+                config,
+                link,
+                ..
+            } = asked;
+            let id = session.id;
+            if peer.start == Start::Well {
+                begun.push((id, session.slot, config.chunks))?;
             } else {
-                desk.fail(&OpenGate, asked.begun, asked.link, Unstarted::Silent);
+                let cut = peer.start == Start::Cut;
+                let (link, why) = unstarted::<N, MemLink>(&config, link, id, cut);
+                desk.fail(&OpenGate, session, link, why);
             }
         }
     }
@@ -212,7 +257,15 @@ fn each_fault_ends_its_own_connection(rt: HostRuntime) -> Result<(), Fail> {
     let alloc = rt.alloc();
     let collect = sound_peer(&COLLECT, 10);
     let info = sound_peer(&INFO, 10);
-    let stop = sound_peer(&STOP_1, 65_536);
+    let stop = sound_peer(&STOP_5, 65_536);
+    let silent = Peer {
+        start: Start::Silent,
+        ..collect
+    };
+    let cut = Peer {
+        start: Start::Cut,
+        ..collect
+    };
     let peers = [
         // The first read fails, and then the last.
         Peer {
@@ -238,63 +291,57 @@ fn each_fault_ends_its_own_connection(rt: HostRuntime) -> Result<(), Fail> {
             write_fails: &[2],
             ..info
         },
-        // A start fails, and its reply too.
+        // A start fails before its reply, and the error is not taken.
+        silent,
         Peer {
-            starts: false,
-            ..collect
-        },
-        Peer {
-            starts: false,
             write_fails: &[1],
             keep: 3,
-            ..collect
+            ..silent
+        },
+        // A start fails after its reply, or with it: no error is told.
+        cut,
+        Peer {
+            write_fails: &[1],
+            keep: 3,
+            ..cut
         },
         // The ticket stands, though its reply was not taken.
         collect,
         Peer {
-            bytes: b"DOTNET_IPC_V1\0\x1c\0\x02\x01\0\0\x03\0\0\0\0\0\0\0",
             write_fails: &[1],
             ..stop
         },
-        Peer {
-            bytes: b"DOTNET_IPC_V1\0\x1c\0\x02\x01\0\0\x03\0\0\0\0\0\0\0",
-            ..stop
-        },
+        stop,
     ];
     let told = serve(alloc, &peers)?;
     let memory = ConnAnswer::Error {
         code: OUT_OF_MEMORY,
     };
-    assert!(rt; is(&told, 0, 1, ConnAnswer::ReadFault, b""));
-    assert!(rt; is(&told, 1, 2, ConnAnswer::ReadFault, b""));
-    assert!(rt; is(&told, 2, 3, ConnAnswer::WriteFault, b""));
-    assert!(rt; is(&told, 3, 4, ConnAnswer::WriteFault, &DESCRIPTION[..10]));
-    assert!(rt; is(&told, 4, 5, ConnAnswer::Info, &DESCRIPTION));
-    assert!(rt; is(&told, 5, 6, memory, &ERROR_MEMORY));
-    assert!(rt; is(&told, 6, 7, ConnAnswer::WriteFault, &ERROR_MEMORY[..3]));
-    assert!(rt; is(&told, 7, 9, ConnAnswer::WriteFault, b""));
-    assert!(rt;
-        is(
-            &told,
-            8,
-            10,
-            ConnAnswer::Error { code: REFUSED },
-            &ERROR_REFUSED
-        )
-    );
-    assert!(rt; told.begun.as_slice() == [(3, 0, 4_096)].as_slice());
-    let decisions = [
-        Decision::Nothing,
-        Decision::Nothing,
-        Decision::Nothing,
-        Decision::Nothing,
-        Decision::Nothing,
-        Decision::Nothing,
-        Decision::Nothing,
-        Decision::Accepted { id: 3 },
-        Decision::Ticket { id: 3 },
-        Decision::Refused { id: 3 },
+    let ends: [(u32, ConnAnswer, &[u8]); 11] = [
+        (1, ConnAnswer::ReadFault, b""),
+        (2, ConnAnswer::ReadFault, b""),
+        (3, ConnAnswer::WriteFault, b""),
+        (4, ConnAnswer::WriteFault, &DESCRIPTION[..10]),
+        (5, ConnAnswer::Info, &DESCRIPTION),
+        (6, memory, &ERROR_MEMORY),
+        (7, ConnAnswer::WriteFault, &ERROR_MEMORY[..3]),
+        (8, memory, &SESSION_3),
+        (9, ConnAnswer::WriteFault, &SESSION_3[..3]),
+        (11, ConnAnswer::WriteFault, b""),
+        (12, ConnAnswer::Error { code: REFUSED }, &ERROR_REFUSED),
     ];
-    assert!(rt; told.decisions.as_slice() == decisions.as_slice() && told.held == 1);
+    for (place, (conn, answer, reply)) in ends.iter().enumerate() {
+        assert!(rt; is(&told, place, *conn, *answer, reply));
+    }
+    assert!(rt; told.begun.as_slice() == [(5, 0, 4_096)].as_slice());
+    assert_eq!(rt; (told.answers.len(), told.held), (11, 1));
+    let last = [
+        Decision::Nothing,
+        Decision::Accepted { id: 5 },
+        Decision::Ticket { id: 5 },
+        Decision::Refused { id: 5 },
+    ];
+    assert_eq!(rt; told.decisions.len(), 12);
+    assert!(rt; told.decisions[8..12] == last[..]);
     Ok(())
 }
