@@ -1,7 +1,7 @@
 -- How one connection of a diagnostic server ends: by what was decided on it, what its link gave and what its link took
 -- (the DOTNET_IPC_V1 protocol document of dotnet/diagnostics; that a connection carries one request, and which code
 -- answers which finding, is this project's profile).
-use Rattle.std.specs.Prelude.{◌≡◌, ◌≢◌, ℕ, Bool, ◌<◌, ◌++◌, ◌⊎◌, List, [], Result, Ok, Err, IsTrue}
+use Rattle.std.specs.Prelude.{◌≡◌, ◌≢◌, ℕ, Bool, ◌<◌, ◌++◌, ◌⊎◌, List, [], Ok, Err, IsTrue}
 use Rattle.ep_defs.specs.declared.session.Config.{Config}
 use Rattle.ep_defs.specs.declared.session.Facts.{Facts}
 use Rattle.ep_defs.specs.declared.session.TraceInfo.{TraceInfo}

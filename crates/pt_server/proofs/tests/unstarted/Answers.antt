@@ -1,4 +1,4 @@
-use Rattle.std.proofs.Common.{◌≡◌, ℕ, List, [], ◌++◌, ◌∙◌, ap, subst, inl, IsTrue}
+use Rattle.std.proofs.Common.{ℕ, List, [], ◌++◌, ◌∙◌, ap, subst, inl, IsTrue}
 use Rattle.std.proofs.lemmas.List.{append-nil}
 use Rattle.pt_io.specs.Taken.{TookPartOf}
 use Rattle.ipc_body.specs.Answering.{session_reply}

@@ -1,4 +1,4 @@
-use Rattle.std.proofs.Common.{◌≡◌, ℕ, ◌+◌, ◌-◌, ◌≤◌, ◌<◌, true, List, [], ◌∷◌, ◌++◌, length, ◌∙◌, ap, sym, arith, length-append}
+use Rattle.std.proofs.Common.{◌≡◌, ◌+◌, ◌-◌, ◌≤◌, ◌<◌, true, [], ◌∷◌, ◌++◌, length, ◌∙◌, ap, sym, arith, length-append}
 use Rattle.std.proofs.lemmas.List.{length-set}
 use Rattle.ep_journal.specs.declared.decision.Decision.TheVariants as decision
 use Rattle.ep_journal.specs.declared.limits.TheConstants.{CONNECTIONS}
