@@ -18,7 +18,7 @@ use crate::place::Place;
 use crate::run::Run;
 use crate::start::{Accepted, NotStarted};
 use ep_defs::limits::SESSION_THREADS;
-use ep_defs::{Config, TraceInfo};
+use ep_defs::{Config, Duplicate, TraceInfo};
 use ep_guarded::{Agreed, NotOpened};
 use ep_live::{Ended, Live, LiveRows, Parked, Stands, same_tests_have_the_same_stands};
 use ep_live_laws::{
