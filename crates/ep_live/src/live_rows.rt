@@ -1,5 +1,5 @@
 //! The rows of one session's stream, behind locks.
-ghost use Rattle.std.specs.Prelude.{◌≡◌, ℕ, ◌+◌, ◌-◌, ◌<◌, ◌≤◌, None, Some, IsSome, IsTrue, slice_set, vec_len};
+ghost use Rattle.std.specs.Prelude.{◌≡◌, ℕ, ◌+◌, ◌-◌, ◌<◌, ◌≤◌, None, Some, IsSome, slice_set, vec_len};
 ghost use Rattle.std.specs.Option.{ForSome};
 ghost use Rattle.ep_pool.specs.Shared.{IsSeatOf};
 ghost use Rattle.ep_live.specs.Made.{AreStands};
@@ -39,6 +39,8 @@ pub struct LiveRows<'r, 'a, P: Program, R: Wait> {
     pub(crate) stands: Stands<'a, P>,
     // By row.
     pub(crate) lives: Vec<u32>,
+    // How many writes the threads are to have begun where the session is closed, if that is asked.
+    pub(crate) ends: Option<u32>,
     // Whether the last opening found the row away.
     pub(crate) missed: bool,
 }
@@ -48,7 +50,7 @@ impl<'r, 'a, P: Program, R: Wait> Model for LiveRows<'r, 'a, P, R> {
 
     ghost Value = { LiveRowsState };
 
-    ghost view = { λ s. record { slot = s.slot; grant = s.grant.now; halves = s.halves.items; seat = s.seat; stands = s.stands; lives = s.lives.items } };
+    ghost view = { λ s. record { slot = s.slot; grant = s.grant.now; halves = s.halves.items; seat = s.seat; stands = s.stands; lives = s.lives.items; ends = s.ends } };
 
     ghost invariant = { λ s. AreRowsOfOne P.rows s.slot s.grant.now s.halves.items s.seat s.openings s.lives.items };
 }
@@ -81,6 +83,7 @@ impl<'r, 'a, P: Program, R: Wait> LiveRows<'r, 'a, P, R> {
             openings: 0,
             stands,
             lives,
+            ends: None,
             missed: false,
         }
     }
@@ -97,6 +100,7 @@ impl<'r, 'a, P: Program, R: Wait> LiveRows<'r, 'a, P, R> {
             openings,
             stands,
             lives,
+            ends,
             rt: _,
             live: _,
             missed: _,
@@ -109,15 +113,24 @@ impl<'r, 'a, P: Program, R: Wait> LiveRows<'r, 'a, P, R> {
             openings,
             stands,
             lives,
+            ends,
         }
     }
 
     /// Expects a row, the first being row 1, in this life.
     pub fn expect(&mut self, row: u32, life: u32)
         requires { (0 < row) × (row ≤ P.rows) }
-        ensures { self.new ≡ record self.old { lives = slice_set self.old.lives (row - 1) life } }
+        ensures set { self.new ≡ record self.old { lives = slice_set self.old.lives (row - 1) life } }
+        ensures expected { life_at self.new row ≡ life }
     {
         self.lives[row as usize - 1] = life;
+    }
+
+    /// Where it is asked, a closing waits until the row's thread has begun so many writes, unless the threads' halves are here.
+    pub fn close_at(&mut self, ends: Option<u32>)
+        ensures { self.new ≡ record self.old { ends = ends } }
+    {
+        self.ends = ends;
     }
 
     /// Whether the last opening that was refused found the row in another life, or left by its thread. It is a hint.
@@ -176,6 +189,8 @@ impl<P: Program, R: Wait> RowSet for LiveRows<'_, '_, P, R> {
 
     ghost definitions = { λ _. P.events };
 
+    ghost can_attach = { λ set slot config. (slot ≡ set.slot) × (config ≡ set.grant.config) };
+
     ghost configured = { configured_in };
 
     ghost expected = { expected_in };
@@ -194,20 +209,17 @@ impl<P: Program, R: Wait> RowSet for LiveRows<'_, '_, P, R> {
         self.live.threads()
     }
 
-    /// It has the memory of its own session alone: it opens none in another slot or of another configuration, and none
-    /// where its session was opened on as many threads as one can be. It opens none on a row that has left or that serves
-    /// another life than the one in which it is expected, which `missed` tells.
+    /// It has the memory of its own session alone, and opens none where that was opened on as many threads as one can be.
+    /// It opens none on a row that has left or that serves another life than the one in which it is expected, which `missed`
+    /// tells.
     fn attach(
         &mut self,
         alloc: Global,
         row: u32,
         slot: u32,
         session: u64,
-        config: &Config,
+        _config: &Config,
     ) -> Result<Hand, AllocError> {
-        if slot != self.slot || !is_same(config, &self.grant.config) {
-            return Err(AllocError);
-        }
         if self.openings as usize == SESSION_THREADS {
             return Err(AllocError);
         }
@@ -243,10 +255,12 @@ impl<P: Program, R: Wait> RowSet for LiveRows<'_, '_, P, R> {
 
     fn detach(&mut self, row: u32, slot: u32, hand: Hand) -> (Batch, Marks) {
         let number = row as usize - 1;
-        self.live.close(
+        self.live.close_by(
             self.rt,
             number,
             slot,
+            self.lives[number],
+            self.ends,
             &mut self.halves[number],
             &mut self.stands,
             hand,
@@ -274,10 +288,3 @@ pub fn same_tests_have_the_same_lives()
     ensures { (rows : ℕ) (old new : LiveRowsState) → 0 < rows → TestsHandsAs (tests_hand_in rows old) (tests_hand_in rows new)
         → (row : ℕ) → life_at new row ≡ life_at old row }
 {}
-
-// Says that two configurations are equal where they compare so.
-fn is_same(one: &Config, other: &Config) -> bool
-    ensures { IsTrue result → one.now ≡ other.now }
-{
-    one == other
-}
