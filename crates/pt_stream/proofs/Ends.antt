@@ -1,6 +1,6 @@
 -- What a session over a run's rows comes to.
 use Rattle.std.proofs.Common.{◌≡◌, ◌≢◌, ◌∙◌, ℕ, zero, suc, ◌+◌, ◌-◌, ◌<◌, ◌≤◌, ⊎_elim, true, false, List, Option, None, Some, length, refl, sym, ap, subst, arith}
-use Rattle.std.specs.Prelude.{◌==◌, map}
+use Rattle.std.specs.Prelude.{Bool, ◌==◌, map}
 use Rattle.std.specs.List.{AllByRecursion, sum_by}
 use Rattle.std.proofs.lemmas.Bool.{eqb-true, eqb-false}
 use Rattle.ep_defs.specs.declared.event.EventDef.{EventDef}
@@ -11,16 +11,19 @@ use Rattle.pt_io.specs.declared.sink.Sink.{Ghosts as Sink}
 use Rattle.ep_stream.specs.declared.session.Fate.{Fate}
 use Rattle.ep_stream.specs.declared.session.Fate.TheVariants as fate
 use Rattle.ep_stream.specs.declared.session.Session.{Session}
-use Rattle.ep_stream.specs.Session.{hand_on, rest_of}
+use Rattle.ep_stream.specs.declared.session.Seat.{Seat}
+use Rattle.ep_stream.specs.declared.session.SessionEnd.{SessionEnd}
+use Rattle.ep_stream.specs.Session.{Ended, hand_on, rest_of, sink_of}
 use Rattle.ep_live.specs.RowSet.{LiveRowsState, expected_in, out_in}
-use Rattle.ep_live_laws.specs.Calls.{IsOutcome}
-use Rattle.ep_live_laws.specs.Tracing.{IsOneOf}
+use Rattle.ep_live_laws.specs.Calls.{EndsOver, IsOutcome}
+use Rattle.ep_live_laws.specs.Tracing.{IsOneOf, Watch, is_fault}
 use Rattle.pt_stream.specs.declared.place.Place.{Place}
 use Rattle.pt_stream.specs.Setting.{Setting, watch_of}
-use Rattle.pt_stream.specs.State.{StreamState, place_at}
-use Rattle.pt_stream.specs.End.{AreEarly, AreServed, IsFromFirst}
+use Rattle.pt_stream.specs.State.{place_at}
+use Rattle.pt_stream.specs.End.{AreEarly, AreServed, HasEnded, IsFromFirst}
 use Rattle.pt_stream.specs.Kept.{AreItsRows, ArePlaces, IsEarlyOn, IsKept}
 use Rattle.pt_stream.proofs.Hands.{hand-shut}
+use Rattle.pt_stream.proofs.Told.{ends-risen, ends-sound, handed-fate}
 
 -- A session that is open at no place has no hand.
 pub no-hands : {S : Type 0} (rows lives : ℕ) (places : List Place) (session : Session S) → ((row : ℕ) → (place_at places row).is_open ≡ false) → ArePlaces rows lives places (hand_on session) → (row : ℕ) → hand_on session row ≡ None
@@ -60,3 +63,34 @@ early-threads rows places opened threads session marks is marks_are e =
       first = subst (λ (ts : List ℕ). (row : ℕ) → 0 < row → 0 < (place_at places row).next → IsOneOf ts row) (sym is) e.first;
       from = subst (AllByRecursion (IsFromFirst rows)) marks_are e.marks;
     }
+
+-- ---- all of it
+
+module _ {S : Type 0} (side : Sink S) (rows : ℕ) (events : List EventDef) (writes : ℕ → List Write) (setting : Setting) where
+  pub has-ended : (set : LiveRowsState) (session : Session S) (openings : ℕ) (seat : Seat) (places : List Place) (early : Bool) (stands : Option ℕ) (stamp : ℕ) (handed : Fate) (end : SessionEnd S)
+      → IsKept side rows events writes setting set session openings seat places early
+      → ((row : ℕ) → (place_at places row).is_open ≡ false) → handed ≢ fate.LinkFault
+      → ((watch : Watch) (opened : List ℕ) → EndsOver side watch opened handed session end.fate end.sink → IsOutcome side watch opened handed (rest_of session).marks end.fate end.sink)
+      → end.id ≡ (rest_of session).seat.id → end.slot ≡ (rest_of session).seat.slot → end.conn ≡ (rest_of session).seat.conn → end.config ≡ (rest_of session).config → end.marks ≡ (rest_of session).marks
+      → Ended side.tells_taken side.taken side.write_faults stamp handed session end.fate end.sink → side.write_faults (sink_of session) ≤ side.write_faults end.sink
+      → HasEnded side (watch_of rows events writes setting (rest_of session).config seat.id) rows (setting.faults seat.id)
+      (record { id = seat.id; slot = seat.slot; conn = seat.conn; config = (rest_of session).config; stands = stands; places = places; marks = (rest_of session).marks; early = early })
+      handed end
+  has-ended set session openings seat places early stands stamp handed end k shut not law id slot conn config marks ended later =
+      let watch = watch_of rows events writes setting (rest_of session).config seat.id in
+      let none = no-hands rows setting.lives places session shut k.places_are in
+      let out = law watch k.opened (record { told = k.told.told; stamp = stamp; tracing = k.told.tracing; shut = none; ended = ended }) in
+      let threads = out.marks_are.threads in
+      record {
+        id_is = id ∙ ap (λ (s : Seat). s.id) k.seat_is;
+        slot_is = slot ∙ ap (λ (s : Seat). s.slot) k.seat_is;
+        conn_is = conn ∙ ap (λ (s : Seat). s.conn) k.seat_is;
+        config_is = config;
+        marks_are = marks;
+        served = served-threads rows places k.opened (map (λ mark. mark.thread) (rest_of session).marks) threads k.served;
+        early = λ is. early-threads rows places k.opened (map (λ mark. mark.thread) (rest_of session).marks) session (rest_of session).marks threads refl (k.early_is is);
+        outcome = subst (λ (ts : List ℕ). IsOutcome side watch ts handed (rest_of session).marks end.fate end.sink) (sym threads) out;
+        fate_is = λ sound. ended.fate_is ∙ handed-fate ended.answer handed (subst (λ (f : Fate). is_fault f ≡ false) ended.fate_is sound);
+        link_fault = ends-risen side.tells_taken side.taken side.write_faults (setting.faults seat.id) stamp session handed end.fate end.sink ended later k.told.says not;
+        wrote = ends-sound side.tells_taken side.taken side.write_faults (setting.faults seat.id) stamp session handed end.fate end.sink ended k.told.says;
+      }

@@ -4,6 +4,7 @@ use Rattle.std.specs.Prelude.{◌==◌, if◌then◌else◌, replicate, slice_in
 use Rattle.std.proofs.lemmas.Bool.{eqb-true, eqb-false, eq-eqb, ne_eqb, cases_lt}
 use Rattle.std.proofs.Common.{⊎_elim}
 use Rattle.std.proofs.lemmas.List.{get_or-set_same, get_or-set_other, get_or-replicate, get_or_past, length-replicate, length-set}
+use Rattle.std.proofs.lemmas.Option.{get_or_from_slice_get, slice_get_read}
 use Rattle.pt_stream.specs.declared.place.Place.{Place}
 use Rattle.pt_stream.specs.State.{no_place, place_at, with_place}
 
@@ -30,3 +31,9 @@ place-none rows row =
     (λ (small : row - 1 < rows). get_or-replicate rows (row - 1) no_place no_place small)
     (λ (past : rows ≤ row - 1). get_or_past (replicate rows no_place) (row - 1) no_place (let long = length-replicate {A = Place} rows no_place in omega (arith, long, past)))
     (cases_lt (row - 1) rows)
+
+-- The place that is read of a row is the row's.
+pub place-read : (places : List Place) (row : ℕ) (place : Place) → 0 < row → row ≤ length places → place ≡ slice_index_or places (row - 1) place → place_at places row ≡ place
+place-read places row place some within is =
+    let small : row - 1 < length places = omega (arith, some, within) in
+    get_or_from_slice_get places (row - 1) place no_place (slice_get_read places (length places) (row - 1) place refl small is)

@@ -49,8 +49,8 @@ its-after rows old_set new_set old new its still seat config own count keeps spe
     }
 
 -- The rows expect another life of a row, or lend the threads' halves or have them back.
-pub its-moved : {S : Type 0} (rows : ℕ) (set : LiveRowsState) (session : Session S) (stands : Option ℕ) (lives : List ℕ) → AreItsRows rows set session → AreItsRows rows (record set { stands = stands; lives = lives }) session
-its-moved rows set session stands lives its =
+pub its-moved : {S : Type 0} (rows : ℕ) (set : LiveRowsState) (session : Session S) (stands ends : Option ℕ) (lives : List ℕ) → AreItsRows rows set session → AreItsRows rows (record set { stands = stands; lives = lives; ends = ends }) session
+its-moved rows set session stands ends lives its =
     record {
       slot_is = its.slot_is;
       config_is = its.config_is;

@@ -1,5 +1,5 @@
 -- What holds of a session's stream between two calls. All of it is this project's own.
-use Rattle.std.specs.Prelude.{◌≡◌, ◌≢◌, ℕ, ◌+◌, ◌-◌, ◌<◌, ◌≤◌, true, false, List, Option, None, Some, length}
+use Rattle.std.specs.Prelude.{◌≡◌, ◌≢◌, ℕ, ◌+◌, ◌-◌, ◌<◌, ◌≤◌, Bool, true, false, List, Option, None, Some, length}
 use Rattle.std.specs.List.{AllByRecursion, sum_by}
 use Rattle.ep_defs.specs.declared.limits.TheConstants.{SESSION_THREADS}
 use Rattle.ep_defs.specs.declared.event.EventDef.{EventDef}
@@ -17,7 +17,7 @@ use Rattle.ep_stream.specs.Session.{hand_on, rest_of, fault_of, sink_of, opened_
 use Rattle.ep_live_laws.specs.Tracing.{IsOneOf, IsTracing, Watch}
 use Rattle.pt_stream.specs.declared.place.Place.{Place}
 use Rattle.pt_stream.specs.Setting.{Setting, watch_of}
-use Rattle.pt_stream.specs.State.{StreamState, place_at}
+use Rattle.pt_stream.specs.State.{place_at}
 use Rattle.pt_stream.specs.End.{AreServed, IsFromFirst}
 
 -- ---- where it is open
@@ -76,16 +76,15 @@ pub record IsEarlyOn {S : Type 0} (rows : ℕ) (places : List Place) (opened : L
 
 -- ---- all of it
 
--- A session over a run's rows, with what its stream knows of it.
-pub record IsKept {S : Type 0} (side : Sink S) (rows : ℕ) (events : List EventDef) (writes : ℕ → List Write) (setting : Setting) (set : LiveRowsState) (session : Session S) (openings : ℕ) (state : StreamState) : Type 0 where
-  pub seat_is : (rest_of session).seat ≡ record { slot = state.slot; id = state.id; conn = state.conn }
-  pub config_is : (rest_of session).config ≡ state.config
+-- A session over a run's rows, in this seat, with what its stream knows of it.
+pub record IsKept {S : Type 0} (side : Sink S) (rows : ℕ) (events : List EventDef) (writes : ℕ → List Write) (setting : Setting) (set : LiveRowsState) (session : Session S) (openings : ℕ) (seat : Seat) (places : List Place) (early : Bool) : Type 0 where
+  pub seat_is : (rest_of session).seat ≡ seat
   pub count : opened_count session ≡ openings
   pub few : openings ≤ SESSION_THREADS
   pub rows_are : AreItsRows rows set session
   pub empty : (rest_of session).in_hand ≡ 0
-  pub places_are : ArePlaces rows setting.lives state.places (hand_on session)
+  pub places_are : ArePlaces rows setting.lives places (hand_on session)
   pub opened : List ℕ
-  pub served : AreServed rows state.places opened
-  pub early : state.early ≡ true → IsEarlyOn rows state.places opened session
-  pub told : HasTold side (watch_of rows events writes setting state.config state.id) (setting.faults state.id) opened session
+  pub served : AreServed rows places opened
+  pub early_is : early ≡ true → IsEarlyOn rows places opened session
+  pub told : HasTold side (watch_of rows events writes setting (rest_of session).config seat.id) (setting.faults seat.id) opened session

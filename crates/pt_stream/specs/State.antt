@@ -104,7 +104,7 @@ pub record IsMarked (stands ends : Option ℕ) (old new : List Marks) : Type 0 w
   pub mark : Marks
   pub more : new ≡ with_marks mark old
   pub stands_at : ForSome stands (λ index. mark.to ≡ index)
-  pub ends_at : ForSome ends (λ index. mark.to ≡ index)
+  pub ends_at : stands ≡ None → ForSome ends (λ index. mark.to ≡ index)
 
 -- ---- events
 

@@ -1,5 +1,5 @@
 //! A session's stream over the rows of a run.
-ghost use Rattle.std.specs.Prelude.{◌≡◌, ◌≢◌, ℕ, ◌+◌, ◌-◌, ◌^◌, ◌<◌, ◌≤◌, ◌++◌, true, false, None, Some, length, replicate, vec_len, IsSome, IsTrue, IfOk, IfErr, OnOk, OnErr};
+ghost use Rattle.std.specs.Prelude.{◌≡◌, ◌≢◌, ℕ, ◌+◌, ◌-◌, ◌^◌, ◌<◌, ◌≤◌, ◌++◌, ◌&&◌, true, false, None, Some, length, replicate, vec_len, IsSome, IsTrue, IfOk, IfErr, OnOk, OnErr};
 ghost use Rattle.std.specs.List.{AllByRecursion};
 ghost use Rattle.std.specs.Option.{ForSome};
 ghost use Rattle.pt_io.specs.Faults.{HasRisen};
@@ -58,7 +58,7 @@ impl<'a, P: Run, S: Sink> Model for Stream<'a, P, S> {
 
     ghost view = { λ s. record { id = s.seat.id; slot = s.seat.slot; conn = s.seat.conn; config = (rest_of s.session).config; stands = s.stands; places = s.places.items; marks = (rest_of s.session).marks; early = s.early } };
 
-    ghost invariant = { λ s. (s.rows.stands ≡ s.stands) × IsKept S.Sink P.rows P.events P.writes P.setting s.rows s.session s.openings (record { id = s.seat.id; slot = s.seat.slot; conn = s.seat.conn; config = (rest_of s.session).config; stands = s.stands; places = s.places.items; marks = (rest_of s.session).marks; early = s.early }) };
+    ghost invariant = { λ s. (s.rows.stands ≡ s.stands) × IsKept S.Sink P.rows P.events P.writes P.setting s.rows s.session s.openings s.seat s.places.items s.early };
 }
 
 impl<'a, P: Run, S: Sink> Stream<'a, P, S> {
@@ -114,7 +114,9 @@ impl<'a, P: Run, S: Sink> Stream<'a, P, S> {
                 begin(alloc, rt, rows, sink, reply, seat, config, info, places)
             }
             Err(_) => {
-                grant.pool.drain(rt, pool);
+                let chunks = grant.pool.total();
+                let drained = grant.pool.drain(rt, pool);
+                prove!(drained == chunks);
                 Err(NotStarted {
                     free,
                     sink,
@@ -273,7 +275,7 @@ impl<'a, P: Run, S: Sink> Stream<'a, P, S> {
         match session.attach(alloc, &mut rows, row) {
             Ok(()) => {
                 let number = row as usize - 1;
-                let early = early && stays_early(stands, &places[number], life);
+                let early = stays_early(early, stands, &places[number], life);
                 places[number] = Place {
                     next: life + 1,
                     is_open: true,
@@ -364,6 +366,7 @@ impl<'a, P: Run, S: Sink> Stream<'a, P, S> {
     }
 
     /// The same once the row's thread has made so many writes, which are all that each thread makes. It waits for these too.
+    /// The stream does not have the threads' halves.
     pub fn close_done<R: Wait>(
         self,
         alloc: Global,
@@ -374,6 +377,7 @@ impl<'a, P: Run, S: Sink> Stream<'a, P, S> {
     ) -> Stream<'a, P, S>
         requires row { (0 < row) × (row ≤ P.rows) }
         requires open { (place_at self.places row).is_open ≡ true }
+        requires lent { self.stands ≡ None }
         requires each { (thread : ℕ) → length (P.writes thread) ≡ writes }
         requires events { AreEvents P.events }
         ensures closed { result ≡ closed_on row result.marks self.entry }
@@ -528,11 +532,11 @@ fn begin<'a, P: Run, R: Wait, S: Sink>(
     }
 }
 
-// Whether an opening on a row leaves a session an early one.
-fn stays_early(stands: Option<u32>, place: &Place, life: u32) -> bool
-    ensures { result ≡ stays_early stands place.now life }
+// Whether a session is an early one after an opening on a row.
+fn stays_early(early: bool, stands: Option<u32>, place: &Place, life: u32) -> bool
+    ensures { result ≡ (early && stays_early stands place.now life) }
 {
-    place.next > 0 || life == 0 && stands == Some(0)
+    early && (place.next > 0 || life == 0 && stands == Some(0))
 }
 
 // Why a session was not opened on a row, where it may have found the row away.
