@@ -45,7 +45,7 @@ invariant_of-self g c =
     let none = ap (λ h. h.stolen) opened.hand_is in
     let share = ap (λ s. s.share) opened.seat_is in
     let taken = ap (λ s. s.taken) opened.seat_is in
-    rows-changed _ _ _ halves c.self.inside.seat c.open.new.seat c.self.inside.openings (c.self.inside.openings + 1) (c.args.row - 1) _ half c.open.new.half c.self.invariant at
+    rows-changed _ _ _ _ halves c.self.inside.seat c.open.new.seat c.self.inside.openings (c.self.inside.openings + 1) (c.args.row - 1) _ half c.open.new.half c.self.invariant at
     c.in-Ok.ensures.place
     (λ grant is. same grant c.self.inside.grant.now (sym is ∙ opened.grant_is))
     (omega (arith, now, none)) (ap (λ s. s.pool) opened.seat_is) (ap (λ s. s.total) opened.seat_is) (ap (λ s. s.seats) opened.seat_is)
