@@ -1,12 +1,12 @@
 -- What a session over a run's rows comes to.
-use Rattle.std.proofs.Common.{◌≡◌, ◌≢◌, ◌∙◌, ℕ, zero, suc, ◌+◌, ◌-◌, ◌<◌, ◌≤◌, ⊎_elim, true, false, List, Option, None, Some, length, refl, sym, ap, subst, arith}
+use Rattle.std.proofs.Common.{◌≡◌, ◌≢◌, ◌∙◌, ℕ, zero, suc, ◌-◌, ◌<◌, ◌≤◌, ⊎_elim, true, false, List, Option, None, refl, sym, ap, subst, arith}
 use Rattle.std.specs.Prelude.{Bool, ◌==◌, map}
-use Rattle.std.specs.List.{AllByRecursion, sum_by}
-use Rattle.std.proofs.lemmas.Bool.{eqb-true, eqb-false}
+use Rattle.std.specs.List.{AllByRecursion}
+use Rattle.std.proofs.lemmas.Bool.{cases_lt, eqb-true, eqb-false}
+use Rattle.std.proofs.lemmas.List.{get_or_past}
 use Rattle.ep_defs.specs.declared.event.EventDef.{EventDef}
 use Rattle.ep_defs.specs.declared.session.Marks.{Marks}
 use Rattle.ep_defs.specs.declared.session.Write.{Write}
-use Rattle.ep_slot.specs.Hand.{HandState}
 use Rattle.pt_io.specs.declared.sink.Sink.{Ghosts as Sink}
 use Rattle.ep_stream.specs.declared.session.Fate.{Fate}
 use Rattle.ep_stream.specs.declared.session.Fate.TheVariants as fate
@@ -19,17 +19,21 @@ use Rattle.ep_live_laws.specs.Calls.{EndsOver, IsOutcome}
 use Rattle.ep_live_laws.specs.Tracing.{IsOneOf, Watch, is_fault}
 use Rattle.pt_stream.specs.declared.place.Place.{Place}
 use Rattle.pt_stream.specs.Setting.{Setting, watch_of}
-use Rattle.pt_stream.specs.State.{place_at}
+use Rattle.pt_stream.specs.State.{no_place, place_at}
 use Rattle.pt_stream.specs.End.{AreEarly, AreServed, HasEnded, IsFromFirst}
 use Rattle.pt_stream.specs.Kept.{AreItsRows, ArePlaces, IsEarlyOn, IsKept}
 use Rattle.pt_stream.proofs.Hands.{hand-shut}
 use Rattle.pt_stream.proofs.Told.{ends-risen, ends-sound, handed-fate}
 
--- A session that is open at no place has no hand.
-pub no-hands : {S : Type 0} (rows lives : ℕ) (places : List Place) (session : Session S) → ((row : ℕ) → (place_at places row).is_open ≡ false) → ArePlaces rows lives places (hand_on session) → (row : ℕ) → hand_on session row ≡ None
+-- A session that is open on no row has no hand.
+pub no-hands : {S : Type 0} (rows lives : ℕ) (places : List Place) (session : Session S) → ((row : ℕ) → 0 < row → row ≤ rows → (place_at places row).is_open ≡ false) → ArePlaces rows lives places (hand_on session) → (row : ℕ) → hand_on session row ≡ None
 no-hands rows lives places session shut a zero = refl
 no-hands rows lives places session shut a (suc place) =
-    hand-shut rows (suc place) (place_at places (suc place)) (hand_on session (suc place)) (a.hands_are (suc place) (omega arith)) (shut (suc place))
+    hand-shut rows (suc place) (place_at places (suc place)) (hand_on session (suc place)) (a.hands_are (suc place) (omega arith))
+    (⊎_elim
+    (λ (past : rows < suc place). ap (λ (p : Place). p.is_open) (get_or_past places (suc place - 1) no_place (let long = a.count in omega (arith, long, past))))
+    (λ (within : suc place ≤ rows). shut (suc place) (omega arith) within)
+    (cases_lt rows (suc place)))
 
 by-slot : (P : Type 0) (slot own : ℕ) → (slot ≡ own → P) → (slot ≢ own → P) → P
 by-slot P slot own here other =
@@ -69,7 +73,7 @@ early-threads rows places opened threads session marks is marks_are e =
 module _ {S : Type 0} (side : Sink S) (rows : ℕ) (events : List EventDef) (writes : ℕ → List Write) (setting : Setting) where
   pub has-ended : (set : LiveRowsState) (session : Session S) (openings : ℕ) (seat : Seat) (places : List Place) (early : Bool) (stands : Option ℕ) (stamp : ℕ) (handed : Fate) (end : SessionEnd S)
       → IsKept side rows events writes setting set session openings seat places early
-      → ((row : ℕ) → (place_at places row).is_open ≡ false) → handed ≢ fate.LinkFault
+      → ((row : ℕ) → 0 < row → row ≤ rows → (place_at places row).is_open ≡ false) → handed ≢ fate.LinkFault
       → ((watch : Watch) (opened : List ℕ) → EndsOver side watch opened handed session end.fate end.sink → IsOutcome side watch opened handed (rest_of session).marks end.fate end.sink)
       → end.id ≡ (rest_of session).seat.id → end.slot ≡ (rest_of session).seat.slot → end.conn ≡ (rest_of session).seat.conn → end.config ≡ (rest_of session).config → end.marks ≡ (rest_of session).marks
       → Ended side.tells_taken side.taken side.write_faults stamp handed session end.fate end.sink → side.write_faults (sink_of session) ≤ side.write_faults end.sink

@@ -1,5 +1,5 @@
 -- What a session's hands are after a call, by the places of its rows.
-use Rattle.std.proofs.Common.{◌≡◌, ◌≢◌, ◌∙◌, ℕ, zero, suc, ◌+◌, ◌-◌, ◌<◌, ◌≤◌, true, false, List, [], ◌∷◌, Option, None, Some, length, refl, sym, ap, subst, arith}
+use Rattle.std.proofs.Common.{◌≡◌, ◌≢◌, ◌∙◌, ℕ, suc, ◌+◌, ◌-◌, ◌<◌, ◌≤◌, true, false, List, [], ◌∷◌, Option, None, Some, length, refl, sym, ap, subst, arith}
 use Rattle.std.specs.Prelude.{◌==◌, if◌then◌else◌, IsSome, replicate}
 use Rattle.std.specs.List.{All}
 use Rattle.std.proofs.lemmas.Bool.{true≢false, eq-eqb, ne_eqb}
@@ -65,8 +65,10 @@ places-opened rows lives row life places old new hand some within few thread set
     now r is =
         let long = a.count in
         ap (place_at (with_place row (opened_place life) places)) is ∙ place-here places row (opened_place life) some (omega (arith, within, long))
+
     back : life + 1 - 1 ≡ life
     back = omega arith
+
     own : (r : ℕ) → r ≡ row → IsHandOf rows r (opened_place life) (Some hand)
     own r is = (refl, omega arith, thread ∙ ap (λ (x : ℕ). thread_of rows (x - 1) life) (sym is) ∙ ap (λ (l : ℕ). thread_of rows (r - 1) l) (sym back))
 

@@ -1,10 +1,9 @@
 -- What holds of a session's stream after each call.
-use Rattle.std.proofs.Common.{◌≡◌, ◌≢◌, ◌∙◌, ◌⊎◌, inl, inr, ℕ, ◌+◌, ◌-◌, ◌<◌, ◌≤◌, true, false, List, [], ◌∷◌, Option, None, Some, length, refl, sym, ap, subst, arith}
-use Rattle.std.specs.Prelude.{Bool, ◌==◌, ◌&&◌, ◌||◌, if◌then◌else◌, nat_lt, Result, replicate}
-use Rattle.std.specs.List.{AllByRecursion, sum_by}
+use Rattle.std.proofs.Common.{◌≡◌, ◌∙◌, ◌⊎◌, inl, inr, ℕ, ◌+◌, ◌-◌, ◌<◌, ◌≤◌, true, false, List, [], ◌∷◌, Option, None, Some, length, sym, ap, subst, arith}
+use Rattle.std.specs.Prelude.{Bool, ◌==◌, ◌&&◌, if◌then◌else◌, nat_lt, Result}
+use Rattle.std.specs.List.{AllByRecursion}
 use Rattle.std.specs.Option.{option_map_or}
 use Rattle.std.proofs.lemmas.Bool.{and_parts, eqb-true, ltb-true, or_cases}
-use Rattle.std.proofs.lemmas.Option.{none-some}
 use Rattle.ep_defs.specs.declared.limits.TheConstants.{SESSION_THREADS}
 use Rattle.ep_defs.specs.declared.event.EventDef.{EventDef}
 use Rattle.ep_defs.specs.declared.session.Config.{Config}
@@ -28,12 +27,12 @@ use Rattle.ep_live_laws.specs.Calls.{OpensOn, TellsMore, TellsSame}
 use Rattle.ep_live_laws.specs.Tracing.{IsOneOf, Watch}
 use Rattle.pt_stream.proofs.Threads.{one-here, one-more}
 use Rattle.pt_stream.specs.declared.place.Place.{Place}
-use Rattle.pt_stream.specs.Setting.{Setting, home_of, watch_of}
+use Rattle.pt_stream.specs.Setting.{Setting, watch_of}
 use Rattle.pt_stream.specs.State.{place_at, stays_early, with_place}
 use Rattle.pt_stream.specs.End.{IsFromFirst}
 use Rattle.pt_stream.specs.Kept.{HasTold, IsEarlyOn, IsFirstHand, IsKept}
 use Rattle.pt_stream.proofs.Lives.{first-of, home-row, later-above}
-use Rattle.pt_stream.proofs.Places.{by-row, place-here, place-other}
+use Rattle.pt_stream.proofs.Places.{by-row, place-other}
 use Rattle.pt_stream.proofs.Served.{fresh-thread, opened_place, served-opened, served-same}
 use Rattle.pt_stream.proofs.Hands.{hand-shut, next-closed, places-closed, places-opened, places-same, places-swept, set-here, set-other, shut_place, swept-hand}
 use Rattle.pt_stream.proofs.Told.{told-more, told-same}

@@ -1,6 +1,6 @@
 -- The threads on which a session was opened, by the lives of rows.
-use Rattle.std.proofs.Common.{◌≡◌, ◌≢◌, ◌∙◌, ℕ, ◌+◌, ◌-◌, ◌<◌, ◌≤◌, true, false, List, length, refl, sym, ap, subst, arith}
-use Rattle.std.specs.Prelude.{Bool, ◌==◌}
+use Rattle.std.proofs.Common.{◌≡◌, ◌∙◌, ℕ, ◌+◌, ◌-◌, ◌<◌, ◌≤◌, true, false, List, length, refl, sym, ap, subst, arith}
+use Rattle.std.specs.Prelude.{◌==◌}
 use Rattle.std.proofs.lemmas.Bool.{eqb-true}
 use Rattle.ep_model.specs.History.{insert_ascending}
 use Rattle.ep_guarded.specs.Tied.{thread_of}
@@ -53,10 +53,13 @@ served-opened rows row life places opened some within count later ascending serv
   where
     thread : ℕ
     thread = thread_of rows (row - 1) life
+
     after : List Place
     after = with_place row (opened_place life) places
+
     here : place_at (with_place row (opened_place life) places) row ≡ opened_place life
     here = place-here places row (opened_place life) some (omega (arith, within, count))
+
     each : (t : ℕ) → IsOneOf (insert_ascending (thread_of rows (row - 1) life) opened) t → IsServed rows (with_place row (opened_place life) places) t
     each t is =
         elim (t == thread_of rows (row - 1) life) as (λ v. (t == thread_of rows (row - 1) life) ≡ v → IsServed rows (with_place row (opened_place life) places) t) [
@@ -68,6 +71,7 @@ served-opened rows row life places opened some within count later ascending serv
               record { row = s.row; life = s.life; some = s.some; within = s.within; opened = still rows row life places some within count later s.row s.life s.some s.opened; thread_is = s.thread_is }
         ]
         refl
+
     all : (r : ℕ) → 0 < r → 0 < (place_at (with_place row (opened_place life) places) r).next → HasOne rows (insert_ascending (thread_of rows (row - 1) life) opened) r (place_at (with_place row (opened_place life) places) r)
     all r there up =
         by-row (HasOne rows (insert_ascending (thread_of rows (row - 1) life) opened) r (place_at (with_place row (opened_place life) places) r)) r row

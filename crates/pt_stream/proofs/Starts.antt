@@ -1,29 +1,25 @@
 -- A session that was just started.
-use Rattle.std.proofs.Common.{◌≡◌, ◌≢◌, ◌∙◌, ℕ, ◌+◌, ◌<◌, ◌≤◌, true, false, List, [], ◌++◌, Option, None, Some, length, refl, sym, ap, subst, arith}
+use Rattle.std.proofs.Common.{◌≡◌, ◌∙◌, ℕ, ◌<◌, true, false, List, [], ◌++◌, Option, None, refl, sym, ap, subst, arith}
 use Rattle.std.specs.Prelude.{Bool, IsTrue, replicate}
 use Rattle.std.specs.List.{AllByRecursion, sum_by}
 use Rattle.std.proofs.lemmas.Bool.{true≢false}
 use Rattle.std.proofs.lemmas.Option.{none-some}
-use Rattle.ep_defs.specs.declared.limits.TheConstants.{SESSION_THREADS}
 use Rattle.ep_defs.specs.Definitions.{definition_at}
 use Rattle.ep_defs.specs.declared.event.EventDef.{EventDef}
 use Rattle.ep_defs.specs.declared.session.Config.{Config}
 use Rattle.ep_defs.specs.declared.session.TraceInfo.{TraceInfo}
 use Rattle.ep_defs.specs.declared.session.Write.{Write}
 use Rattle.ep_defs.specs.Entry.{Entry}
-use Rattle.ep_slot.specs.Hand.{HandState}
-use Rattle.nt_write.specs.declared.fault.Fault.{Fault}
 use Rattle.nt_write.specs.declared.writer.TraceWriter.{TraceWriter}
-use Rattle.nt_write.specs.Writer.{IsWriting, fault_of as writer_fault, sink_of as writer_sink}
+use Rattle.nt_write.specs.Writer.{IsWriting, sink_of as writer_sink}
 use Rattle.pt_io.specs.declared.sink.Sink.{Ghosts as Sink}
-use Rattle.ep_pool.specs.Shared.{SeatState}
 use Rattle.ep_stream.specs.declared.session.Seat.{Seat}
 use Rattle.ep_stream.specs.declared.session.Session.{Session}
 use Rattle.ep_stream.specs.Session.{Rest, Started, fault_of, hand_on, new_rest, opened_count, rest_of, sink_of, writer_of}
 use Rattle.ep_stream.specs.Telling.{IsTelling}
-use Rattle.ep_live.specs.RowSet.{AreFresh, LiveRowsState, expected_in}
+use Rattle.ep_live.specs.RowSet.{AreFresh, LiveRowsState}
 use Rattle.ep_live_laws.specs.Calls.{IsNew}
-use Rattle.ep_live_laws.specs.Tracing.{IsOneOf, IsTracing, Watch}
+use Rattle.ep_live_laws.specs.Tracing.{IsTracing}
 use Rattle.pt_stream.specs.declared.place.Place.{Place}
 use Rattle.pt_stream.specs.Setting.{Setting, watch_of}
 use Rattle.pt_stream.specs.State.{no_place, place_at}

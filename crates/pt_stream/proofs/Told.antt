@@ -1,5 +1,5 @@
 -- What a session has told, and how it says its faults, after each call.
-use Rattle.std.proofs.Common.{◌≡◌, ◌≢◌, ◌∙◌, ℕ, ◌≤◌, ⊎_elim, true, false, List, ◌++◌, None, Some, refl, sym, ap, subst, arith}
+use Rattle.std.proofs.Common.{◌≡◌, ◌≢◌, ◌∙◌, ℕ, ◌≤◌, ⊎_elim, false, List, ◌++◌, None, Some, refl, sym, ap, subst, arith}
 use Rattle.std.specs.Prelude.{Bool, Result, Ok, Err}
 use Rattle.std.proofs.lemmas.Option.{none-some}
 use Rattle.nt_write.specs.declared.fault.Fault.{Fault}

@@ -1,5 +1,5 @@
 -- What holds of a session's stream between two calls. All of it is this project's own.
-use Rattle.std.specs.Prelude.{◌≡◌, ◌≢◌, ℕ, ◌+◌, ◌-◌, ◌<◌, ◌≤◌, Bool, true, false, List, Option, None, Some, length}
+use Rattle.std.specs.Prelude.{◌≡◌, ◌≢◌, ℕ, ◌-◌, ◌<◌, ◌≤◌, Bool, true, false, List, Option, None, Some, length}
 use Rattle.std.specs.List.{AllByRecursion, sum_by}
 use Rattle.ep_defs.specs.declared.limits.TheConstants.{SESSION_THREADS}
 use Rattle.ep_defs.specs.declared.event.EventDef.{EventDef}

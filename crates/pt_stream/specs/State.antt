@@ -1,6 +1,6 @@
 -- What contracts see of a session's stream over a run (this project's profile).
 use Rattle.std.specs.Prelude.{◌≡◌, ℕ, ◌+◌, ◌-◌, ◌<◌, ◌≤◌, Bool, true, false, ◌&&◌, ◌||◌, ◌==◌, nat_lt, List, [], length, Option, None, IsTrue, replicate, slice_index_or, slice_set}
-use Rattle.std.specs.List.{AllByRecursion, list_all}
+use Rattle.std.specs.List.{list_all}
 use Rattle.std.specs.Option.{ForSome, option_map_or}
 use Rattle.ep_defs.specs.declared.limits.TheConstants.{EVENTS}
 use Rattle.ep_defs.specs.declared.event.EventDef.{EventDef}
@@ -41,9 +41,9 @@ place_at places row = slice_index_or places (row - 1) no_place
 abbrev pub with_place : ℕ → Place → List Place → List Place
 with_place row place places = slice_set places (row - 1) place
 
--- It is open on no row.
-abbrev pub IsShut : StreamState → Type 0
-IsShut stream = (row : ℕ) → (place_at stream.places row).is_open ≡ false
+-- It is open on none of so many rows.
+abbrev pub IsShut : ℕ → StreamState → Type 0
+IsShut rows stream = (row : ℕ) → 0 < row → row ≤ rows → (place_at stream.places row).is_open ≡ false
 
 -- It was opened on each row.
 abbrev pub is_complete : StreamState → Bool

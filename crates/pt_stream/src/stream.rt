@@ -7,6 +7,7 @@ ghost use Rattle.nt_write.specs.declared.fault.Fault.TheVariants.{OutOfMemory, T
 ghost use Rattle.ep_stream.specs.declared.session.Fate.TheVariants as fates;
 ghost use Rattle.ep_defs.specs.declared.limits.TheConstants.{SESSIONS};
 ghost use Rattle.ep_stream.specs.Session.{TookStart};
+ghost use Rattle.ep_guarded.specs.Granted.{IsGrantFor};
 ghost use Rattle.ep_live.specs.Made.{AreStands};
 ghost use Rattle.ep_live.specs.RowSet.{AreFresh};
 ghost use Rattle.ep_live_laws.specs.Tracing.{is_fault};
@@ -22,8 +23,9 @@ use ep_defs::{Config, Duplicate, TraceInfo};
 use ep_guarded::{Agreed, NotOpened};
 use ep_live::{Ended, Live, LiveRows, Parked, Stands, same_tests_have_the_same_stands};
 use ep_live_laws::{
-    a_call_that_takes_nothing_changes_no_trace, a_closed_row_is_traced, a_session_starts_with_no_trace,
-    a_session_that_ends_has_traced, a_sweep_is_traced, an_opened_row_is_traced,
+    a_call_that_takes_nothing_changes_no_trace, a_closed_row_is_traced,
+    a_session_starts_with_no_trace, a_session_that_ends_has_traced, a_sweep_is_traced,
+    an_opened_row_is_traced,
 };
 use ep_stream::{Fate, RowSet, Seat, Session, SessionEnd};
 use ep_tie::Right;
@@ -74,6 +76,7 @@ impl<'a, P: Run, S: Sink> Stream<'a, P, S> {
         info: &TraceInfo,
     ) -> Result<Stream<'a, P, S>, NotStarted<'a, P, S>>
         requires pool { accepted.pool ≡ first_seat accepted.grant.now.pool (P.rows + 1) }
+        requires granted { IsGrantFor P.events accepted.grant.now }
         requires info { info.now ≡ P.setting.info }
         requires before { IsTrue (S.tells_taken accepted.sink)
             → S.taken accepted.sink ++ reply.now ≡ P.setting.before accepted.id }
@@ -150,7 +153,8 @@ impl<'a, P: Run, S: Sink> Stream<'a, P, S> {
     /// What it has of a row, the first being row 1.
     pub fn place(&self, row: u32) -> Place
         requires { (0 < row) × (row ≤ P.rows) }
-        ensures { result ≡ place_at self.now.places row }
+        ensures place { result ≡ place_at self.now.places row }
+        ensures count { length self.now.places ≡ P.rows }
     {
         self.places[row as usize - 1]
     }
@@ -443,7 +447,7 @@ impl<'a, P: Run, S: Sink> Stream<'a, P, S> {
         stamp: u64,
         fate: Fate,
     ) -> (SessionEnd<S>, Ended<'a, P>)
-        requires shut { IsShut self }
+        requires shut { IsShut P.rows self }
         requires own { (fate ≢ fates.LinkFault) × (fate ≢ fates.TooLong) }
         requires complete { is_fault fate ≡ false → is_complete self ≡ true }
         requires done { fate ≡ fates.ProgramEnd → AllByRecursion (IsDone P.writes) self.marks }

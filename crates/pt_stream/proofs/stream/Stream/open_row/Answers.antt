@@ -1,4 +1,4 @@
-use Rattle.std.proofs.Common.{◌≡◌, ◌∙◌, ◌+◌, ◌-◌, ◌<◌, ◌≤◌, ℕ, List, false, length, refl, sym, ap, subst, arith}
+use Rattle.std.proofs.Common.{◌≡◌, ◌∙◌, ◌+◌, ◌-◌, ◌<◌, ◌≤◌, ℕ, List, false, sym, ap, subst, arith}
 use Rattle.std.specs.Prelude.{Bool, ◌&&◌, slice_set}
 use Rattle.ep_defs.specs.declared.limits.TheConstants.{SESSION_THREADS}
 use Rattle.ep_guarded.specs.Tied.{thread_of}

@@ -1,4 +1,4 @@
-use Rattle.std.proofs.Common.{◌∙◌, List, None, refl, sym, ap, subst}
+use Rattle.std.proofs.Common.{◌∙◌, List, None, sym, ap, subst}
 use Rattle.ep_defs.specs.Definitions.{AreDistinct, definition_at}
 use Rattle.ep_defs.specs.declared.event.EventDef.{EventDef}
 use Rattle.ep_live.specs.RowSet.{LiveRowsState}
