@@ -114,6 +114,7 @@ impl<S: Sink> Session<S> {
         ensures later { IfErr result (λ failed. S.write_faults sink ≤ S.write_faults failed.0) }
         ensures told { IfOk result (λ session. S.tells_taken (sink_of session) ≡ S.tells_taken sink) }
         ensures told_back { IfErr result (λ failed. S.tells_taken failed.0 ≡ S.tells_taken sink) }
+        ensures other_side { IfOk result (λ session. S.read_side (sink_of session) ≡ S.read_side sink) }
         ensures hands { IfOk result (λ session. (row : ℕ) → hand_on session row ≡ None) }
         ensures rest { IfOk result (λ session. rest_of session ≡ new_rest seat config) }
         ensures count { IfOk result (λ session. opened_count session ≡ 0) }
@@ -198,6 +199,7 @@ impl<S: Sink> Session<S> {
             (λ records. Writes S.tells_taken S.taken events.now (entries_of events.now (rest_of self.old).config.stackwalk records) self.old self.new result)
             events.now row self.old self.new result }
         ensures faulty { IsFaulty S.write_faults (writer_of self.old) (writer_of self.new) result }
+        ensures other_side { S.read_side (sink_of self.new) ≡ S.read_side (sink_of self.old) }
         ensures count { opened_count self.new ≡ opened_count self.old }
         ensures rows { AreRowsOf R.expected R.configured R.out rows.new self.new }
         ensures refused { R.refused rows.new ≡ R.refused rows.old }
@@ -262,6 +264,7 @@ impl<S: Sink> Session<S> {
         ensures rest { OnErr result (rest_of self.new ≡ rest_of self.old) }
         ensures hands { SameHands self.old self.new }
         ensures faulty { IsFaulty S.write_faults (writer_of self.old) (writer_of self.new) result }
+        ensures other_side { S.read_side (sink_of self.new) ≡ S.read_side (sink_of self.old) }
         ensures count { opened_count self.new ≡ opened_count self.old }
     {
         self.opened.count_off();
@@ -292,6 +295,7 @@ impl<S: Sink> Session<S> {
             (λ takings. Writes S.tells_taken S.taken events.now (sweep_entries events.now (rest_of self.old).config.stackwalk stamp (rest_of self.old).named takings) self.old self.new result)
             events.now (R.count rows.old) self.old self.new result }
         ensures faulty { IsFaulty S.write_faults (writer_of self.old) (writer_of self.new) result }
+        ensures other_side { S.read_side (sink_of self.new) ≡ S.read_side (sink_of self.old) }
         ensures count { opened_count self.new ≡ opened_count self.old }
         ensures rows { AreRowsOf R.expected R.configured R.out rows.new self.new }
         ensures refused { R.refused rows.new ≡ R.refused rows.old }
@@ -328,6 +332,7 @@ impl<S: Sink> Session<S> {
             (λ takings. Writes S.tells_taken S.taken events.now (entries_in events.now (rest_of self.old).config.stackwalk takings) self.old self.new result)
             events.now row self.old self.new result }
         ensures faulty { MayFail S.write_faults (writer_of self.old) (writer_of self.new) result }
+        ensures other_side { S.read_side (sink_of self.new) ≡ S.read_side (sink_of self.old) }
         ensures count { opened_count self.new ≡ opened_count self.old }
         ensures rows { AreRowsOf R.expected R.configured R.out rows.new self.new }
         ensures refused { R.refused rows.new ≡ R.refused rows.old }
@@ -350,6 +355,7 @@ impl<S: Sink> Session<S> {
         ensures unnamed { OnErr result ((rest_of self.new).named ≡ (rest_of self.old).named) }
         ensures hands { SameHands self.old self.new }
         ensures faulty { IsFaulty S.write_faults (writer_of self.old) (writer_of self.new) result }
+        ensures other_side { S.read_side (sink_of self.new) ≡ S.read_side (sink_of self.old) }
         ensures count { opened_count self.new ≡ opened_count self.old }
     {
         if let Some(fault) = self.writer.failed() {
@@ -385,6 +391,7 @@ impl<S: Sink> Session<S> {
             (λ records. Writes S.tells_taken S.taken events.now (entries_of events.now (rest_of self.old).config.stackwalk records) self.old self.new result)
             events.now row self.old self.new }
         ensures faulty { IsFaulty S.write_faults (writer_of self.old) (writer_of self.new) result }
+        ensures other_side { S.read_side (sink_of self.new) ≡ S.read_side (sink_of self.old) }
         ensures count { opened_count self.new ≡ opened_count self.old }
         ensures rows { AreRowsOf R.expected R.configured R.out rows.new self.new }
         ensures refused { CountsRefused (R.refused rows.old) (rest_of self.old).marks → CountsRefused (R.refused rows.new) (rest_of self.new).marks }
@@ -419,6 +426,7 @@ impl<S: Sink> Session<S> {
         ensures marks { result.marks ≡ (rest_of self).marks }
         ensures ended { Ended S.tells_taken S.taken S.write_faults stamp fate self result.fate result.sink }
         ensures later { S.write_faults (sink_of self) ≤ S.write_faults result.sink }
+        ensures other_side { S.read_side result.sink ≡ S.read_side (sink_of self) }
     {
         let mut session = self;
         let _ = session.point(alloc, stamp);
@@ -451,6 +459,7 @@ fn write_reply<S: Sink>(sink: &mut S, reply: &[u8]) -> Result<(), Fault>
     ensures fault { IfErr result (λ fault. fault ≡ WriteFault) }
     ensures later { S.write_faults sink.old ≤ S.write_faults sink.new }
     ensures told { S.tells_taken sink.new ≡ S.tells_taken sink.old }
+    ensures other_side { S.read_side sink.new ≡ S.read_side sink.old }
 {
     if !reply.is_empty() {
         sink.write(reply)?;

@@ -8,7 +8,7 @@ ghost use Rattle.ep_defs.specs.declared.session.TraceInfo.{TraceInfo};
 ghost use Rattle.ep_chunk.specs.Record.{Record};
 ghost use Rattle.ep_chunk.specs.Places.{Tells as TellsRecord};
 ghost use Rattle.ep_slot.specs.Chain.{records_of};
-ghost use Rattle.nt_write.specs.Writer.{fault_of};
+ghost use Rattle.nt_write.specs.Writer.{fault_of, sink_of};
 ghost use Rattle.ep_stream.specs.Telling.{IsTelling, Tells, IsWritable, CanBeRead, IsFaulty, entry_of, entries_of};
 
 use ep_chunk::{Chain, Chunk, RecOut};
@@ -41,6 +41,7 @@ fn write_record<S: Sink>(
         → IsTelling S.tells_taken S.taken before (definition_at events.now) info told writer.old
         → Tells S.tells_taken S.taken before (definition_at events.now) info told (entry_of events.now stacks r) result writer.new }
     ensures faulty { IsFaulty S.write_faults writer.old writer.new result }
+    ensures other_side { S.read_side (sink_of writer.new) ≡ S.read_side (sink_of writer.old) }
 {
     let out = EventOut {
         event: rec.event,
@@ -72,6 +73,7 @@ fn write_chunk<S: Sink>(
         → IsTelling S.tells_taken S.taken before (definition_at events.now) info told writer.old
         → Tells S.tells_taken S.taken before (definition_at events.now) info told (entries_of events.now stacks chunk.now) result writer.new }
     ensures faulty { IsFaulty S.write_faults writer.old writer.new result }
+    ensures other_side { S.read_side (sink_of writer.new) ≡ S.read_side (sink_of writer.old) }
 {
     let mut place = 0;
     while let Some(rec) = chunk.at(place) {
@@ -98,6 +100,7 @@ pub(crate) fn write_chain<S: Sink>(
         → IsTelling S.tells_taken S.taken before (definition_at events.now) info told writer.old
         → Tells S.tells_taken S.taken before (definition_at events.now) info told (entries_of events.now stacks (records_of chain.now)) result writer.new }
     ensures faulty { IsFaulty S.write_faults writer.old writer.new result }
+    ensures other_side { S.read_side (sink_of writer.new) ≡ S.read_side (sink_of writer.old) }
 {
     if let Some(fault) = writer.failed() {
         return Err(fault);

@@ -20,6 +20,7 @@ loop-place-init g c =
     record {
       sound = search rules;
       wrote = refl;
+      other_side = refl;
       telling = λ before info told now. subst (λ (es : List Entry). IsTelling g.S.Sink.tells_taken g.S.Sink.taken before (definition_at c.args.events.now) info es c.args.writer.now) (sym (append-nil told)) now;
     }
 
@@ -43,6 +44,7 @@ loop-place-preserved g c =
     record {
       sound = c.in_ok-write_chunk.ensures.faulty.sound;
       wrote = c.in_ok-write_chunk.ensures.faulty.wrote (ok_is_no_fault c.in_ok-write_chunk.field-0 WriteFault) ∙ inv.wrote;
+      other_side = c.in_ok-write_chunk.ensures.other_side ∙ inv.other_side;
       telling = λ before info told now.
           subst (λ (es : List Entry). IsTelling g.S.Sink.tells_taken g.S.Sink.taken before (definition_at events) info (told ++ es) c.write_chunk.new.writer)
           (sym (entries_of-append events stacks first chunk) ∙ ap (λ (rs : List Record). entries_of events stacks rs) (sym (take_chain chain place chunk (sym c.in-Some-chunk.ensures))))

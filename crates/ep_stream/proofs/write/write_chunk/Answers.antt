@@ -24,6 +24,7 @@ loop-rec-init g c =
       size = omega arith;
       sound = c.requires.sound;
       wrote = refl;
+      other_side = refl;
       telling = λ before info told t. subst (λ (es : List Entry). IsTelling g.S.Sink.tells_taken g.S.Sink.taken before (definition_at c.args.events.now) info es c.args.writer.now) (sym (append-nil told)) t;
     }
 
@@ -52,6 +53,7 @@ loop-rec-preserved g c =
       size = omega (arith, inv.size, next, total);
       sound = c.in_ok-write_record.ensures.faulty.sound;
       wrote = c.in_ok-write_record.ensures.faulty.wrote (ok_is_no_fault c.in_ok-write_record.field-0 WriteFault) ∙ inv.wrote;
+      other_side = c.in_ok-write_record.ensures.other_side ∙ inv.other_side;
       telling = λ before info told now.
           subst (λ (es : List Entry). IsTelling g.S.Sink.tells_taken g.S.Sink.taken before (definition_at events) info (told ++ es) c.write_record.new.writer)
           (ap (λ (es : List Entry). entries_of events stacks inv.done ++ es) (sym (one_entry events stacks t.told)) ∙ sym (entries_of-append events stacks inv.done (t.told ∷ [])))

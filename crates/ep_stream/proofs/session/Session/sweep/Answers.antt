@@ -33,6 +33,7 @@ loop-place-init g c =
       telling = λ before info told now. subst (λ (es : List Entry). IsTelling g.S.Sink.tells_taken g.S.Sink.taken before (definition_at c.args.events.now) info es (writer_of c.args.self.now)) (sym (append-nil told)) now;
       fault = refl;
       wrote = refl;
+      other_side = refl;
       counted = refl;
       small = omega arith;
       opened = refl;
@@ -84,6 +85,7 @@ loop-place-preserved g c =
           (m.writes before info (told ++ entries_in events stacks first) (inv.telling before info told t))));
       fault = c.in_ok-taken.ensures.faulty.same ∙ inv.fault;
       wrote = c.in_ok-taken.ensures.faulty.wrote (ok_is_no_fault c.in_ok-taken.taken WriteFault) ∙ inv.wrote;
+      other_side = c.in_ok-taken.ensures.other_side ∙ inv.other_side;
       counted = (let a = inv.counted in let b = m.counted in let e = records_in-append first more in omega (arith, a, b, e));
       small = (let a = inv.small in omega (arith, a));
       opened = c.in_ok-taken.ensures.count ∙ inv.opened;

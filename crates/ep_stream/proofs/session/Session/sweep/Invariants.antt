@@ -21,6 +21,7 @@ invariant-loop-place g l =
       telling : (before : List ℕ) (info : TraceInfo) (told : List Entry) → IsTelling g.S.Sink.tells_taken g.S.Sink.taken before (definition_at l.events) info told (writer_of l.fn.self) → IsTelling g.S.Sink.tells_taken g.S.Sink.taken before (definition_at l.events) info (told ++ entries_in l.events (rest_of l.fn.self).config.stackwalk takings) (writer_of l.self);
       fault : fault_of (writer_of l.self) ≡ fault_of (writer_of l.fn.self);
       wrote : g.S.Sink.write_faults (sink_of (writer_of l.self)) ≡ g.S.Sink.write_faults (sink_of (writer_of l.fn.self));
+      other_side : g.S.Sink.read_side (sink_of (writer_of l.self)) ≡ g.S.Sink.read_side (sink_of (writer_of l.fn.self));
       counted : l.count ≡ records_in takings;
       small : l.count ≤ l.place * (2 ^ 32 - 1);
       opened : opened_count l.self ≡ opened_count l.fn.self;
