@@ -77,10 +77,11 @@ module _ {S : Type 0} (side : Sink S) (rows : ℕ) (events : List EventDef) (wri
       → ((watch : Watch) (opened : List ℕ) → EndsOver side watch opened handed session end.fate end.sink → IsOutcome side watch opened handed (rest_of session).marks end.fate end.sink)
       → end.id ≡ (rest_of session).seat.id → end.slot ≡ (rest_of session).seat.slot → end.conn ≡ (rest_of session).seat.conn → end.config ≡ (rest_of session).config → end.marks ≡ (rest_of session).marks
       → Ended side.tells_taken side.taken side.write_faults stamp handed session end.fate end.sink → side.write_faults (sink_of session) ≤ side.write_faults end.sink
+      → side.read_side end.sink ≡ side.read_side (sink_of session)
       → HasEnded side (watch_of rows events writes setting (rest_of session).config seat.id) rows (setting.faults seat.id)
-      (record { id = seat.id; slot = seat.slot; conn = seat.conn; config = (rest_of session).config; stands = stands; places = places; marks = (rest_of session).marks; early = early })
+      (record { id = seat.id; slot = seat.slot; conn = seat.conn; config = (rest_of session).config; gave = side.read_side (sink_of session); stands = stands; places = places; marks = (rest_of session).marks; early = early })
       handed end
-  has-ended set session openings seat places early stands stamp handed end k shut not law id slot conn config marks ended later =
+  has-ended set session openings seat places early stands stamp handed end k shut not law id slot conn config marks ended later gave =
       let watch = watch_of rows events writes setting (rest_of session).config seat.id in
       let none = no-hands rows setting.lives places session shut k.places_are in
       let out = law watch k.opened (record { told = k.told.told; stamp = stamp; tracing = k.told.tracing; shut = none; ended = ended }) in
@@ -91,6 +92,7 @@ module _ {S : Type 0} (side : Sink S) (rows : ℕ) (events : List EventDef) (wri
         conn_is = conn ∙ ap (λ (s : Seat). s.conn) k.seat_is;
         config_is = config;
         marks_are = marks;
+        gave_is = gave;
         served = served-threads rows places k.opened (map (λ mark. mark.thread) (rest_of session).marks) threads k.served;
         early = λ is. early-threads rows places k.opened (map (λ mark. mark.thread) (rest_of session).marks) session (rest_of session).marks threads refl (k.early_is is);
         outcome = subst (λ (ts : List ℕ). IsOutcome side watch ts handed (rest_of session).marks end.fate end.sink) (sym threads) out;

@@ -58,6 +58,7 @@ pub record HasEnded {S : Type 0} (side : Sink S) (watch : Watch) (rows was : ℕ
   pub conn_is : end.conn ≡ stream.conn
   pub config_is : end.config ≡ stream.config
   pub marks_are : end.marks ≡ stream.marks
+  pub gave_is : side.read_side end.sink ≡ stream.gave
   -- the threads of its marks, and what its sink took of them
   pub served : AreServed rows stream.places (map (λ mark. mark.thread) stream.marks)
   pub early : stream.early ≡ true → AreEarly rows stream.places (map (λ mark. mark.thread) stream.marks) stream.marks

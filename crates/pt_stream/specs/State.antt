@@ -11,10 +11,11 @@ use Rattle.ep_defs.specs.Definitions.{AreDistinct, definition_at}
 use Rattle.ep_defs.specs.Event.{is_valid_event}
 use Rattle.ep_pool.specs.Shared.{SharedPool, SeatState}
 use Rattle.ep_stream.specs.Named.{with_marks}
+use Rattle.pt_io.specs.Sides.{ReadSide}
 use Rattle.pt_stream.specs.declared.place.Place.{Place}
 
--- A session's stream: the session's id, its slot on each row, the connection that asked for it and its configuration; how
--- many writes each thread has begun, while the stream has the halves of all threads; what it has of each row, the first
+-- A session's stream: the session's id, its slot on each row, the connection that asked for it and its configuration; what
+-- its sink has given, where it is a source too; how many writes each thread has begun, while the stream has the halves of all threads; what it has of each row, the first
 -- being row 1; what it had of each thread on which it was closed, ascending by thread; and whether it was first opened on
 -- each row, where it was, in the row's first life and before the thread's first write.
 pub record StreamState : Type 0 where
@@ -22,6 +23,7 @@ pub record StreamState : Type 0 where
   pub slot : ℕ
   pub conn : ℕ
   pub config : Config
+  pub gave : ReadSide
   pub stands : Option ℕ
   pub places : List Place
   pub marks : List Marks
@@ -56,13 +58,14 @@ abbrev pub first_seat : SharedPool → ℕ → SeatState
 first_seat pool seats = record { pool = pool.pool; total = pool.total; seats = seats; share = seats; taken = 0; given = 0; dry = 0 }
 
 -- A session that was just started.
-abbrev pub new_stream : ℕ → ℕ → ℕ → ℕ → Config → StreamState
-new_stream rows id slot conn config =
+abbrev pub new_stream : ℕ → ℕ → ℕ → ℕ → Config → ReadSide → StreamState
+new_stream rows id slot conn config gave =
     record {
       id = id;
       slot = slot;
       conn = conn;
       config = config;
+      gave = gave;
       stands = None;
       places = replicate rows no_place;
       marks = [];

@@ -52,13 +52,13 @@ pub struct Stream<'a, P: Run, S: Sink> {
 
 impl<'a, P: Run, S: Sink> Model for Stream<'a, P, S> {
     ghost use Rattle.std.specs.Prelude.{◌≡◌};
-    ghost use Rattle.ep_stream.specs.Session.{rest_of};
+    ghost use Rattle.ep_stream.specs.Session.{rest_of, sink_of};
     ghost use Rattle.pt_stream.specs.Kept.{IsKept};
     ghost use Rattle.pt_stream.specs.State.{StreamState};
 
     ghost Value = { StreamState };
 
-    ghost view = { λ s. record { id = s.seat.id; slot = s.seat.slot; conn = s.seat.conn; config = (rest_of s.session).config; stands = s.stands; places = s.places.items; marks = (rest_of s.session).marks; early = s.early } };
+    ghost view = { λ s. record { id = s.seat.id; slot = s.seat.slot; conn = s.seat.conn; config = (rest_of s.session).config; gave = S.read_side (sink_of s.session); stands = s.stands; places = s.places.items; marks = (rest_of s.session).marks; early = s.early } };
 
     ghost invariant = { λ s. (s.rows.stands ≡ s.stands) × IsKept S.Sink P.rows P.events P.writes P.setting s.rows s.session s.openings s.seat s.places.items s.early };
 }
@@ -82,7 +82,7 @@ impl<'a, P: Run, S: Sink> Stream<'a, P, S> {
             → S.taken accepted.sink ++ reply.now ≡ P.setting.before accepted.id }
         requires faults { S.write_faults accepted.sink ≡ P.setting.faults accepted.id }
         ensures started { IfOk result (λ stream. stream ≡ new_stream P.rows accepted.entry.id accepted.entry.free
-            accepted.entry.conn accepted.entry.grant.now.config) }
+            accepted.entry.conn accepted.entry.grant.now.config (S.read_side accepted.entry.sink)) }
         ensures free { IfErr result (λ failed. failed.free ≡ accepted.entry.free) }
         ensures part { IfErr result (λ failed. TookStart S.tells_taken S.taken reply.now info.now
             accepted.entry.sink failed.sink) }
@@ -508,7 +508,7 @@ fn begin<'a, P: Run, R: Wait, S: Sink>(
     requires info { info.now ≡ P.setting.info }
     requires before { IsTrue (S.tells_taken sink) → S.taken sink ++ reply.now ≡ P.setting.before seat.id }
     requires faults { S.write_faults sink ≡ P.setting.faults seat.id }
-    ensures started { IfOk result (λ stream. stream ≡ new_stream P.rows seat.id seat.slot seat.conn config) }
+    ensures started { IfOk result (λ stream. stream ≡ new_stream P.rows seat.id seat.slot seat.conn config (S.read_side sink)) }
     ensures free { IfErr result (λ failed. failed.free ≡ seat.slot) }
     ensures part { IfErr result (λ failed. TookStart S.tells_taken S.taken reply.now info.now sink failed.sink) }
     ensures write_fault { IfErr result (λ failed. failed.fault ≡ WriteFault

@@ -16,7 +16,7 @@ returns-clause-ended g c =
     (has-ended g.S.Sink g.P.Program.rows g.P.Program.events g.P.Program.writes g.P.Run.setting c.self.inside.rows session c.self.inside.openings c.self.inside.seat c.self.inside.places.items c.self.inside.early c.self.inside.stands c.args.stamp c.args.fate c.finish.result
     c.self.invariant.1 shut c.requires.own.0
     (λ watch opened over. c.a_session_that_ends_has_traced.ensures watch opened c.args.fate c.finish.result.fate session c.finish.result.sink over)
-    e.id e.slot e.conn e.config e.marks e.ended e.later)
+    e.id e.slot e.conn e.config e.marks e.ended e.later e.other_side)
 
 pub end-ended-requires-clause-closed : goal.end-ended-requires-clause-closed
 end-ended-requires-clause-closed g c row slot =
