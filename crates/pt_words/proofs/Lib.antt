@@ -1,5 +1,6 @@
 mod Walks
 mod Read
+mod Answering
 mod SessionWalk
 mod SessionWords
 mod TraceRows

@@ -1,14 +1,11 @@
 -- What the command of the option `--session` makes of words.
-use Rattle.std.proofs.Common.{◌≡◌, ◌∙◌, ◌⊎◌, inl, inr, ◌&&◌, ◌||◌, cond, Bool, true, false, not, List, [], ◌∷◌, ◌++◌, drop, Option, Some, None, refl, sym, subst, ap, ap₂, codes}
+use Rattle.std.proofs.Common.{◌≡◌, ◌∙◌, ◌⊎◌, inl, inr, ◌&&◌, ◌||◌, cond, Bool, true, false, not, List, [], ◌∷◌, ◌++◌, drop, Option, Some, None, refl, sym, subst, ap, codes}
 use Rattle.std.proofs.lemmas.Bool.Decides.{Decides-eqb}
 use Rattle.std.proofs.lemmas.Slice.Eq.{bytes_eq-Decides, starts_is}
-use Rattle.std.specs.List.{fold}
-use Rattle.clap.specs.Walk.{Text, Walk, walked, finished, first_of}
+use Rattle.clap.specs.Walk.{Text, walked, first_of}
 use Rattle.clap.specs.Simple.{App, built}
-use Rattle.clap.specs.Faults.{walk_fault, turn_fault, is_simple_and_free}
-use Rattle.clap.specs.Kinds.{Kinds}
+use Rattle.clap.specs.Faults.{turn_fault, is_simple_and_free}
 use Rattle.clap.specs.Matches.{found_of, first_value}
-use Rattle.clap.specs.declared.error.kind.ErrorKind.{ErrorKind}
 use Rattle.clap.specs.declared.error.kind.ErrorKind.TheVariants as kind
 use Rattle.clap.specs.declared.parser.matches.ArgMatches.{ArgMatches}
 use Rattle.clap.proofs.OnLiterals.{clap_on_literals}
@@ -17,8 +14,8 @@ use Rattle.pt_words.specs.Words.{is_option}
 use Rattle.pt_words.specs.Session.{is_alone, is_attached, is_foreign, has_foreign, session_in}
 use Rattle.pt_words.specs.Commands.{session_app}
 use Rattle.pt_words.specs.Matches.{IsRead}
-use Rattle.pt_words.proofs.Walks.{start, faults-on, faults-here, no-first, no-later}
-use Rattle.pt_words.proofs.Read.{faults}
+use Rattle.pt_words.proofs.Walks.{start, no-first, no-later}
+use Rattle.pt_words.proofs.Answering.{Reading, Answers, ended, told, is-taken, is-refused, step, here}
 use Rattle.pt_words.proofs.SessionWalk.{rules, shape, used_with, waiting_on, told_on, attached_on}
 use Rattle.pt_words.proofs.SessionWalk as turn
 
@@ -61,149 +58,118 @@ no-alone word plain = go (is_alone word) refl
 
 -- ---- what comes of the words from a place on
 
--- The faults of the whole parse.
-abbrev ended : Walk → List Text → Kinds
-ended w words = faults (built session_app) (walk_fault shape [] w words) (fold (walked rules []) w words)
-
--- The option's text.
-abbrev told : Walk → List Text → Option Text
-told w words = first_of (codes "session") (finished rules (fold (walked rules []) w words).held)
-
--- Words that are taken have this answer, and those that are not taken have none.
-record Answers (w : Walk) (words : List Text) (answer : Option (Option Text)) : Type 0 where
-  taken : ended w words ≡ [] → Some (told w words) ≡ answer
-  refused : (ended w words ≡ [] → ⊥) → None ≡ answer
-
-is-taken : (w : Walk) (words : List Text) (answer : Option (Option Text)) → ended w words ≡ [] → Some (told w words) ≡ answer → Answers w words answer
-is-taken w words answer none is = record { taken = λ again. is; refused = λ no. absurd (no none) }
-
-is-refused : (w : Walk) (words : List Text) (k : ErrorKind) → ended w words ≡ k ∷ [] → Answers w words None
-is-refused w words k fails = record { taken = λ none. absurd (one-none (sym fails ∙ none)); refused = λ no. refl }
-  where
-    one-none : k ∷ [] ≡ [] → ⊥
-    one-none is = cc
-
--- A word that is taken leaves the rest.
-step : (w after : Walk) (word : Text) (more : List Text) (answer : Option (Option Text)) → turn_fault shape [] w word ≡ [] → walked rules [] w word ≡ after
-    → Answers after more answer → Answers w (word ∷ more) answer
-step w after word more answer passes next rest =
-    let walks : fold (walked rules []) w (word ∷ more) ≡ fold (walked rules []) after more = ap (λ v. fold (walked rules []) v more) next in
-    let ends : ended w (word ∷ more) ≡ ended after more = ap₂ (faults (built session_app)) (faults-on shape w after word more passes next) walks in
-    let tells : told w (word ∷ more) ≡ told after more = ap (λ (v : Walk). first_of (codes "session") (finished rules v.held)) walks in
+-- The command of the one option, which tells the option's text if it stands there.
+abbrev session : Reading (Option Text)
+session =
     record {
-      taken = λ none. ap Some tells ∙ rest.taken (sym ends ∙ none);
-      refused = λ no. rest.refused (λ none. no (ends ∙ none));
+      app = built session_app;
+      shape = shape;
+      tells = λ rows. Some (first_of (codes "session") rows);
     }
-
--- A word that is refused ends it.
-here : (w : Walk) (word : Text) (more : List Text) (k : ErrorKind) → turn_fault shape [] w word ≡ k ∷ [] → Answers w (word ∷ more) None
-here w word more k fails =
-    is-refused w (word ∷ more) k
-    (ap (λ ks. faults (built session_app) ks (fold (walked rules []) w (word ∷ more))) (faults-here shape w word more fails))
 
 -- ---- the option a second time
 
-again-alone : (text word : Text) → ended (told_on (used_with text) word) [] ≡ kind.ArgumentConflict ∷ []
+again-alone : (text word : Text) → ended session (told_on (used_with text) word) [] ≡ kind.ArgumentConflict ∷ []
 unfolding clap_on_literals
 again-alone text word = refl
 
-refused-again : (text word : Text) (more : List Text) → has_foreign more ≡ false → Answers (told_on (used_with text) word) more None
-refused-again text word [] known = is-refused (told_on (used_with text) word) [] kind.ArgumentConflict (again-alone text word)
+refused-again : (text word : Text) (more : List Text) → has_foreign more ≡ false → Answers session (told_on (used_with text) word) more None
+refused-again text word [] known = is-refused session (told_on (used_with text) word) [] kind.ArgumentConflict (again-alone text word)
 refused-again text word (first ∷ more) known =
     let w = told_on (used_with text) word in
     elim (kind-of first (no-first (is_foreign first) (has_foreign more) known)) [
-      | inl alone ↦ here w first more kind.ArgumentConflict (ap (turn_fault shape [] w) alone ∙ turn.alone-again text word)
-      | inr (inl attached) ↦ here w first more kind.ArgumentConflict (ap (turn_fault shape [] w) attached.1 ∙ turn.attached-again text word attached.0)
-      | inr (inr plain) ↦ here w first more kind.UnknownArgument (turn.stray-told (used_with text) word first plain)
+      | inl alone ↦ here session w first more kind.ArgumentConflict (ap (turn_fault shape [] w) alone ∙ turn.alone-again text word)
+      | inr (inl attached) ↦ here session w first more kind.ArgumentConflict (ap (turn_fault shape [] w) attached.1 ∙ turn.attached-again text word attached.0)
+      | inr (inr plain) ↦ here session w first more kind.UnknownArgument (turn.stray-told (used_with text) word first plain)
     ]
 
-waiting-alone : (text : Text) → ended (waiting_on (used_with text)) [] ≡ kind.InvalidValue ∷ []
+waiting-alone : (text : Text) → ended session (waiting_on (used_with text)) [] ≡ kind.InvalidValue ∷ []
 unfolding clap_on_literals
 waiting-alone text = refl
 
-refused-waiting : (text : Text) (more : List Text) → has_foreign more ≡ false → Answers (waiting_on (used_with text)) more None
-refused-waiting text [] known = is-refused (waiting_on (used_with text)) [] kind.InvalidValue (waiting-alone text)
+refused-waiting : (text : Text) (more : List Text) → has_foreign more ≡ false → Answers session (waiting_on (used_with text)) more None
+refused-waiting text [] known = is-refused session (waiting_on (used_with text)) [] kind.InvalidValue (waiting-alone text)
 refused-waiting text (first ∷ more) known =
     let w = waiting_on (used_with text) in
     let rest : has_foreign more ≡ false = no-later (is_foreign first) (has_foreign more) known in
     elim (kind-of first (no-first (is_foreign first) (has_foreign more) known)) [
-      | inl alone ↦ here w first more kind.InvalidValue (ap (turn_fault shape [] w) alone ∙ turn.alone-waiting (used_with text))
-      | inr (inl attached) ↦ here w first more kind.InvalidValue (ap (turn_fault shape [] w) attached.1 ∙ turn.attached-waiting (used_with text) attached.0)
+      | inl alone ↦ here session w first more kind.InvalidValue (ap (turn_fault shape [] w) alone ∙ turn.alone-waiting (used_with text))
+      | inr (inl attached) ↦ here session w first more kind.InvalidValue (ap (turn_fault shape [] w) attached.1 ∙ turn.attached-waiting (used_with text) attached.0)
       | inr (inr plain) ↦
-          step w (told_on (used_with text) first) first more None (turn.text-taken (used_with text) first plain) (turn.text-walked (used_with text) first plain) (refused-again text first more rest)
+          step session w (told_on (used_with text) first) first more None (turn.text-taken (used_with text) first plain) (turn.text-walked (used_with text) first plain) (refused-again text first more rest)
     ]
 
 -- ---- words over
 
-attached-over : (text first : Text) (more : List Text) → has_foreign (first ∷ more) ≡ false → Answers (attached_on text) (first ∷ more) None
+attached-over : (text first : Text) (more : List Text) → has_foreign (first ∷ more) ≡ false → Answers session (attached_on text) (first ∷ more) None
 attached-over text first more known =
     let w = attached_on text in
     let rest : has_foreign more ≡ false = no-later (is_foreign first) (has_foreign more) known in
     elim (kind-of first (no-first (is_foreign first) (has_foreign more) known)) [
       | inl alone ↦
-          step w (waiting_on (used_with text)) first more None (ap (turn_fault shape [] w) alone ∙ turn.alone-attached text) (ap (walked rules [] w) alone ∙ turn.alone-attached-walked text)
+          step session w (waiting_on (used_with text)) first more None (ap (turn_fault shape [] w) alone ∙ turn.alone-attached text) (ap (walked rules [] w) alone ∙ turn.alone-attached-walked text)
           (refused-waiting text more rest)
-      | inr (inl attached) ↦ here w first more kind.ArgumentConflict (ap (turn_fault shape [] w) attached.1 ∙ turn.attached-attached text attached.0)
-      | inr (inr plain) ↦ here w first more kind.UnknownArgument (turn.stray-attached text first plain)
+      | inr (inl attached) ↦ here session w first more kind.ArgumentConflict (ap (turn_fault shape [] w) attached.1 ∙ turn.attached-attached text attached.0)
+      | inr (inr plain) ↦ here session w first more kind.UnknownArgument (turn.stray-attached text first plain)
     ]
 
-told-over : (text first : Text) (more : List Text) → has_foreign (first ∷ more) ≡ false → Answers (told_on [] text) (first ∷ more) None
+told-over : (text first : Text) (more : List Text) → has_foreign (first ∷ more) ≡ false → Answers session (told_on [] text) (first ∷ more) None
 told-over text first more known =
     let w = told_on [] text in
     let rest : has_foreign more ≡ false = no-later (is_foreign first) (has_foreign more) known in
     elim (kind-of first (no-first (is_foreign first) (has_foreign more) known)) [
       | inl alone ↦
-          step w (waiting_on (used_with text)) first more None (ap (turn_fault shape [] w) alone ∙ turn.alone-told text) (ap (walked rules [] w) alone ∙ turn.alone-told-walked text)
+          step session w (waiting_on (used_with text)) first more None (ap (turn_fault shape [] w) alone ∙ turn.alone-told text) (ap (walked rules [] w) alone ∙ turn.alone-told-walked text)
           (refused-waiting text more rest)
-      | inr (inl attached) ↦ here w first more kind.ArgumentConflict (ap (turn_fault shape [] w) attached.1 ∙ turn.attached-told text attached.0)
-      | inr (inr plain) ↦ here w first more kind.UnknownArgument (turn.stray-told [] text first plain)
+      | inr (inl attached) ↦ here session w first more kind.ArgumentConflict (ap (turn_fault shape [] w) attached.1 ∙ turn.attached-told text attached.0)
+      | inr (inr plain) ↦ here session w first more kind.UnknownArgument (turn.stray-told [] text first plain)
     ]
 
 -- ---- no word, one word, more
 
-none-taken : ended start [] ≡ []
+none-taken : ended session start [] ≡ []
 unfolding clap_on_literals
 none-taken = refl
 
-none-told : told start [] ≡ None
+none-told : told session start [] ≡ Some None
 unfolding clap_on_literals
 none-told = refl
 
-bare-refused : ended (waiting_on []) [] ≡ kind.InvalidValue ∷ []
+bare-refused : ended session (waiting_on []) [] ≡ kind.InvalidValue ∷ []
 unfolding clap_on_literals
 bare-refused = refl
 
-text-taken : (text : Text) → ended (told_on [] text) [] ≡ []
+text-taken : (text : Text) → ended session (told_on [] text) [] ≡ []
 unfolding clap_on_literals
 text-taken text = refl
 
-text-told : (text : Text) → told (told_on [] text) [] ≡ Some text
+text-told : (text : Text) → told session (told_on [] text) [] ≡ Some (Some text)
 unfolding clap_on_literals
 text-told text = refl
 
-attached-taken : (text : Text) → ended (attached_on text) [] ≡ []
+attached-taken : (text : Text) → ended session (attached_on text) [] ≡ []
 unfolding clap_on_literals
 attached-taken text = refl
 
-attached-told : (text : Text) → told (attached_on text) [] ≡ Some text
+attached-told : (text : Text) → told session (attached_on text) [] ≡ Some (Some text)
 unfolding clap_on_literals
 attached-told text = refl
 
-one-answers : (word : Text) → is_foreign word ≡ false → Answers start (word ∷ []) (session_in (word ∷ []))
+one-answers : (word : Text) → is_foreign word ≡ false → Answers session start (word ∷ []) (session_in (word ∷ []))
 one-answers word known =
     elim (kind-of word known) [
-      | inl alone ↦ subst (λ word. Answers start (word ∷ []) (session_in (word ∷ []))) (sym alone) bare
-      | inr (inl attached) ↦ subst (λ word. Answers start (word ∷ []) (session_in (word ∷ []))) (sym attached.1) (with-text attached.0)
-      | inr (inr plain) ↦ subst (Answers start (word ∷ [])) (none-is plain) (here start word [] kind.UnknownArgument (turn.stray-start word plain))
+      | inl alone ↦ subst (λ word. Answers session start (word ∷ []) (session_in (word ∷ []))) (sym alone) bare
+      | inr (inl attached) ↦ subst (λ word. Answers session start (word ∷ []) (session_in (word ∷ []))) (sym attached.1) (with-text attached.0)
+      | inr (inr plain) ↦ subst (Answers session start (word ∷ [])) (none-is plain) (here session start word [] kind.UnknownArgument (turn.stray-start word plain))
     ]
   where
-    bare : Answers start (codes "--session" ∷ []) None
-    bare = step start (waiting_on []) (codes "--session") [] None turn.alone-start turn.alone-walked (is-refused (waiting_on []) [] kind.InvalidValue bare-refused)
+    bare : Answers session start (codes "--session" ∷ []) None
+    bare = step session start (waiting_on []) (codes "--session") [] None turn.alone-start turn.alone-walked (is-refused session (waiting_on []) [] kind.InvalidValue bare-refused)
 
-    with-text : (text : Text) → Answers start ((codes "--session=" ++ text) ∷ []) (Some (Some text))
+    with-text : (text : Text) → Answers session start ((codes "--session=" ++ text) ∷ []) (Some (Some text))
     with-text text =
-        step start (attached_on text) (codes "--session=" ++ text) [] (Some (Some text)) (turn.attached-start text) (turn.attached-walked text)
-        (is-taken (attached_on text) [] (Some (Some text)) (attached-taken text) (ap Some (attached-told text)))
+        step session start (attached_on text) (codes "--session=" ++ text) [] (Some (Some text)) (turn.attached-start text) (turn.attached-walked text)
+        (is-taken session (attached_on text) [] (Some (Some text)) (attached-taken text) (attached-told text))
 
     none-is : is_option word ≡ false → None ≡ session_in (word ∷ [])
     none-is plain = rw (no-attached word plain) refl
@@ -218,44 +184,44 @@ text-none : (second : Text) (more : List Text) → is_option second ≡ true →
 text-none second [] is = rw is refl
 text-none second (third ∷ more) is = refl
 
-text-answers : (text : Text) (more : List Text) → is_option text ≡ false → has_foreign more ≡ false → Answers (told_on [] text) more (session_in (codes "--session" ∷ text ∷ more))
-text-answers text [] plain known = is-taken (told_on [] text) [] (session_in (codes "--session" ∷ text ∷ [])) (text-taken text) (ap Some (text-told text) ∙ some-is)
+text-answers : (text : Text) (more : List Text) → is_option text ≡ false → has_foreign more ≡ false → Answers session (told_on [] text) more (session_in (codes "--session" ∷ text ∷ more))
+text-answers text [] plain known = is-taken session (told_on [] text) [] (session_in (codes "--session" ∷ text ∷ [])) (text-taken text) (text-told text ∙ some-is)
   where
     some-is : Some (Some text) ≡ session_in (codes "--session" ∷ text ∷ [])
     some-is = rw plain refl
 text-answers text (first ∷ more) plain known = told-over text first more known
 
-alone-answers : (second : Text) (more : List Text) → has_foreign (second ∷ more) ≡ false → Answers (waiting_on []) (second ∷ more) (session_in (codes "--session" ∷ second ∷ more))
+alone-answers : (second : Text) (more : List Text) → has_foreign (second ∷ more) ≡ false → Answers session (waiting_on []) (second ∷ more) (session_in (codes "--session" ∷ second ∷ more))
 alone-answers second more known =
     let w = waiting_on [] in
     let rest : has_foreign more ≡ false = no-later (is_foreign second) (has_foreign more) known in
     elim (kind-of second (no-first (is_foreign second) (has_foreign more) known)) [
       | inl alone ↦
-          subst (Answers w (second ∷ more)) (text-none second more (ap is_option alone))
-          (here w second more kind.InvalidValue (ap (turn_fault shape [] w) alone ∙ turn.alone-waiting []))
+          subst (Answers session w (second ∷ more)) (text-none second more (ap is_option alone))
+          (here session w second more kind.InvalidValue (ap (turn_fault shape [] w) alone ∙ turn.alone-waiting []))
       | inr (inl attached) ↦
-          subst (Answers w (second ∷ more)) (text-none second more (ap is_option attached.1))
-          (here w second more kind.InvalidValue (ap (turn_fault shape [] w) attached.1 ∙ turn.attached-waiting [] attached.0))
+          subst (Answers session w (second ∷ more)) (text-none second more (ap is_option attached.1))
+          (here session w second more kind.InvalidValue (ap (turn_fault shape [] w) attached.1 ∙ turn.attached-waiting [] attached.0))
       | inr (inr plain) ↦
-          step w (told_on [] second) second more (session_in (codes "--session" ∷ second ∷ more)) (turn.text-taken [] second plain) (turn.text-walked [] second plain)
+          step session w (told_on [] second) second more (session_in (codes "--session" ∷ second ∷ more)) (turn.text-taken [] second plain) (turn.text-walked [] second plain)
           (text-answers second more plain rest)
     ]
 
-more-answers : (first second : Text) (more : List Text) → has_foreign (first ∷ second ∷ more) ≡ false → Answers start (first ∷ second ∷ more) (session_in (first ∷ second ∷ more))
+more-answers : (first second : Text) (more : List Text) → has_foreign (first ∷ second ∷ more) ≡ false → Answers session start (first ∷ second ∷ more) (session_in (first ∷ second ∷ more))
 more-answers first second more known =
     let rest : has_foreign (second ∷ more) ≡ false = no-later (is_foreign first) (has_foreign (second ∷ more)) known in
     elim (kind-of first (no-first (is_foreign first) (has_foreign (second ∷ more)) known)) [
-      | inl alone ↦ subst (λ first. Answers start (first ∷ second ∷ more) (session_in (first ∷ second ∷ more))) (sym alone)
-          (step start (waiting_on []) (codes "--session") (second ∷ more) (session_in (codes "--session" ∷ second ∷ more)) turn.alone-start turn.alone-walked (alone-answers second more rest))
-      | inr (inl attached) ↦ subst (Answers start (first ∷ second ∷ more)) (over-none first second more (ap is_alone attached.1))
-          (step start (attached_on attached.0) first (second ∷ more) None (ap (turn_fault shape [] start) attached.1 ∙ turn.attached-start attached.0)
+      | inl alone ↦ subst (λ first. Answers session start (first ∷ second ∷ more) (session_in (first ∷ second ∷ more))) (sym alone)
+          (step session start (waiting_on []) (codes "--session") (second ∷ more) (session_in (codes "--session" ∷ second ∷ more)) turn.alone-start turn.alone-walked (alone-answers second more rest))
+      | inr (inl attached) ↦ subst (Answers session start (first ∷ second ∷ more)) (over-none first second more (ap is_alone attached.1))
+          (step session start (attached_on attached.0) first (second ∷ more) None (ap (turn_fault shape [] start) attached.1 ∙ turn.attached-start attached.0)
           (ap (walked rules [] start) attached.1 ∙ turn.attached-walked attached.0) (attached-over attached.0 second more rest))
-      | inr (inr plain) ↦ subst (Answers start (first ∷ second ∷ more)) (over-none first second more (no-alone first plain))
-          (here start first (second ∷ more) kind.UnknownArgument (turn.stray-start first plain))
+      | inr (inr plain) ↦ subst (Answers session start (first ∷ second ∷ more)) (over-none first second more (no-alone first plain))
+          (here session start first (second ∷ more) kind.UnknownArgument (turn.stray-start first plain))
     ]
 
-answers : (words : List Text) → has_foreign words ≡ false → Answers start words (session_in words)
-answers [] known = is-taken start [] (Some None) none-taken (ap Some none-told)
+answers : (words : List Text) → has_foreign words ≡ false → Answers session start words (session_in words)
+answers [] known = is-taken session start [] (Some None) none-taken none-told
 answers (word ∷ []) known = one-answers word (no-first (is_foreign word) false known)
 answers (first ∷ second ∷ more) known = more-answers first second more known
 

@@ -2,9 +2,8 @@
 use Rattle.std.proofs.Common.{◌≡◌, ◌∙◌, ◌⊎◌, inl, inr, ◌&&◌, ◌||◌, cond, Bool, true, false, not, ℕ, List, [], ◌∷◌, ◌++◌, drop, Option, Some, None, is_some, option_map, refl, sym, subst, ap, ap₂, codes}
 use Rattle.std.proofs.lemmas.Bool.Decides.{Decides-eqb}
 use Rattle.std.proofs.lemmas.Slice.Eq.{bytes_eq-Decides, starts_is}
-use Rattle.std.specs.List.{fold}
 use Rattle.std.specs.Option.{option_and_then}
-use Rattle.clap.specs.Walk.{Text, Row, Held, Walk, walked, nothing_held, finished, first_of, has_row, used}
+use Rattle.clap.specs.Walk.{Text, Row, Held, nothing_held, finished, first_of, has_row, used}
 use Rattle.clap.specs.Simple.{App, built}
 use Rattle.clap.specs.Faults.{walk_fault, turn_fault, settle_fault, use_fault, defaults_fault, is_simple_and_free}
 use Rattle.clap.specs.Takes.{is_given}
@@ -20,8 +19,8 @@ use Rattle.pt_words.specs.Trace.{seed_option, megabytes_option, is_alone, is_att
 use Rattle.pt_words.specs.TraceTexts.{texts_from}
 use Rattle.pt_words.specs.Commands.{trace_app}
 use Rattle.pt_words.specs.Matches.{IsRead}
-use Rattle.pt_words.proofs.Walks.{one_rule, two_rule, start, faults-on, faults-here, no-first, no-later}
-use Rattle.pt_words.proofs.Read.{faults}
+use Rattle.pt_words.proofs.Walks.{one_rule, two_rule, start, no-first, no-later}
+use Rattle.pt_words.proofs.Answering.{Reading, Answers, ended, is-taken, is-refused, step, here}
 use Rattle.pt_words.proofs.TraceRows.{look, use_of, found, has-look, has-found, new-use, look-same, look-other, given_in, first_in, given-found, first-found, HaveNoDefaults, no-defaults, no-default-faults}
 use Rattle.pt_words.proofs.TraceWalk.{rules, shape, three_rule, seed_rule, mb_rule, Which, ruled, alone, attached, rows_of, at, behind, taken_in, waiting_on}
 use Rattle.pt_words.proofs.TraceWalk.{seed as seeds, mb as mbs}
@@ -234,46 +233,13 @@ behind-option which h text past s m free stands =
 
 -- ---- what comes of the words from a place on
 
-abbrev ended : Walk → List Text → Kinds
-ended w words = faults (built trace_app) (walk_fault shape [] w words) (fold (walked rules []) w words)
-
+-- What the texts that were found tell.
 abbrev tells : List Row → Option TraceTexts
 tells rows = texts_from (first_of (codes "one") rows) (first_of (codes "two") rows) (first_of (codes "three") rows) (first_of (codes "seed") rows) (first_of (codes "mb") rows)
 
-abbrev told_by : Walk → List Text → Option TraceTexts
-told_by w words = tells (finished rules (fold (walked rules []) w words).held)
-
--- Words that are taken have this answer, and those that are not taken have none.
-record Answers (w : Walk) (words : List Text) (answer : Option TraceTexts) : Type 0 where
-  taken : ended w words ≡ [] → told_by w words ≡ answer
-  refused : (ended w words ≡ [] → ⊥) → None ≡ answer
-
-is-taken : (w : Walk) (words : List Text) (answer : Option TraceTexts) → ended w words ≡ [] → told_by w words ≡ answer → Answers w words answer
-is-taken w words answer passes is = record { taken = λ again. is; refused = λ no. absurd (no passes) }
-
-is-refused : (w : Walk) (words : List Text) (k : ErrorKind) → ended w words ≡ k ∷ [] → Answers w words None
-is-refused w words k fails = record { taken = λ passes. absurd (one-none (sym fails ∙ passes)); refused = λ no. refl }
-  where
-    one-none : k ∷ [] ≡ [] → ⊥
-    one-none is = cc
-
--- A word that is taken leaves the rest.
-step : (w after : Walk) (word : Text) (more : List Text) (answer : Option TraceTexts) → turn_fault shape [] w word ≡ [] → walked rules [] w word ≡ after
-    → Answers after more answer → Answers w (word ∷ more) answer
-step w after word more answer passes next rest =
-    let walks : fold (walked rules []) w (word ∷ more) ≡ fold (walked rules []) after more = ap (λ v. fold (walked rules []) v more) next in
-    let ends : ended w (word ∷ more) ≡ ended after more = ap₂ (faults (built trace_app)) (faults-on shape w after word more passes next) walks in
-    let says : told_by w (word ∷ more) ≡ told_by after more = ap (λ (v : Walk). tells (finished rules v.held)) walks in
-    record {
-      taken = λ none. says ∙ rest.taken (sym ends ∙ none);
-      refused = λ no. rest.refused (λ none. no (ends ∙ none));
-    }
-
--- A word that is refused ends it.
-here : (w : Walk) (word : Text) (more : List Text) (k : ErrorKind) → turn_fault shape [] w word ≡ k ∷ [] → Answers w (word ∷ more) None
-here w word more k fails =
-    is-refused w (word ∷ more) k
-    (ap (λ ks. faults (built trace_app) ks (fold (walked rules []) w (word ∷ more))) (faults-here shape w word more fails))
+-- The command of three positions and two options.
+abbrev trace : Reading TraceTexts
+trace = record { app = built trace_app; shape = shape; tells = tells }
 
 -- ---- no more words
 
@@ -287,7 +253,7 @@ missing a b c = check_kinds false false (not a || (not b || (not c || false)))
 abbrev missed : List Row → Kinds
 missed rows = missing (is_given (codes "one") rows) (is_given (codes "two") rows) (is_given (codes "three") rows)
 
-ends-by : (h : Held) (position : ℕ) → ended (at h position) [] ≡ or_else (settle_fault rules false h) (or_else (defaults_fault (rows_of h) rules) (missed (finished rules h)))
+ends-by : (h : Held) (position : ℕ) → ended trace (at h position) [] ≡ or_else (settle_fault rules false h) (or_else (defaults_fault (rows_of h) rules) (missed (finished rules h)))
 unfolding walk_fault
 ends-by h position = refl
 
@@ -298,7 +264,7 @@ missed-is h past s m stands =
     let c = ap (λ o. given_in o) stands.looks.three_is ∙ given-found three_rule (third past) in
     λ i. missing (a i) (b i) (c i)
 
-ends : (h : Held) (past : Past) (s m : Option Text) → Stands h past s m → ended (at h (place past)) [] ≡ missing (is_some (first past)) (is_some (second past)) (is_some (third past))
+ends : (h : Held) (past : Past) (s m : Option Text) → Stands h past s m → ended trace (at h (place past)) [] ≡ missing (is_some (first past)) (is_some (second past)) (is_some (third past))
 ends h past s m stands =
     ends-by h (place past) ∙ ap (λ f. or_else f (or_else (defaults_fault (rows_of h) rules) (missed (finished rules h)))) stands.passes
     ∙ ap (λ f. or_else f (missed (finished rules h))) (no-default-faults rules (rows_of h) plain-rules)
@@ -481,63 +447,63 @@ plain-fails (one a) h word k plain fails = (k, turn.two-turn h word plain ∙ fa
 plain-fails (two a b) h word k plain fails = (k, turn.three-turn h word plain ∙ fails)
 plain-fails (three a b c) h word k plain fails = (kind.UnknownArgument, turn.over-turn h word plain)
 
-doomed : (h : Held) (past : Past) (k : ErrorKind) → settle_fault rules false h ≡ k ∷ [] → (words : List Text) → has_foreign words ≡ false → Answers (at h (place past)) words None
+doomed : (h : Held) (past : Past) (k : ErrorKind) → settle_fault rules false h ≡ k ∷ [] → (words : List Text) → has_foreign words ≡ false → Answers trace (at h (place past)) words None
 doomed h past k fails [] known =
-    is-refused (at h (place past)) [] k (ends-by h (place past) ∙ ap (λ f. or_else f (or_else (defaults_fault (rows_of h) rules) (missed (finished rules h)))) fails)
+    is-refused trace (at h (place past)) [] k (ends-by h (place past) ∙ ap (λ f. or_else f (or_else (defaults_fault (rows_of h) rules) (missed (finished rules h)))) fails)
 doomed h past k fails (word ∷ more) known =
     let w = at h (place past) in
     elim (kind-of word (no-first (is_foreign word) (has_foreign more) known)) [
-      | inl is ↦ here w word more k (ap (turn_fault shape [] w) is.1 ∙ turn.alone-turn is.0 h (place past) ∙ ap (λ f. or_else f []) fails)
+      | inl is ↦ here trace w word more k (ap (turn_fault shape [] w) is.1 ∙ turn.alone-turn is.0 h (place past) ∙ ap (λ f. or_else f []) fails)
       | inr (inl is) ↦
-          here w word more k
+          here trace w word more k
           (ap (turn_fault shape [] w) is.2 ∙ turn.attached-turn is.0 is.1 h (place past) ∙ ap (λ f. or_else (or_else f (use_fault false (ruled is.0) (is.1 ∷ []) (rows_of h))) []) fails)
-      | inr (inr plain) ↦ here w word more (plain-fails past h word k plain fails).0 (plain-fails past h word k plain fails).1
+      | inr (inr plain) ↦ here trace w word more (plain-fails past h word k plain fails).0 (plain-fails past h word k plain fails).1
     ]
 
 -- ---- all words
 
 abbrev Holds : List Text → Type 0
-Holds words = (h : Held) (past : Past) (s m : Option Text) → Stands h past s m → has_foreign words ≡ false → Answers (at h (place past)) words (answer past s m (told_in words))
+Holds words = (h : Held) (past : Past) (s m : Option Text) → Stands h past s m → has_foreign words ≡ false → Answers trace (at h (place past)) words (answer past s m (told_in words))
 
 no-words : Holds []
-no-words h none s m stands known = subst (Answers (at h 1) []) (sym (final-nothing none s m)) (is-refused (at h 1) [] kind.MissingRequiredArgument (ends h none s m stands))
-no-words h (one a) s m stands known = subst (Answers (at h 2) []) (sym (final-nothing (one a) s m)) (is-refused (at h 2) [] kind.MissingRequiredArgument (ends h (one a) s m stands))
-no-words h (two a b) s m stands known = subst (Answers (at h 3) []) (sym (final-nothing (two a b) s m)) (is-refused (at h 3) [] kind.MissingRequiredArgument (ends h (two a b) s m stands))
+no-words h none s m stands known = subst (Answers trace (at h 1) []) (sym (final-nothing none s m)) (is-refused trace (at h 1) [] kind.MissingRequiredArgument (ends h none s m stands))
+no-words h (one a) s m stands known = subst (Answers trace (at h 2) []) (sym (final-nothing (one a) s m)) (is-refused trace (at h 2) [] kind.MissingRequiredArgument (ends h (one a) s m stands))
+no-words h (two a b) s m stands known = subst (Answers trace (at h 3) []) (sym (final-nothing (two a b) s m)) (is-refused trace (at h 3) [] kind.MissingRequiredArgument (ends h (two a b) s m stands))
 no-words h (three a b c) s m stands known =
-    subst (Answers (at h 4) []) (sym (final-nothing (three a b c) s m))
-    (is-taken (at h 4) [] (texts_from (Some a) (Some b) (Some c) s m) (ends h (three a b c) s m stands) (tells-is h (three a b c) s m stands))
+    subst (Answers trace (at h 4) []) (sym (final-nothing (three a b c) s m))
+    (is-taken trace (at h 4) [] (texts_from (Some a) (Some b) (Some c) s m) (ends h (three a b c) s m stands) (tells-is h (three a b c) s m stands))
 
 plain-step : (word : Text) (rest : List Text) → is_option word ≡ false → Holds rest → Holds (word ∷ rest)
 plain-step word rest plain holds h none s m stands known =
-    subst (Answers (at h 1) (word ∷ rest)) (sym (ap (answer none s m) (told-plain word rest plain) ∙ position-one word s m (told_in rest)))
-    (step (at h 1) (at (behind one_rule word h) 2) word rest (answer (one word) s m (told_in rest)) (turn.one-turn h word plain ∙ stands.passes) (turn.one-walked h word plain)
+    subst (Answers trace (at h 1) (word ∷ rest)) (sym (ap (answer none s m) (told-plain word rest plain) ∙ position-one word s m (told_in rest)))
+    (step trace (at h 1) (at (behind one_rule word h) 2) word rest (answer (one word) s m (told_in rest)) (turn.one-turn h word plain ∙ stands.passes) (turn.one-walked h word plain)
     (holds (behind one_rule word h) (one word) s m (behind-one h word s m stands) (no-later (is_foreign word) (has_foreign rest) known)))
 plain-step word rest plain holds h (one a) s m stands known =
-    subst (Answers (at h 2) (word ∷ rest)) (sym (ap (answer (one a) s m) (told-plain word rest plain) ∙ position-two a word s m (told_in rest)))
-    (step (at h 2) (at (behind two_rule word h) 3) word rest (answer (two a word) s m (told_in rest)) (turn.two-turn h word plain ∙ stands.passes) (turn.two-walked h word plain)
+    subst (Answers trace (at h 2) (word ∷ rest)) (sym (ap (answer (one a) s m) (told-plain word rest plain) ∙ position-two a word s m (told_in rest)))
+    (step trace (at h 2) (at (behind two_rule word h) 3) word rest (answer (two a word) s m (told_in rest)) (turn.two-turn h word plain ∙ stands.passes) (turn.two-walked h word plain)
     (holds (behind two_rule word h) (two a word) s m (behind-two h a word s m stands) (no-later (is_foreign word) (has_foreign rest) known)))
 plain-step word rest plain holds h (two a b) s m stands known =
-    subst (Answers (at h 3) (word ∷ rest)) (sym (ap (answer (two a b) s m) (told-plain word rest plain) ∙ position-three a b word s m (told_in rest)))
-    (step (at h 3) (at (behind three_rule word h) 4) word rest (answer (three a b word) s m (told_in rest)) (turn.three-turn h word plain ∙ stands.passes) (turn.three-walked h word plain)
+    subst (Answers trace (at h 3) (word ∷ rest)) (sym (ap (answer (two a b) s m) (told-plain word rest plain) ∙ position-three a b word s m (told_in rest)))
+    (step trace (at h 3) (at (behind three_rule word h) 4) word rest (answer (three a b word) s m (told_in rest)) (turn.three-turn h word plain ∙ stands.passes) (turn.three-walked h word plain)
     (holds (behind three_rule word h) (three a b word) s m (behind-three h a b word s m stands) (no-later (is_foreign word) (has_foreign rest) known)))
 plain-step word rest plain holds h (three a b c) s m stands known =
-    subst (Answers (at h 4) (word ∷ rest)) (position-over a b c word s m (told_in rest) ∙ sym (ap (answer (three a b c) s m) (told-plain word rest plain)))
-    (here (at h 4) word rest kind.UnknownArgument (turn.over-turn h word plain))
+    subst (Answers trace (at h 4) (word ∷ rest)) (position-over a b c word s m (told_in rest) ∙ sym (ap (answer (three a b c) s m) (told-plain word rest plain)))
+    (here trace (at h 4) word rest kind.UnknownArgument (turn.over-turn h word plain))
 
 -- An option with its text, the first or a second.
 attached-by : (which : Which) (text : Text) (rest : List Text) → Holds rest → (h : Held) (past : Past) (s m : Option Text) → Stands h past s m → has_foreign rest ≡ false
-    → (o : Option Text) → opened which s m ≡ o → Answers (at h (place past)) (attached which text ∷ rest) (answer past s m (told_in (attached which text ∷ rest)))
+    → (o : Option Text) → opened which s m ≡ o → Answers trace (at h (place past)) (attached which text ∷ rest) (answer past s m (told_in (attached which text ∷ rest)))
 attached-by which text rest holds h past s m stands known None free =
     let no = option-row which (rows_of h) (first past) (second past) (third past) s m stands.looks ∙ ap is_some free in
-    subst (Answers (at h (place past)) (attached which text ∷ rest)) (sym (ap (answer past s m) (told-attached which text rest) ∙ answer-option which text past s m (told_in rest) free))
-    (step (at h (place past)) (at (taken_in (ruled which) text h) (place past)) (attached which text) rest (answer past (put_seed which text s) (put_mb which text m) (told_in rest))
+    subst (Answers trace (at h (place past)) (attached which text ∷ rest)) (sym (ap (answer past s m) (told-attached which text rest) ∙ answer-option which text past s m (told_in rest) free))
+    (step trace (at h (place past)) (at (taken_in (ruled which) text h) (place past)) (attached which text) rest (answer past (put_seed which text s) (put_mb which text m) (told_in rest))
     (turn.attached-turn which text h (place past) ∙ ap₂ (λ f u. or_else (or_else f u) []) stands.passes (use-option which (rows_of h) text no))
     (turn.attached-walked which text h (place past))
     (holds (taken_in (ruled which) text h) past (put_seed which text s) (put_mb which text m) (taken-option which h text past s m free stands) known))
 attached-by which text rest holds h past s m stands known (Some x) again =
     let yes = option-row which (rows_of h) (first past) (second past) (third past) s m stands.looks ∙ ap is_some again in
-    subst (Answers (at h (place past)) (attached which text ∷ rest)) (answer-again which text past s m x (told_in rest) again ∙ sym (ap (answer past s m) (told-attached which text rest)))
-    (here (at h (place past)) (attached which text) rest kind.ArgumentConflict
+    subst (Answers trace (at h (place past)) (attached which text ∷ rest)) (answer-again which text past s m x (told_in rest) again ∙ sym (ap (answer past s m) (told-attached which text rest)))
+    (here trace (at h (place past)) (attached which text) rest kind.ArgumentConflict
     (turn.attached-turn which text h (place past) ∙ ap₂ (λ f u. or_else (or_else f u) []) stands.passes (use-again which (rows_of h) text yes)))
 
 attached-step : (which : Which) (text : Text) (rest : List Text) → Holds rest → Holds (attached which text ∷ rest)
@@ -546,13 +512,13 @@ attached-step which text rest holds h past s m stands known =
 
 -- The text of an option alone, the first or a second.
 text-by : (which : Which) (text : Text) (words : List Text) → is_option text ≡ false → Holds words → (h : Held) (past : Past) (s m : Option Text) → Stands h past s m → has_foreign words ≡ false
-    → (o : Option Text) → opened which s m ≡ o → Answers (at (behind (ruled which) text h) (place past)) words (answer past s m (option_map (with_option which text) (told_in words)))
+    → (o : Option Text) → opened which s m ≡ o → Answers trace (at (behind (ruled which) text h) (place past)) words (answer past s m (option_map (with_option which text) (told_in words)))
 text-by which text words plain holds h past s m stands known None free =
-    subst (Answers (at (behind (ruled which) text h) (place past)) words) (sym (answer-option which text past s m (told_in words) free))
+    subst (Answers trace (at (behind (ruled which) text h) (place past)) words) (sym (answer-option which text past s m (told_in words) free))
     (holds (behind (ruled which) text h) past (put_seed which text s) (put_mb which text m) (behind-option which h text past s m free stands) known)
 text-by which text words plain holds h past s m stands known (Some x) again =
     let yes = option-row which (rows_of h) (first past) (second past) (third past) s m stands.looks ∙ ap is_some again in
-    subst (Answers (at (behind (ruled which) text h) (place past)) words) (answer-again which text past s m x (told_in words) again)
+    subst (Answers trace (at (behind (ruled which) text h) (place past)) words) (answer-again which text past s m x (told_in words) again)
     (doomed (behind (ruled which) text h) past kind.ArgumentConflict (pending-option which h text ∙ use-again which (rows_of h) text yes) words known)
 
 alone-passes : (which : Which) (h : Held) (past : Past) (s m : Option Text) → Stands h past s m → turn_fault shape [] (at h (place past)) (alone which) ≡ []
@@ -562,22 +528,22 @@ alone-step : (which : Which) (text : Text) (words : List Text) → Holds words �
 alone-step which text words holds h past s m stands known =
     let w = waiting_on (ruled which) h (place past) in
     let rest = no-later (is_foreign (alone which)) (has_foreign (text ∷ words)) known in
-    step (at h (place past)) w (alone which) (text ∷ words) (answer past s m (told_in (alone which ∷ text ∷ words))) (alone-passes which h past s m stands) (turn.alone-walked which h (place past))
+    step trace (at h (place past)) w (alone which) (text ∷ words) (answer past s m (told_in (alone which ∷ text ∷ words))) (alone-passes which h past s m stands) (turn.alone-walked which h (place past))
     (elim (kind-of text (no-first (is_foreign text) (has_foreign words) rest)) [
       | inl is ↦
-          subst (Answers w (text ∷ words)) (ap (answer past s m) (told-dash which text words (ap is_option is.1 ∙ dash-alone is.0)))
-          (here w text words kind.InvalidValue (ap (turn_fault shape [] w) is.1 ∙ turn.alone-waiting which is.0 h (place past)))
+          subst (Answers trace w (text ∷ words)) (ap (answer past s m) (told-dash which text words (ap is_option is.1 ∙ dash-alone is.0)))
+          (here trace w text words kind.InvalidValue (ap (turn_fault shape [] w) is.1 ∙ turn.alone-waiting which is.0 h (place past)))
       | inr (inl is) ↦
-          subst (Answers w (text ∷ words)) (ap (answer past s m) (told-dash which text words (ap is_option is.2 ∙ dash-attached is.0 is.1)))
-          (here w text words kind.InvalidValue (ap (turn_fault shape [] w) is.2 ∙ turn.attached-waiting which is.0 is.1 h (place past)))
+          subst (Answers trace w (text ∷ words)) (ap (answer past s m) (told-dash which text words (ap is_option is.2 ∙ dash-attached is.0 is.1)))
+          (here trace w text words kind.InvalidValue (ap (turn_fault shape [] w) is.2 ∙ turn.attached-waiting which is.0 is.1 h (place past)))
       | inr (inr plain) ↦
-          subst (Answers w (text ∷ words)) (sym (ap (answer past s m) (told-alone which text words plain)))
-          (step w (at (behind (ruled which) text h) (place past)) text words (answer past s m (option_map (with_option which text) (told_in words)))
+          subst (Answers trace w (text ∷ words)) (sym (ap (answer past s m) (told-alone which text words plain)))
+          (step trace w (at (behind (ruled which) text h) (place past)) text words (answer past s m (option_map (with_option which text) (told_in words)))
           (turn.text-turn which h (place past) text plain) (turn.text-walked which h (place past) text plain)
           (text-by which text words plain holds h past s m stands (no-later (is_foreign text) (has_foreign words) rest) (opened which s m) refl))
     ])
 
-bare-ends : (which : Which) (h : Held) (position : ℕ) → ended (waiting_on (ruled which) h position) [] ≡ kind.InvalidValue ∷ []
+bare-ends : (which : Which) (h : Held) (position : ℕ) → ended trace (waiting_on (ruled which) h position) [] ≡ kind.InvalidValue ∷ []
 unfolding walk_fault
 bare-ends seeds h position = refl
 bare-ends mbs h position = refl
@@ -585,22 +551,22 @@ bare-ends mbs h position = refl
 bare-step : (which : Which) → Holds (alone which ∷ [])
 bare-step which h past s m stands known =
     let w = waiting_on (ruled which) h (place past) in
-    step (at h (place past)) w (alone which) [] (answer past s m (told_in (alone which ∷ []))) (alone-passes which h past s m stands) (turn.alone-walked which h (place past))
-    (subst (Answers w []) (ap (answer past s m) (told-bare which)) (is-refused w [] kind.InvalidValue (bare-ends which h (place past))))
+    step trace (at h (place past)) w (alone which) [] (answer past s m (told_in (alone which ∷ []))) (alone-passes which h past s m stands) (turn.alone-walked which h (place past))
+    (subst (Answers trace w []) (ap (answer past s m) (told-bare which)) (is-refused trace w [] kind.InvalidValue (bare-ends which h (place past))))
 
 holds : (words : List Text) → Holds words
 holds [] = no-words
 holds (word ∷ []) = λ h past s m stands known. elim (kind-of word (no-first (is_foreign word) false known)) [
-  | inl is ↦ subst (λ (given : Text). Answers (at h (place past)) (given ∷ []) (answer past s m (told_in (given ∷ [])))) (sym is.1)
+  | inl is ↦ subst (λ (given : Text). Answers trace (at h (place past)) (given ∷ []) (answer past s m (told_in (given ∷ [])))) (sym is.1)
       (bare-step is.0 h past s m stands (subst (λ (given : Text). has_foreign (given ∷ []) ≡ false) is.1 known))
-  | inr (inl is) ↦ subst (λ (given : Text). Answers (at h (place past)) (given ∷ []) (answer past s m (told_in (given ∷ [])))) (sym is.2)
+  | inr (inl is) ↦ subst (λ (given : Text). Answers trace (at h (place past)) (given ∷ []) (answer past s m (told_in (given ∷ [])))) (sym is.2)
       (attached-step is.0 is.1 [] no-words h past s m stands (subst (λ (given : Text). has_foreign (given ∷ []) ≡ false) is.2 known))
   | inr (inr plain) ↦ plain-step word [] plain no-words h past s m stands known
 ]
 holds (word ∷ text ∷ words) = λ h past s m stands known. elim (kind-of word (no-first (is_foreign word) (has_foreign (text ∷ words)) known)) [
-  | inl is ↦ subst (λ (given : Text). Answers (at h (place past)) (given ∷ text ∷ words) (answer past s m (told_in (given ∷ text ∷ words)))) (sym is.1)
+  | inl is ↦ subst (λ (given : Text). Answers trace (at h (place past)) (given ∷ text ∷ words) (answer past s m (told_in (given ∷ text ∷ words)))) (sym is.1)
       (alone-step is.0 text words (holds words) h past s m stands (subst (λ (given : Text). has_foreign (given ∷ text ∷ words) ≡ false) is.1 known))
-  | inr (inl is) ↦ subst (λ (given : Text). Answers (at h (place past)) (given ∷ text ∷ words) (answer past s m (told_in (given ∷ text ∷ words)))) (sym is.2)
+  | inr (inl is) ↦ subst (λ (given : Text). Answers trace (at h (place past)) (given ∷ text ∷ words) (answer past s m (told_in (given ∷ text ∷ words)))) (sym is.2)
       (attached-step is.0 is.1 (text ∷ words) (holds (text ∷ words)) h past s m stands (subst (λ (given : Text). has_foreign (given ∷ text ∷ words) ≡ false) is.2 known))
   | inr (inr plain) ↦ plain-step word (text ∷ words) plain (holds (text ∷ words)) h past s m stands known
 ]
@@ -611,7 +577,7 @@ trace-simple : is_simple_and_free trace_app ≡ true
 unfolding clap_on_literals
 trace-simple = refl
 
-start-answers : (words : List Text) → has_foreign words ≡ false → Answers start words (trace_in words)
+start-answers : (words : List Text) → has_foreign words ≡ false → Answers trace start words (trace_in words)
 start-answers words known = holds words nothing_held none None None stands-start known
 
 -- The matches tell the texts.
