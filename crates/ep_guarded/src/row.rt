@@ -311,9 +311,7 @@ impl<'a, P: Program> TiedRow<'a, P> {
         if self.row.left() || self.life != life {
             return Err(NotOpened::Away);
         }
-        match self.open_here(
-            alloc, ties, slot, buffer, half, session, grant, seat,
-        ) {
+        match self.open_here(alloc, ties, slot, buffer, half, session, grant, seat) {
             Ok(hand) => Ok(hand),
             Err(AllocError) => Err(NotOpened::OutOfMemory),
         }

@@ -220,7 +220,13 @@ impl<'a, P: Program> Live<'a, P> {
     }
 
     // Shows the write that was begun to each session that is due. Answers a bit for each slot in which it was refused.
-    fn show_all<R: Wait>(&self, rt: &R, number: usize, row: &mut TiedRow<'a, P>, write: &Write) -> u64
+    fn show_all<R: Wait>(
+        &self,
+        rt: &R,
+        number: usize,
+        row: &mut TiedRow<'a, P>,
+        write: &Write,
+    ) -> u64
         requires within { number < P.rows }
         requires number { row.old.number ≡ number }
         requires begun { 0 < row.old.row.index }
