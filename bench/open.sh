@@ -163,8 +163,8 @@ cat >"$work/crates/measure/proofs/opens/Invariants.antt" <<'PROOF'
 use Rattle.std.proofs.Common.{◌≡◌, length}
 use Rattle.measure.proofs.opens.Given as goal
 
-abbrev pub invariant-loop-turn : goal.invariant-loop-turn
-invariant-loop-turn l = length l.row.masks ≡ length l.fn.row.masks
+abbrev pub invariant-loop : goal.invariant-loop
+invariant-loop l = length l.row.masks ≡ length l.fn.row.masks
 PROOF
 cd "$work/crates/measure" || exit 1
 if ! rt run -- by_list 8 1 1 >"$work/log" 2>&1; then

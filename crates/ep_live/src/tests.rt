@@ -436,10 +436,12 @@ fn rows_of_two<'r, 'a, P: Program, R: Wait>(
     stands: Stands<'a, P>,
 ) -> Result<LiveRows<'r, 'a, P, R>, AllocError>
     requires two { P.rows ≡ 2 }
+    requires slot { free ≡ 3 }
     requires admitted { IsGrantFor P.events grant.now }
     requires seat { seat ≡ first_seat grant.now }
     ensures closed { IfOk result AreClosed }
-    ensures stands { IfOk result (λ rows. rows.stands ≡ stands) }
+    ensures granted { IfOk result (λ rows. (rows.slot ≡ 3) × (rows.grant ≡ grant.now)) }
+    ensures stands { IfOk result (λ rows. rows.stands ≡ stands.entry) }
 {
     let lives = vec![in alloc; 0u32; 2]?;
     let rows = LiveRows::new(rt, live, free, grant, seat, stands, lives);

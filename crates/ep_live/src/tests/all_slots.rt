@@ -1,5 +1,5 @@
-//! A session in each slot of two rows.
-ghost use Rattle.std.specs.Prelude.{◌≡◌, ◌+◌, ◌≤◌, IfSome, length, vec_len};
+//! A session in each slot of two rows, of which every other one is spent before its thread has made all writes.
+ghost use Rattle.std.specs.Prelude.{◌≡◌, ◌+◌, ◌<◌, ◌≤◌, IfSome, length, vec_len};
 ghost use Rattle.ep_live.specs.Made.{AreHandTies, IsHandTie};
 ghost use Rattle.ep_live.specs.Tests.{IsProgram, IsThread};
 
@@ -8,7 +8,7 @@ use super::opening::close_now;
 use super::{event, halves_of_two, write};
 use crate::live::Live;
 use crate::written::Written;
-use ep_defs::{EventDef, Write};
+use ep_defs::{EventDef, Items, Write};
 use ep_guarded::{Agreed, Grant, Program};
 use ep_shelf::Shelf;
 use ep_tie::{Blank, Right};
@@ -28,8 +28,28 @@ fn pop_hand<'a, P: Program>(hands: &mut Vec<Right<P, Agreed<'a>>>) -> Option<Rig
     hands.pop()
 }
 
-// Opens a session for each half that is left, each with a grant of its own, and then the two threads write once. Gives what
-// became of their writes.
+// Makes all writes of a row's thread. Answers what became of the last.
+fn write_all<'a, P: Program, R: Wait + Abort>(
+    rt: &R,
+    live: &Live<'a, P>,
+    number: u32,
+    half: &mut Right<P, Agreed<'a>>,
+    write: &Write,
+) -> Written
+    requires row { number < P.rows }
+    requires program { IsProgram P.events P.writes TURNS write.now }
+    requires thread { IsThread number half.old }
+    ensures { IsThread number half.new }
+{
+    let mut last = write_once(rt, live, number, half, write);
+    for _ in 1..TURNS {
+        last = write_once(rt, live, number, half, write);
+    }
+    last
+}
+
+// Opens a session for each half that is left, each with a grant of its own, of one chunk in every other slot and of two in
+// those between, and then the two threads make all their writes. Gives what became of the last of each.
 fn in_all<'a, P: Program, R: Wait + Abort>(
     rt: &R,
     alloc: Global,
@@ -53,18 +73,19 @@ fn in_all<'a, P: Program, R: Wait + Abort>(
             let place = hands.len() as u32;
             let number = place / 64;
             let slot = place % 64;
-            let (grant, mut seat) = granted(rt, alloc, grants, live.events(), 1)?;
+            let (grant, mut seat) = granted(rt, alloc, grants, live.events(), 1 + slot % 2)?;
             let hand = open_one(rt, alloc, live, number, slot, 0, &mut half, grant, &mut seat)?;
             let written = in_all(rt, alloc, live, grants, hands, first, second, write)?;
             let marks = close_now(
                 rt, alloc, live, number, slot, &mut half, hand, grant, &mut seat,
             );
-            assert!(rt; marks.taken == 1 && marks.refused == 0);
+            assert!(rt; marks.refused < TURNS && marks.taken == TURNS - marks.refused);
+            assert!(rt; (marks.refused == 0) == (slot % 2 == 1));
             Ok(written)
         }
         None => Ok((
-            write_once(rt, live, 0, first, write),
-            write_once(rt, live, 1, second, write),
+            write_all(rt, live, 0, first, write),
+            write_all(rt, live, 1, second, write),
         )),
     }
 }
@@ -94,7 +115,7 @@ fn run<'a, P: Program, R: Wait + Abort>(
     )
 }
 
-// The same for the sample event.
+// The same for writes of which one chunk has no room for all.
 fn writes_in_all<R: Wait + Abort>(
     rt: &R,
     alloc: Global,
@@ -102,19 +123,21 @@ fn writes_in_all<R: Wait + Abort>(
 ) -> Result<(Written, Written), AllocError> {
     let events = Vec::from_array(alloc, [event(alloc)?])?;
     let blank = Blank::new(alloc, 258)?;
-    let write = write(alloc);
+    let mut write = write(alloc);
+    write.payload = Items::new(vec![in alloc; 7u8; 500]?);
+    assert!(rt; write.fits());
     run::<Brand, _>(rt, alloc, blank, events, grants, &write)
 }
 
 #[test]
-fn a_write_is_shown_to_the_sessions_in_all_slots(rt: HostRuntime) -> Result<(), Fail> {
+fn a_session_that_is_spent_changes_nothing_of_the_others(rt: HostRuntime) -> Result<(), Fail> {
     let alloc = rt.alloc();
     let grants = Shelf::new(alloc)?;
     let (first, second) = writes_in_all(&rt, alloc, &grants)?;
     let wanted = Written {
-        number: 1,
+        number: TURNS,
         shown: u64::MAX,
-        refused: 0,
+        refused: 0x5555_5555_5555_5555,
     };
     assert!(rt; first == wanted && second == wanted);
     Ok(())

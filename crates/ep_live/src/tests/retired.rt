@@ -1,5 +1,5 @@
 //! A second session in the slot of one that has ended.
-ghost use Rattle.std.specs.Prelude.{◌≡◌, length};
+ghost use Rattle.std.specs.Prelude.{◌≡◌, IfOk, length};
 ghost use Rattle.ep_guarded.specs.Granted.{IsGrantFor};
 ghost use Rattle.ep_live.specs.Tests.{first_seat};
 
@@ -28,8 +28,10 @@ fn end_one<'a, P: Program, R: Wait>(
     seat: PoolSeat,
 ) -> Result<(Free<'a, P>, u32), AllocError>
     requires two { P.rows ≡ 2 }
+    requires slot { free ≡ 3 }
     requires admitted { IsGrantFor P.events grant.now }
     requires seat { seat ≡ first_seat grant.now }
+    ensures { IfOk result (λ ended. ended.0 ≡ 3) }
 {
     let mut rows = rows_of_two(rt, alloc, live, free, grant, seat, Stands::none(alloc))?;
     let hands = open_both(alloc, &mut rows, &grant.config)?;
