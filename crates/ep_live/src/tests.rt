@@ -29,7 +29,6 @@ use std::test::Fail;
 use std::thread;
 use std::thread::Threads;
 
-mod all_slots;
 mod lives;
 mod opening;
 mod retired;

@@ -128,7 +128,16 @@ pub(crate) fn open_one<'a, P: Program, R: Wait + Abort>(
     assert!(rt; seat.share() > 1);
     let mut none = Stands::none(alloc);
     match live.open(
-        rt, alloc, number as usize, slot, life, half, &mut none, 5, grant, seat,
+        rt,
+        alloc,
+        number as usize,
+        slot,
+        life,
+        half,
+        &mut none,
+        5,
+        grant,
+        seat,
     ) {
         Ok(hand) => Ok(hand),
         Err(_) => Err(AllocError),
@@ -228,8 +237,12 @@ impl<'r, 'a, P: Program, R: Wait + Abort> Living<'r, 'a, P, R> {
         } = self;
         let mut marks = Vec::new(alloc);
         for life in 0..LIVES {
-            let hand = open_one(rt, alloc, live, number, SLOT, life, &mut half, grant, &mut seat)?;
-            let hand = stays_open(rt, live, number, SLOT, life, &mut half, hand, grant, &mut seat)?;
+            let hand = open_one(
+                rt, alloc, live, number, SLOT, life, &mut half, grant, &mut seat,
+            )?;
+            let hand = stays_open(
+                rt, live, number, SLOT, life, &mut half, hand, grant, &mut seat,
+            )?;
             write_and_leave(rt, live, number, &mut thread, write);
             marks.push(close_one(
                 rt, live, number, SLOT, life, &mut half, hand, grant, &mut seat,
@@ -266,7 +279,10 @@ fn run<'a, P: Program + Send + Sync, R: Threads + Wait + Abort + Sync>(
     write: &Write,
     grants: (&'a Grant, &'a Grant),
     seats: (PoolSeat, PoolSeat),
-) -> (Result<Vec<Marks>, AllocError>, Result<Vec<Marks>, AllocError>)
+) -> (
+    Result<Vec<Marks>, AllocError>,
+    Result<Vec<Marks>, AllocError>,
+)
     requires ties { blank.ties ≡ P.ties }
     requires places { blank.places ≡ 258 }
     requires two { P.rows ≡ 2 }
@@ -360,8 +376,7 @@ fn marks_of_lives<R: Threads + Wait + Abort + Sync>(
     let blank = Blank::new(alloc, 258)?;
     let write = write(alloc);
     let seats = (one_seat, other_seat);
-    let (first, second) =
-        run::<Brand, _>(rt, alloc, blank, events, &write, (one, other), seats);
+    let (first, second) = run::<Brand, _>(rt, alloc, blank, events, &write, (one, other), seats);
     Ok((first?, second?))
 }
 

@@ -28,7 +28,7 @@ use std::thread::Threads;
 const OPENINGS: u32 = 50;
 
 // Closes a session wherever its thread stands.
-pub(crate) fn close_now<'a, P: Program, R: Wait + Abort>(
+fn close_now<'a, P: Program, R: Wait + Abort>(
     rt: &R,
     alloc: Global,
     live: &Live<'a, P>,
@@ -81,9 +81,7 @@ impl<'r, 'a, P: Program, R: Wait + Abort> Opener<'r, 'a, P, R> {
         let mut marks = Vec::new(alloc);
         for _ in 0..OPENINGS {
             let hand = open_one(rt, alloc, live, 0, 5, 0, &mut half, grant, &mut seat)?;
-            marks.push(close_now(
-                rt, alloc, live, 0, 5, &mut half, hand, grant, &mut seat,
-            ))?;
+            marks.push(close_now(rt, alloc, live, 0, 5, &mut half, hand, grant, &mut seat))?;
         }
         Ok(marks)
     }

