@@ -2,14 +2,15 @@
 ghost use Rattle.std.specs.Prelude.{◌≡◌, ℕ, ◌+◌, ◌<◌, ◌≤◌, [], ◌∷◌, None, Some, length, replicate, vec_len, IfOk, IsTrue};
 ghost use Rattle.ep_defs.specs.Session as valid;
 ghost use Rattle.ep_pool.specs.Shared.{IsSeatOf};
+ghost use Rattle.ep_guarded.specs.Granted.{IsGrantFor};
 ghost use Rattle.ep_guarded.specs.Tied.{stand_in, hand_in};
 ghost use Rattle.ep_live.specs.Live.{hand_place};
 ghost use Rattle.ep_live.specs.Made.{AreStands, AreHandTies, IsStand};
 ghost use Rattle.ep_live.specs.RowSet.{expected_in, out_in};
-ghost use Rattle.ep_live.specs.Tests.{AreOpen, AreClosed};
+ghost use Rattle.ep_live.specs.Tests.{AreOpen, AreClosed, first_seat};
 ghost use Rattle.ep_stream.specs.Rows.{IsRow, IsSetAt};
 
-use crate::free::free_slots;
+use crate::free::{Free, free_slots};
 use crate::live::Live;
 use crate::live_rows::{LiveRows, same_tests_have_the_same_stands};
 use crate::stands::Stands;
@@ -27,6 +28,10 @@ use std::sync::Wait;
 use std::test::Fail;
 use std::thread;
 use std::thread::Threads;
+
+mod lives;
+mod opening;
+mod retired;
 
 /// How often each of two threads writes.
 const TURNS: u32 = 300;
@@ -143,6 +148,7 @@ fn taken<'a, P: Program, R: Wait + Abort>(
     requires writes { (t : ℕ) → P.writes t ≡ replicate 2 write.now }
     requires event { write.now.event ≡ 1 }
     requires fits { IsTrue (valid.fits write.now) }
+    requires admitted { IsGrantFor P.events grant.now }
     requires seat { IsSeatOf grant.now.pool seat.old }
     requires share { seat.old.share ≡ 3 }
     requires taken { seat.old.taken ≡ 0 }
@@ -169,13 +175,10 @@ fn taken<'a, P: Program, R: Wait + Abort>(
 #[test]
 fn a_session_takes_what_a_thread_wrote(rt: HostRuntime) -> Result<(), Fail> {
     let alloc = rt.alloc();
-    let (pool, mut seat) = Pool::new(&rt, alloc, 4, 3)?;
-    let grant = Grant {
-        config: config(alloc)?,
-        pool,
-    };
-    let blank = Blank::new(alloc, 258)?;
     let events = Vec::from_array(alloc, [event(alloc)?])?;
+    let (pool, mut seat) = Pool::new(&rt, alloc, 4, 3)?;
+    let grant = Grant::new(alloc, config(alloc)?, pool, events.as_slice())?;
+    let blank = Blank::new(alloc, 258)?;
     let write = write(alloc);
     let (first, second, marks) = taken::<Brand, _>(
         &rt, alloc, blank, events, &write, &grant, &mut seat,
@@ -421,6 +424,29 @@ fn beside<'r, 'a, P: Program + Send + Sync, R: Threads + Wait + Sync>(
     Ok((one, other, back && free.slot() == 3, chunks))
 }
 
+// The rows of a session that is open nowhere, in a slot of two rows.
+fn rows_of_two<'r, 'a, P: Program, R: Wait>(
+    rt: &'r R,
+    alloc: Global,
+    live: &'r Live<'a, P>,
+    free: Free<'a, P>,
+    grant: &'a Grant,
+    seat: PoolSeat,
+    stands: Stands<'a, P>,
+) -> Result<LiveRows<'r, 'a, P, R>, AllocError>
+    requires two { P.rows ≡ 2 }
+    requires slot { free ≡ 3 }
+    requires admitted { IsGrantFor P.events grant.now }
+    requires seat { seat ≡ first_seat grant.now }
+    ensures closed { IfOk result AreClosed }
+    ensures granted { IfOk result (λ rows. (rows.slot ≡ 3) × (rows.grant ≡ grant.now)) }
+    ensures stands { IfOk result (λ rows. rows.stands ≡ stands.entry) }
+{
+    let lives = vec![in alloc; 0u32; 2]?;
+    let rows = LiveRows::new(rt, live, free, grant, seat, stands, lives);
+    Ok(rows)
+}
+
 // A run of the two threads, from its begin to its end.
 fn run<'a, P: Program + Send + Sync, R: Threads + Wait + Sync>(
     rt: &R,
@@ -439,14 +465,14 @@ fn run<'a, P: Program + Send + Sync, R: Threads + Wait + Sync>(
     requires writes { (t : ℕ) → P.writes t ≡ replicate TURNS write.now }
     requires event { write.now.event ≡ 1 }
     requires fits { IsTrue (valid.fits write.now) }
-    requires seat { seat ≡ record { pool = grant.now.pool.pool; total = grant.now.pool.total; seats = 3; share = 3; taken = 0; given = 0; dry = 0 } }
+    requires admitted { IsGrantFor P.events grant.now }
+    requires seat { seat ≡ first_seat grant.now }
 {
     let (live, threads, hands) = Live::<P>::new(alloc, blank, 2, events)?;
     let stands = Stands::new(threads, 0);
     let mut slots = free_slots(alloc, hands)?;
     let free = slots.swap_remove(3);
-    let lives = vec![in alloc; 0u32; 2]?;
-    let rows = LiveRows::new(rt, &live, free, grant, seat, stands, lives);
+    let rows = rows_of_two(rt, alloc, &live, free, grant, seat, stands)?;
     beside(rt, alloc, &live, rows, &grant.config, write)
 }
 
@@ -459,13 +485,10 @@ fn are_whole(marks: &Marks, thread: u64) -> bool {
 #[test]
 fn a_session_takes_beside_two_threads(rt: HostRuntime) -> Result<(), Fail> {
     let alloc = rt.alloc();
-    let (pool, seat) = Pool::new(&rt, alloc, 4, 3)?;
-    let grant = Grant {
-        config: config(alloc)?,
-        pool,
-    };
-    let blank = Blank::new(alloc, 258)?;
     let events = Vec::from_array(alloc, [event(alloc)?])?;
+    let (pool, seat) = Pool::new(&rt, alloc, 4, 3)?;
+    let grant = Grant::new(alloc, config(alloc)?, pool, events.as_slice())?;
+    let blank = Blank::new(alloc, 258)?;
     let write = write(alloc);
     let (one, other, back, chunks) = run::<Brand, _>(
         &rt, alloc, blank, events, &write, &grant, seat,

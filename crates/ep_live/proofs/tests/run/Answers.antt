@@ -1,21 +1,9 @@
-use Rattle.std.proofs.Common.{◌≡◌, ◌∙◌, ℕ, Option, None, Bool, true, false, refl, sym}
-use Rattle.std.specs.Prelude.{◌==◌, if◌then◌else◌}
-use Rattle.ep_slot.specs.Hand.{HandState}
-use Rattle.ep_live.specs.Tests.{HasHands, two_hands}
+use Rattle.std.proofs.Common.{refl, arith}
+use Rattle.std.proofs.lemmas.Option.{slice_get_read}
 use Rattle.ep_live.proofs.tests.run.Goals as goal
 
-either : (which : Bool) (x y : Option HandState) → x ≡ None → y ≡ None → (if which then x else y) ≡ None
-either true x y is _ = is
-either false x y _ is = is
-
-none_of_two : (row slot : ℕ) → two_hands None None row slot ≡ None
-none_of_two row slot = either (slot == 3) _ None (either (row == 1) None _ refl (either (row == 2) None None refl refl)) refl
-
-pub beside-requires-clause-closed : goal.beside-requires-clause-closed
-beside-requires-clause-closed g c κs within =
-    let fresh = c.new-rows.ensures in
-    record {
-      rows = fresh.count ∙ c.requires.rows;
-      hands = λ row slot. fresh.closed row slot ∙ sym (none_of_two row slot);
-      given = fresh.given;
-    }
+pub rows_of_two-requires-clause-slot : goal.rows_of_two-requires-clause-slot
+rows_of_two-requires-clause-slot g c κs within =
+    let slots = c.in_ok-slots.slots in
+    let free = c.swap_remove-free in
+    c.in_ok-slots.ensures.slots 3 free.result (slice_get_read slots.items _ 3 free.result slots.ok.0 (omega (arith, c.in_ok-slots.ensures.count)) free.ensures.value)
