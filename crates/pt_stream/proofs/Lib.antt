@@ -1,0 +1,10 @@
+pub mod Lives
+pub mod Places
+pub mod Threads
+pub mod Served
+pub mod Hands
+pub mod Told
+pub mod Rows
+pub mod Keeping
+pub mod Ends
+pub mod Starts
