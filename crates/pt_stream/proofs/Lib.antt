@@ -8,3 +8,4 @@ pub mod Rows
 pub mod Keeping
 pub mod Ends
 pub mod Starts
+pub mod Testing
