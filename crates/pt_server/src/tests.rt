@@ -252,68 +252,56 @@ fn the_65th_session_is_refused_and_500_connections_are_taken(rt: HostRuntime) ->
     Ok(())
 }
 
-#[test]
-fn each_fault_ends_its_own_connection(rt: HostRuntime) -> Result<(), Fail> {
-    let alloc = rt.alloc();
+// The same peer, of whose link these reads and these writes fail; such a write keeps this many bytes.
+fn failing(
+    peer: Peer<'static>,
+    read_fails: &'static [u64],
+    write_fails: &'static [u64],
+    keep: usize,
+) -> Peer<'static> {
+    Peer {
+        read_fails,
+        write_fails,
+        keep,
+        ..peer
+    }
+}
+
+// Peers whose links fail, and sessions that do not start.
+fn faulty_peers() -> [Peer<'static>; 12] {
     let collect = sound_peer(&COLLECT, 10);
     let info = sound_peer(&INFO, 10);
     let stop = sound_peer(&STOP_5, 65_536);
-    let silent = Peer {
-        start: Start::Silent,
-        ..collect
-    };
-    let cut = Peer {
-        start: Start::Cut,
-        ..collect
-    };
-    let peers = [
+    let start = Start::Silent;
+    let silent = Peer { start, ..collect };
+    let start = Start::Cut;
+    let cut = Peer { start, ..collect };
+    [
         // The first read fails, and then the last.
-        Peer {
-            read_fails: &[1],
-            ..info
-        },
-        Peer {
-            read_fails: &[18],
-            ..collect
-        },
+        failing(info, &[1], &[], 0),
+        failing(collect, &[18], &[], 0),
         // The reply is not taken at all, or in part.
-        Peer {
-            write_fails: &[1],
-            ..info
-        },
-        Peer {
-            write_fails: &[1],
-            keep: 10,
-            ..info
-        },
+        failing(info, &[], &[1], 0),
+        failing(info, &[], &[1], 10),
         // There is no second write.
-        Peer {
-            write_fails: &[2],
-            ..info
-        },
+        failing(info, &[], &[2], 0),
         // A start fails before its reply, and the error is not taken.
         silent,
-        Peer {
-            write_fails: &[1],
-            keep: 3,
-            ..silent
-        },
+        failing(silent, &[], &[1], 3),
         // A start fails after its reply, or with it: no error is told.
         cut,
-        Peer {
-            write_fails: &[1],
-            keep: 3,
-            ..cut
-        },
+        failing(cut, &[], &[1], 3),
         // The ticket stands, though its reply was not taken.
         collect,
-        Peer {
-            write_fails: &[1],
-            ..stop
-        },
+        failing(stop, &[], &[1], 0),
         stop,
-    ];
-    let told = serve(alloc, &peers)?;
+    ]
+}
+
+#[test]
+fn each_fault_ends_its_own_connection(rt: HostRuntime) -> Result<(), Fail> {
+    let alloc = rt.alloc();
+    let told = serve(alloc, &faulty_peers())?;
     let memory = ConnAnswer::Error {
         code: OUT_OF_MEMORY,
     };
