@@ -1,10 +1,10 @@
-use Rattle.std.proofs.Common.{◌≡◌, ◌∙◌, ℕ, ◌+◌, ◌%◌, ◌<◌, List, [], ◌∷◌, ◌++◌, length, refl, ap, sym, subst, arith}
-use Rattle.std.specs.Prelude.{Some, slice_get, slice_set}
+use Rattle.std.proofs.Common.{◌∙◌, ℕ, ◌%◌, List, [], ◌∷◌, length, refl, ap, sym, subst, arith}
+use Rattle.std.specs.Prelude.{slice_get}
 use Rattle.std.proofs.lemmas.List.{length-append}
 use Rattle.std.proofs.lemmas.Option.{slice_get_read}
 use Rattle.std.proofs.lemmas.Iterator.Adapters.{YieldsList-from_vec}
 use Rattle.std.proofs.lemmas.Iterator.Consumers.{YieldsList-turn}
-use Rattle.ep_live.specs.Free.{ColumnState, AreColumns}
+use Rattle.ep_live.specs.Free.{ColumnState}
 use Rattle.ep_live.specs.Made.{IsSlotTie}
 use Rattle.ep_live.proofs.Columns.{next-tie, columns-more}
 use Rattle.ep_live.proofs.free.deal.Goals as goal

@@ -1,7 +1,7 @@
 use Rattle.std.proofs.Common.{◌≡◌, ◌∙◌, ℕ, Option, None, Bool, true, false, refl, sym}
 use Rattle.std.specs.Prelude.{◌==◌, if◌then◌else◌}
 use Rattle.ep_slot.specs.Hand.{HandState}
-use Rattle.ep_live.specs.Tests.{HasHands, two_hands}
+use Rattle.ep_live.specs.Tests.{two_hands}
 use Rattle.ep_live.proofs.tests.rows_of_two.Goals as goal
 
 either : (which : Bool) (x y : Option HandState) → x ≡ None → y ≡ None → (if which then x else y) ≡ None

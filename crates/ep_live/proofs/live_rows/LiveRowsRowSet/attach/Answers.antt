@@ -1,14 +1,12 @@
-use Rattle.std.proofs.Common.{◌≡◌, ◌∙◌, ℕ, ◌+◌, ◌-◌, List, Option, Some, length, refl, ap, sym, arith, rules}
-use Rattle.std.specs.Prelude.{◌==◌, ◌&&◌, if◌then◌else◌, option_map, slice_set}
+use Rattle.std.proofs.Common.{◌≡◌, ◌∙◌, ℕ, ◌+◌, ◌-◌, Some, length, refl, ap, sym, arith}
+use Rattle.std.specs.Prelude.{◌==◌, if◌then◌else◌, slice_set}
 use Rattle.std.specs.List.{sum_by}
 use Rattle.std.proofs.lemmas.Option.{slice_get_read}
-use Rattle.ep_tie.specs.Tied.{Tied}
-use Rattle.ep_defs.specs.declared.session.Config.{Config}
 use Rattle.ep_guarded.specs.declared.grant.Grant.{Grant}
 use Rattle.ep_guarded.specs.Tied.{hand_in, buffer_number}
 use Rattle.ep_live.specs.Live.{hand_place}
-use Rattle.ep_live.specs.RowSet.{LiveRowsState, expected_in, configured_in, config_in, out_in, said_by, stolen_in}
-use Rattle.ep_live.proofs.Halves.{said-own, half-is, set-same, room, counts, counts-none, sum-set, rows-changed}
+use Rattle.ep_live.specs.RowSet.{LiveRowsState, expected_in, out_in, stolen_in}
+use Rattle.ep_live.proofs.Halves.{said-own, half-is, room, counts, counts-none, sum-set, rows-changed}
 use Rattle.ep_live.proofs.live_rows.LiveRowsRowSet.attach.Goals as goal
 
 pub open-requires-clause-place : goal.open-requires-clause-place
