@@ -186,13 +186,3 @@ is-shown answer events writes slot write kept row new_row shown seat rests due w
             knows = slots;
           };
     }
-
--- What was open has one number more, as the row knows it.
-pub slots-shown : (slot : ℕ) (write : Write) (shown : Shown) (row new_row : RowState) (old new : KeptState) → Answers slot write shown row new_row old new → new_row.slots ≡ slice_set row.slots slot (shown_once (slot_of row slot))
-slots-shown slot write shown row new_row old new answers =
-    answers.knows
-    ∙ ap (λ (o : Option Opening). slice_set row.slots slot o) (ap (λ (s : SlotState). Some (opening_of s)) answers.answered.slot ∙ once (is_refused shown) old.slot ∙ ap shown_once (sym answers.knew))
-  where
-    once : (refused : Bool) (slot : SlotState) → Some (opening_of (shown_slot refused slot row.stamp write)) ≡ shown_once (Some (opening_of slot))
-    once true slot = refl
-    once false slot = refl

@@ -23,10 +23,6 @@ pub set-other : (row : ℕ) (hand : Option HandState) (old new : ℕ → Option 
 set-other row hand old new sets r not = sets r ∙ ap (λ v. if v then hand else old r) (ne_eqb r row not)
 
 -- A row where the session is open has a hand, and another has none.
-pub hand-open : (rows row : ℕ) (place : Place) (hand : Option HandState) → IsHandOf rows row place hand → place.is_open ≡ true → IsSome hand
-hand-open rows row place None h on = absurd (true≢false (sym on ∙ h))
-hand-open rows row place (Some hand) h on = refl
-
 pub hand-shut : (rows row : ℕ) (place : Place) (hand : Option HandState) → IsHandOf rows row place hand → place.is_open ≡ false → hand ≡ None
 hand-shut rows row place None h off = refl
 hand-shut rows row place (Some hand) h off = absurd (true≢false (sym h.0 ∙ off))

@@ -31,10 +31,3 @@ program-of turns events write one valid event fit =
           slice_get_read (replicate turns write) _ index write refl (omega (arith, few, length-replicate turns write))
           (sym (get_or-replicate turns index write write few));
     }
-
--- What holds of rows 1 and 2 holds of each row of two.
-pub of-two : (Q : ℕ → Type 0) → Q 1 → Q 2 → (row : ℕ) → 0 < row → row ≤ 2 → Q row
-of-two Q one two zero some within = absurd (omega (arith, some))
-of-two Q one two (suc zero) some within = one
-of-two Q one two (suc (suc zero)) some within = two
-of-two Q one two (suc (suc (suc row))) some within = absurd (omega (arith, within))
