@@ -1,0 +1,161 @@
+//! The table behind its lock, as the server uses it.
+ghost use Rattle.std.specs.Prelude.{◌≡◌, ◌+◌, ◌<◌, ◌≤◌, length, true, false, not};
+ghost use Rattle.ep_journal.specs.declared.limits.TheConstants.{CONNECTIONS};
+ghost use Rattle.ep_journal.specs.declared.session.Opened.TheVariants as opened;
+ghost use Rattle.ep_journal.specs.Recorded.{is_serving, opened_at};
+ghost use Rattle.ep_registry.specs.Registered.{counted_if};
+ghost use Rattle.std.specs.Prelude.{IsTrue};
+
+use crate::table::{Held, Table};
+use crate::world::{Books, Holds, RoleMarks, World};
+use ep_journal::limits::CONNECTIONS;
+use ep_live::Free;
+use ep_registry::{Holder, Server};
+use ep_table::StopAnswer;
+use pt_io::Link;
+use pt_server::{Begun, Deciding, Process};
+use pt_stream::Run;
+use std::marker::Model;
+use std::sync::{Mutex, Wait};
+
+/// The server's half, and the table behind its lock. Contracts see the half.
+#[derive(Drop)]
+pub(crate) struct Locked<'t, 'a, W: World, R: Wait, L: Link> {
+    rt: &'t R,
+    table: &'t Mutex<Table<'a, W, L>>,
+    server: Server<Books<W>, RoleMarks<W>>,
+    // How many connections were decided.
+    decided: u32,
+}
+
+impl<'t, 'a, W: World, R: Wait, L: Link> Model for Locked<'t, 'a, W, R, L> {
+    ghost use Rattle.std.specs.Prelude.{◌≡◌, ◌≤◌, length};
+    ghost use Rattle.ep_registry.specs.Registered.{ServerHalf};
+    ghost use Rattle.ep_journal.specs.declared.limits.TheConstants.{CONNECTIONS};
+
+    ghost Value = { ServerHalf };
+
+    ghost view = { λ l. l.server };
+
+    ghost invariant = { λ l. (l.decided ≡ length l.server.decisions) × (l.decided ≤ CONNECTIONS) };
+}
+
+impl<'t, 'a, W: World, R: Wait, L: Link + Drop> Locked<'t, 'a, W, R, L> {
+    /// The table of a server that has decided on no connection.
+    pub(crate) fn new(
+        rt: &'t R,
+        table: &'t Mutex<Table<'a, W, L>>,
+        server: Server<Books<W>, RoleMarks<W>>,
+    ) -> Locked<'t, 'a, W, R, L>
+        requires { length server.decisions ≡ 0 }
+        ensures { result ≡ server }
+    {
+        Locked {
+            rt,
+            table,
+            server,
+            decided: 0,
+        }
+    }
+
+    /// Whether as many connections were decided as can be.
+    pub(crate) fn is_full(&self) -> bool
+        ensures full { result ≡ true → length self.now.decisions ≡ CONNECTIONS }
+        ensures room { result ≡ false → length self.now.decisions < CONNECTIONS }
+    {
+        self.decided as usize == CONNECTIONS
+    }
+
+    /// How many sessions were opened on all rows before any write.
+    pub(crate) fn early(&self) -> u32
+        ensures { result ≡ self.now.early }
+    {
+        self.server.early()
+    }
+
+    /// The session was opened on all rows, before any write or later.
+    pub(crate) fn open(&mut self, holder: &mut Holder<Holds<W>>, early: bool)
+        requires serves { IsTrue (is_serving holder.old.stage) }
+        requires unopened { holder.old.opened ≡ opened.No }
+        ensures opened { holder.new ≡ record holder.old { opened = opened_at early } }
+        ensures counted { self.new ≡ record self.old {
+          early = self.old.early + counted_if early;
+          late = self.old.late + counted_if (not early);
+        } }
+    {
+        self.table
+            .lock(self.rt)
+            .open(&mut self.server, holder, early);
+    }
+
+    /// The session goes to its role, with its stream.
+    pub(crate) fn hand_over(&mut self, held: Held<'a, W, L>)
+        ensures { self.new ≡ self.old }
+    {
+        self.table.lock(self.rt).hand_over(held);
+    }
+
+    /// The server takes no more connections. Gives its half.
+    pub(crate) fn close(self) -> Server<Books<W>, RoleMarks<W>>
+        ensures { result ≡ record self.entry { left = true } }
+    {
+        let Locked {
+            rt,
+            table,
+            mut server,
+            decided: _,
+        } = self;
+        table.lock(rt).close(&mut server);
+        server
+    }
+}
+
+impl<'t, 'a, W: World, R: Wait, L: Link + Drop> Deciding<Holder<Holds<W>>, Free<'a, W>>
+    for Locked<'t, 'a, W, R, L> {
+    ghost use Rattle.std.specs.Prelude.{◌≡◌, false};
+    ghost use Rattle.pt_roles.specs.Server.{IsBegun, SameBut};
+
+    ghost decisions = { λ l. l.decisions };
+
+    ghost is_open = { λ l. l.left ≡ false };
+
+    ghost begins = { λ l begun. IsBegun l.decisions begun.id begun.slot begun.holder begun.free };
+
+    ghost same = { SameBut };
+
+    fn pass(&mut self) {
+        self.decided += 1;
+        self.table.lock(self.rt).pass(&mut self.server);
+    }
+
+    fn accept(&mut self) -> Option<Begun<Holder<Holds<W>>, Free<'a, W>>> {
+        self.decided += 1;
+        match self.table.lock(self.rt).accept(&mut self.server) {
+            Some((holder, free)) => {
+                let hold = holder.hold();
+                Some(Begun {
+                    id: hold.id,
+                    slot: hold.slot,
+                    holder,
+                    free,
+                })
+            }
+            None => None,
+        }
+    }
+
+    fn stop(&mut self, id: u64) -> bool {
+        self.decided += 1;
+        match self.table.lock(self.rt).stop(&mut self.server, id) {
+            StopAnswer::Ticket(_) => true,
+            StopAnswer::NotLive { .. } => false,
+        }
+    }
+
+    fn fail(&mut self, begun: Begun<Holder<Holds<W>>, Free<'a, W>>) {
+        let Begun { holder, free, .. } = begun;
+        self.table
+            .lock(self.rt)
+            .fail(&mut self.server, holder, free);
+    }
+}

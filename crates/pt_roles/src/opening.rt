@@ -1,0 +1,60 @@
+//! How a session is opened on the rows of a run.
+ghost use Rattle.std.specs.Prelude.{◌≡◌, ◌+◌, ◌<◌, ◌≤◌, true, false};
+
+use crate::around::Around;
+use crate::table::Telling;
+use crate::world::World;
+use ep_guarded::NotOpened;
+use pt_io::Link;
+use pt_stream::Run;
+use std::sync::Wait;
+use std::thread;
+use std::time::{Clock as Timer, Duration};
+
+/// How long the server rests before it asks again for a row that is between two lives, in milliseconds.
+const REST: u64 = 1;
+
+/// Opens a session that was just started on each row, the first one first, until there is no memory for one more. Before
+/// the writers begin each row serves its first life. Answers whether it is open on all rows.
+pub(crate) fn open_all<'a, W: World, R: Wait + Timer, L: Link, C, G>(
+    around: &Around<'_, 'a, W, R, L, C, G>,
+    stream: Telling<'a, W, L>,
+    early: bool,
+) -> (Telling<'a, W, L>, bool) {
+    let mut stream = stream;
+    for number in 0..around.scene.plan.threads {
+        let (next, opened) = open_row(around, stream, number, early);
+        stream = next;
+        if !opened {
+            return (stream, false);
+        }
+    }
+    (stream, true)
+}
+
+// Opens it on the row with this number, in the life that the row serves by then. Answers whether there was memory.
+fn open_row<'a, W: World, R: Wait + Timer, L: Link, C, G>(
+    around: &Around<'_, 'a, W, R, L, C, G>,
+    stream: Telling<'a, W, L>,
+    number: u32,
+    early: bool,
+) -> (Telling<'a, W, L>, bool) {
+    let scene = &around.scene;
+    let mut stream = stream;
+    for _ in scene.rt.forever() {
+        let life = if early {
+            Some(0)
+        } else {
+            scene.life(number as usize)
+        };
+        if let Some(life) = life {
+            match stream.open_row(around.alloc, scene.rt, scene.live, number + 1, life) {
+                (next, Ok(())) => return (next, true),
+                (next, Err(NotOpened::Away)) => stream = next,
+                (next, Err(_)) => return (next, false),
+            }
+        }
+        thread::sleep(scene.rt, Duration::from_millis(REST));
+    }
+    unreachable!()
+}
