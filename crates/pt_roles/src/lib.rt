@@ -26,6 +26,8 @@ mod scene;
 mod serving;
 mod streamers;
 mod table;
+#[cfg(test)]
+mod tests;
 mod world;
 mod writers;
 
