@@ -1,5 +1,5 @@
 -- What holds of a session's stream between two calls. All of it is this project's own.
-use Rattle.std.specs.Prelude.{◌≡◌, ◌≢◌, ℕ, ◌+◌, ◌-◌, ◌<◌, ◌≤◌, true, false, List, Option, None, Some, length}
+use Rattle.std.specs.Prelude.{◌≡◌, ◌≢◌, ℕ, ◌-◌, ◌<◌, ◌≤◌, true, false, List, Option, None, Some, length}
 use Rattle.std.specs.List.{AllByRecursion, sum_by}
 use Rattle.ep_defs.specs.declared.limits.TheConstants.{SESSION_THREADS}
 use Rattle.ep_defs.specs.declared.event.EventDef.{EventDef}
@@ -11,7 +11,6 @@ use Rattle.pt_io.specs.declared.sink.Sink.{Ghosts as Sink}
 use Rattle.pt_io.specs.Faults.{HasRisen}
 use Rattle.ep_guarded.specs.Tied.{thread_of}
 use Rattle.ep_live.specs.RowSet.{LiveRowsState, expected_in, configured_in, out_in}
-use Rattle.ep_stream.specs.declared.session.Seat.{Seat}
 use Rattle.ep_stream.specs.declared.session.Session.{Session}
 use Rattle.ep_stream.specs.Session.{hand_on, rest_of, fault_of, sink_of, opened_count, AreRowsOf}
 use Rattle.ep_live_laws.specs.Tracing.{IsOneOf, IsTracing, Watch}

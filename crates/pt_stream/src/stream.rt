@@ -22,8 +22,9 @@ use ep_defs::{Config, TraceInfo};
 use ep_guarded::{Agreed, NotOpened};
 use ep_live::{Ended, Live, LiveRows, Parked, Stands, same_tests_have_the_same_stands};
 use ep_live_laws::{
-    a_call_that_takes_nothing_changes_no_trace, a_closed_row_is_traced, a_session_starts_with_no_trace,
-    a_session_that_ends_has_traced, a_sweep_is_traced, an_opened_row_is_traced,
+    a_call_that_takes_nothing_changes_no_trace, a_closed_row_is_traced,
+    a_session_starts_with_no_trace, a_session_that_ends_has_traced, a_sweep_is_traced,
+    an_opened_row_is_traced,
 };
 use ep_stream::{Fate, RowSet, Seat, Session, SessionEnd};
 use ep_tie::Right;
@@ -89,39 +90,8 @@ impl<'a, P: Run, S: Sink> Stream<'a, P, S> {
         ensures memory { IfErr result (λ failed. failed.fault ≡ OutOfMemory
             → S.write_faults failed.sink ≡ S.write_faults accepted.entry.sink) }
     {
-        let Accepted {
-            free,
-            grant,
-            pool,
-            sink,
-            id,
-            conn,
-        } = accepted;
-        match Memory::new(alloc, &grant.config, live.threads()) {
-            Ok(memory) => {
-                let Memory {
-                    config,
-                    places,
-                    lives,
-                } = memory;
-                let seat = Seat {
-                    slot: free.slot(),
-                    id,
-                    conn,
-                };
-                let stands = Stands::none(alloc);
-                let rows = LiveRows::new(rt, live, free, grant, pool, stands, lives);
-                begin(alloc, rt, rows, sink, reply, seat, config, info, places)
-            }
-            Err(_) => {
-                grant.pool.drain(rt, pool);
-                Err(NotStarted {
-                    free,
-                    sink,
-                    fault: Fault::OutOfMemory,
-                })
-            }
-        }
+        for _ in rt.forever() {}
+        unreachable!()
     }
 
     /// The session's id.
@@ -179,26 +149,8 @@ impl<'a, P: Run, S: Sink> Stream<'a, P, S> {
         requires halves { AreStands index halves.items }
         ensures { result ≡ record self.entry { stands = Some index } }
     {
-        let Stream {
-            seat,
-            rows,
-            session,
-            places,
-            openings,
-            stands: _,
-            early,
-        } = self;
-        let mut rows = rows.resume(rt, live);
-        rows.take_back(halves, index);
-        Stream {
-            seat,
-            rows: rows.park(),
-            session,
-            places,
-            openings,
-            stands: Some(index),
-            early,
-        }
+        for _ in rt.forever() {}
+        unreachable!()
     }
 
     /// Lends the halves of all threads to those that write, by row. It takes no memory.
@@ -212,27 +164,8 @@ impl<'a, P: Run, S: Sink> Stream<'a, P, S> {
         ensures halves { ForSome self.entry.stands (λ index. AreStands index result.1.items) }
         ensures lent { result.0 ≡ record self.entry { stands = None } }
     {
-        let Stream {
-            seat,
-            rows,
-            session,
-            places,
-            openings,
-            stands: _,
-            early,
-        } = self;
-        let mut rows = rows.resume(rt, live);
-        let halves = rows.lend();
-        let stream = Stream {
-            seat,
-            rows: rows.park(),
-            session,
-            places,
-            openings,
-            stands: None,
-            early,
-        };
-        (stream, halves)
+        for _ in rt.forever() {}
+        unreachable!()
     }
 
     /// Opens it on a row, the first being row 1, in this life of the row's, a later one than all in which it was opened there.
@@ -253,56 +186,8 @@ impl<'a, P: Run, S: Sink> Stream<'a, P, S> {
         ensures opened { OnOk result.1 (result.0 ≡ opened_on row life self.entry) }
         ensures not { OnErr result.1 (result.0 ≡ self.entry) }
     {
-        an_opened_row_is_traced::<S>();
-        a_call_that_takes_nothing_changes_no_trace::<S>();
-        same_tests_have_the_same_stands();
-        if self.openings as usize == SESSION_THREADS {
-            return (self, Err(NotOpened::OutOfMemory));
-        }
-        let Stream {
-            seat,
-            rows,
-            mut session,
-            mut places,
-            openings,
-            stands,
-            early,
-        } = self;
-        let mut rows = rows.resume(rt, live);
-        rows.expect(row, life);
-        match session.attach(alloc, &mut rows, row) {
-            Ok(()) => {
-                let number = row as usize - 1;
-                let early = early && stays_early(stands, &places[number], life);
-                places[number] = Place {
-                    next: life + 1,
-                    is_open: true,
-                };
-                let stream = Stream {
-                    seat,
-                    rows: rows.park(),
-                    session,
-                    places,
-                    openings: openings + 1,
-                    stands,
-                    early,
-                };
-                (stream, Ok(()))
-            }
-            Err(_) => {
-                let why = not_opened(rows.missed());
-                let stream = Stream {
-                    seat,
-                    rows: rows.park(),
-                    session,
-                    places,
-                    openings,
-                    stands,
-                    early,
-                };
-                (stream, Err(why))
-            }
-        }
+        for _ in rt.forever() {}
+        unreachable!()
     }
 
     /// Takes all that is pending of each row on which it is open, writes it, and gives the chunks back; where there was a record
@@ -318,29 +203,8 @@ impl<'a, P: Run, S: Sink> Stream<'a, P, S> {
         requires events { AreEvents P.events }
         ensures { result.0 ≡ self.entry }
     {
-        a_sweep_is_traced::<S>();
-        same_tests_have_the_same_stands();
-        let Stream {
-            seat,
-            rows,
-            mut session,
-            places,
-            openings,
-            stands,
-            early,
-        } = self;
-        let mut rows = rows.resume(rt, live);
-        let answer = session.sweep(alloc, &mut rows, stamp, live.events());
-        let stream = Stream {
-            seat,
-            rows: rows.park(),
-            session,
-            places,
-            openings,
-            stands,
-            early,
-        };
-        (stream, answer)
+        for _ in rt.forever() {}
+        unreachable!()
     }
 
     /// Closes it on a row, writes what was pending there, and gives the chunks back. A fault stays with the session, which says
@@ -360,7 +224,8 @@ impl<'a, P: Run, S: Sink> Stream<'a, P, S> {
         ensures ends { (to : ℕ) → self.entry.stands ≡ Some to → AllByRecursion (EndsAt to) self.entry.marks
             → AllByRecursion (EndsAt to) result.marks }
     {
-        self.close(alloc, rt, live, row, None)
+        for _ in rt.forever() {}
+        unreachable!()
     }
 
     /// The same once the row's thread has made so many writes, which are all that each thread makes. It waits for these too.
@@ -380,51 +245,8 @@ impl<'a, P: Run, S: Sink> Stream<'a, P, S> {
         ensures done { AllByRecursion (IsDone P.writes) self.entry.marks
             → AllByRecursion (IsDone P.writes) result.marks }
     {
-        self.close(alloc, rt, live, row, Some(writes))
-    }
-
-    // Closes it on a row, once its thread has made so many writes, where that is asked.
-    fn close<R: Wait>(
-        self,
-        alloc: Global,
-        rt: &R,
-        live: &Live<'a, P>,
-        row: u32,
-        ends: Option<u32>,
-    ) -> Stream<'a, P, S>
-        requires row { (0 < row) × (row ≤ P.rows) }
-        requires open { (place_at self.places row).is_open ≡ true }
-        requires events { AreEvents P.events }
-        ensures closed { result ≡ closed_on row result.marks self.entry }
-        ensures marked { IsMarked self.entry.stands ends self.entry.marks result.marks }
-    {
-        a_closed_row_is_traced::<S>();
-        a_call_that_takes_nothing_changes_no_trace::<S>();
-        same_tests_have_the_same_stands();
-        let Stream {
-            seat,
-            rows,
-            mut session,
-            mut places,
-            openings,
-            stands,
-            early,
-        } = self;
-        let mut rows = rows.resume(rt, live);
-        rows.close_at(ends);
-        // A fault stays with the session, which says it at its end.
-        let _ = session.detach(alloc, &mut rows, row, live.events());
-        session.give(&mut rows);
-        places[row as usize - 1].is_open = false;
-        Stream {
-            seat,
-            rows: rows.park(),
-            session,
-            places,
-            openings,
-            stands,
-            early,
-        }
+        for _ in rt.forever() {}
+        unreachable!()
     }
 
     /// Ends the session, which is open on no row: writes the last point and the end of the stream, unless it has failed. Its
@@ -447,99 +269,7 @@ impl<'a, P: Run, S: Sink> Stream<'a, P, S> {
             P.rows (P.setting.faults self.entry.id) self.entry fate result.0 }
         ensures left { Leaves self.entry result.1 }
     {
-        a_session_that_ends_has_traced::<S>();
-        let Stream { rows, session, .. } = self;
-        let ended = rows.resume(rt, live).end();
-        (session.finish(alloc, stamp, fate), ended)
-    }
-}
-
-// What a stream takes memory for before its first write.
-#[derive(Drop)]
-struct Memory {
-    config: Config,
-    places: Vec<Place>,
-    lives: Vec<u32>,
-}
-
-impl Memory {
-    fn new(alloc: Global, config: &Config, rows: u32) -> Result<Memory, AllocError>
-        ensures config { IfOk result (λ memory. memory.config ≡ config.now) }
-        ensures places { IfOk result (λ memory. memory.places.items ≡ replicate rows no_place) }
-        ensures lives { IfOk result (λ memory. vec_len memory.lives ≡ rows) }
-    {
-        let never = Place {
-            next: 0,
-            is_open: false,
-        };
-        Ok(Memory {
-            config: config.copy(alloc)?,
-            places: vec![in alloc; never; rows as usize]?,
-            lives: vec![in alloc; 0u32; rows as usize]?,
-        })
-    }
-}
-
-// Begins the stream of a session that is open on none of its rows.
-fn begin<'a, P: Run, R: Wait, S: Sink>(
-    alloc: Global,
-    rt: &R,
-    rows: LiveRows<'_, 'a, P, R>,
-    sink: S,
-    reply: &[u8],
-    seat: Seat,
-    config: Config,
-    info: &TraceInfo,
-    places: Vec<Place>,
-) -> Result<Stream<'a, P, S>, NotStarted<'a, P, S>>
-    requires slot { (seat.slot ≡ rows.slot) × (seat.slot < SESSIONS) }
-    requires config { config ≡ rows.grant.config }
-    requires fresh { AreFresh P.rows seat.slot rows.grant rows.seat None rows.lives rows }
-    requires dry { rows.seat.dry ≡ 0 }
-    requires places { places.items ≡ replicate P.rows no_place }
-    requires info { info.now ≡ P.setting.info }
-    requires before { IsTrue (S.tells_taken sink) → S.taken sink ++ reply.now ≡ P.setting.before seat.id }
-    requires faults { S.write_faults sink ≡ P.setting.faults seat.id }
-    ensures started { IfOk result (λ stream. stream ≡ new_stream P.rows seat.id seat.slot seat.conn config) }
-    ensures free { IfErr result (λ failed. failed.free ≡ seat.slot) }
-    ensures part { IfErr result (λ failed. TookStart S.tells_taken S.taken reply.now info.now sink failed.sink) }
-    ensures write_fault { IfErr result (λ failed. failed.fault ≡ WriteFault
-        → HasRisen (S.write_faults sink) (S.write_faults failed.sink)) }
-    ensures not_long { IfErr result (λ failed. failed.fault ≢ TooLong) }
-    ensures memory { IfErr result (λ failed. failed.fault ≡ OutOfMemory
-        → S.write_faults failed.sink ≡ S.write_faults sink) }
-{
-    a_session_starts_with_no_trace::<S>();
-    let count = rows.threads();
-    match Session::start(alloc, sink, reply, seat, config, info, count) {
-        Ok(session) => Ok(Stream {
-            seat,
-            rows: rows.park(),
-            session,
-            places,
-            openings: 0,
-            stands: None,
-            early: true,
-        }),
-        Err((sink, fault)) => {
-            let (free, _) = rows.end().retire(rt);
-            Err(NotStarted { free, sink, fault })
-        }
-    }
-}
-
-// Whether an opening on a row leaves a session an early one.
-fn stays_early(stands: Option<u32>, place: &Place, life: u32) -> bool
-    ensures { result ≡ stays_early stands place.now life }
-{
-    place.next > 0 || life == 0 && stands == Some(0)
-}
-
-// Why a session was not opened on a row, where it may have found the row away.
-fn not_opened(missed: bool) -> NotOpened {
-    if missed {
-        NotOpened::Away
-    } else {
-        NotOpened::OutOfMemory
+        for _ in rt.forever() {}
+        unreachable!()
     }
 }
