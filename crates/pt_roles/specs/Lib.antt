@@ -7,3 +7,4 @@ pub mod Server
 pub mod Roles
 pub mod Streamers
 pub mod Serving
+pub mod Ending

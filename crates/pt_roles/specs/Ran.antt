@@ -6,13 +6,10 @@ use Rattle.ep_defs.specs.declared.session.Facts.{Facts}
 use Rattle.ep_defs.specs.declared.session.Marks.{Marks}
 use Rattle.pt_io.specs.declared.dock.Dock.{Ghosts as Dock}
 use Rattle.pt_io.specs.declared.sink.Sink.{Ghosts as Sink}
-use Rattle.pt_io.specs.declared.source.Source.{Ghosts as Source}
 use Rattle.pt_io.specs.Faults.{HasRisen}
 use Rattle.pt_io.specs.Sides.{ReadSide, WriteSide}
 use Rattle.nt_write.specs.declared.limits.TheConstants.{FRAMED_EVENTS}
 use Rattle.ipc_body.specs.declared.request.Request.TheVariants as request
-use Rattle.ipc_body.specs.Answering.{session_reply}
-use Rattle.ipc_serve.specs.Decision.{asked_by}
 use Rattle.ep_guarded.specs.Tied.{AreCounted, thread_of}
 use Rattle.ep_stream.specs.declared.session.Fate.{Fate}
 use Rattle.ep_stream.specs.declared.session.Fate.TheVariants as fate
@@ -25,9 +22,10 @@ use Rattle.ep_journal.specs.declared.limits.TheConstants.{CONNECTIONS}
 use Rattle.ep_journal.specs.Kept.{is_session}
 use Rattle.ep_journal.specs.Told.{AreTold}
 use Rattle.pt_load.specs.Sample.{sample}
+use Rattle.pt_server.specs.Connection.{HasAsked}
 use Rattle.pt_server.specs.Told.{AreTold as AreEnded}
 use Rattle.pt_roles.specs.Fates.{fate_as}
-use Rattle.pt_roles.specs.World.{WorldState, rows_of, writes_of}
+use Rattle.pt_roles.specs.World.{WorldState, before_of, rows_of, writes_of}
 use Rattle.pt_roles.specs.declared.live_end.LiveEnd.{LiveEnd}
 use Rattle.pt_roles.specs.declared.live_end.LiveSession.{LiveSession}
 
@@ -72,10 +70,6 @@ taken_of marks = sum_by (λ mark. mark.taken) marks
 
 -- ---- a session
 
--- What the link took before the session's stream: the greeting of its dock, and the reply with the session's id.
-abbrev pub before_of : WorldState → ℕ → List ℕ
-before_of world id = world.greeting ++ session_reply id
-
 -- Behind that the link took these bytes.
 abbrev pub TookBehind : {L : Type 0} → Sink L → List ℕ → L → List ℕ → Type 0
 TookBehind sink before link bytes = sink.taken link ≡ before ++ bytes
@@ -93,9 +87,9 @@ pub record TookPart {L : Type 0} (sink : Sink L) (world : WorldState) (session :
   pub took : TookBehind sink (before_of world session.id) session.link part
 
 -- What a session of a run comes to. Nothing of it speaks of another session.
-pub record IsEnd {L : Type 0} (source : Source L) (sink : Sink L) (world : WorldState) (session : LiveSession L) : Type 0 where
-  -- its link asked for it, with this configuration
-  pub asked : IsTrue (source.tells_given session.link) → asked_by (source.given session.link) ≡ Ok (request.Collect session.config)
+pub record IsEnd {L : Type 0} (gave : L → ReadSide) (sink : Sink L) (world : WorldState) (session : LiveSession L) : Type 0 where
+  -- its link asked for it, with this configuration, and gave no byte more
+  pub asked : HasAsked (gave session.link) (request.Collect session.config)
   pub marks : AreMarksOf world session.config session.marks
   -- where it did not fail it was open on each row, and its link took the whole stream; else a part of one
   pub every : is_fault session.fate ≡ false → HasEachRow world session.marks
@@ -141,7 +135,7 @@ HasWaited world IsOver sessions =
 -- ---- the run
 
 -- What a run comes to whose dock was the first and is the second.
-pub record IsRan {D L : Type 0} (dock : Dock D) (source : Source L) (sink : Sink L) (gave : L → ReadSide) (took : L → WriteSide) (world : WorldState) (old new : D) (end : LiveEnd L) : Type 0 where
+pub record IsRan {D L : Type 0} (dock : Dock D L) (sink : Sink L) (gave : L → ReadSide) (took : L → WriteSide) (world : WorldState) (old new : D) (end : LiveEnd L) : Type 0 where
   -- what was decided, by connection, and what became of the sessions, by id, the failed starts among them: they bear one
   -- another out
   pub decisions : List Decision
@@ -153,7 +147,7 @@ pub record IsRan {D L : Type 0} (dock : Dock D) (source : Source L) (sink : Sink
   -- and each has ended as it may, or became a session
   pub conns : AreEnded gave took world.facts world.greeting 1 decisions end.conns.items
   pub sessions : AreKnown 1 entries end.sessions.items
-  pub each : AllByRecursion (IsEnd source sink world) end.sessions.items
+  pub each : AllByRecursion (IsEnd gave sink world) end.sessions.items
   -- each row's last thread has made all its writes
   pub rows : end.rows.items ≡ rows_of world.plan world.options.lives
   pub waited : HasWaited world (IsTrue (dock.is_closed new) ⊎ HasRisen (dock.dock_faults old) (dock.dock_faults new) ⊎ (length decisions ≡ CONNECTIONS)) end.sessions.items

@@ -1,5 +1,5 @@
 -- What a run's server keeps between two connections. All of it is this project's own.
-use Rattle.std.specs.Prelude.{◌≡◌, ℕ, ◌+◌, ◌≤◌, ◌⊎◌, Bool, true, false, List, length, Option, Some, None, IsTrue}
+use Rattle.std.specs.Prelude.{◌≡◌, ℕ, ◌+◌, ◌≤◌, ◌⊎◌, Bool, true, false, List, [], length, Option, Some, None, IsTrue}
 use Rattle.ep_journal.specs.declared.decision.Decision.{Decision}
 use Rattle.ep_journal.specs.declared.limits.TheConstants.{CONNECTIONS}
 use Rattle.ep_journal.specs.declared.session.Opened.TheVariants as opened
@@ -8,6 +8,16 @@ use Rattle.ep_registry.specs.declared.hold.Hold.{Hold}
 use Rattle.ep_registry.specs.Registered.{ServerHalf}
 use Rattle.pt_io.specs.declared.dock.Dock.{Ghosts as Dock}
 use Rattle.pt_io.specs.Faults.{HasRisen}
+use Rattle.pt_io.specs.Sides.{ReadSide, WriteSide}
+use Rattle.ep_defs.specs.declared.session.Facts.{Facts}
+use Rattle.pt_server.specs.declared.desk.ConnEnd.{ConnEnd}
+use Rattle.nt_write.specs.declared.fault.Fault.{Fault}
+use Rattle.nt_write.specs.declared.fault.Fault.TheVariants as fault
+use Rattle.pt_server.specs.declared.unstarted.Unstarted.{Unstarted}
+use Rattle.pt_server.specs.declared.unstarted.Unstarted.TheVariants as unstarted
+use Rattle.pt_server.specs.Told.{AreTold}
+use Rattle.pt_roles.specs.declared.exit.Exit.{Exit}
+use Rattle.pt_roles.specs.declared.exit.Exit.TheVariants as exit
 
 -- What was given for the session that was accepted last is its own.
 pub record IsBegun (decisions : List Decision) (id slot : ℕ) (hold : Hold) (free : ℕ) : Type 0 where
@@ -24,19 +34,6 @@ pub record SameBut (old new : ServerHalf) : Type 0 where
   pub late : new.late ≡ old.late
   pub left : new.left ≡ old.left
 
--- The dock was the first when the run began, and each connection that has come in since was decided.
-pub record HasServed {D : Type 0} (dock : Dock D) (greeting : List ℕ) (old new : D) (half : ServerHalf) (failed : Bool) : Type 0 where
-  pub greets : dock.greeting new ≡ greeting
-  pub count : dock.arrivals new ≡ dock.arrivals old + length half.decisions
-  pub few : length half.decisions ≤ CONNECTIONS
-  pub risen : failed ≡ true → HasRisen (dock.dock_faults old) (dock.dock_faults new)
-  pub stays : failed ≡ false → dock.dock_faults new ≡ dock.dock_faults old
-
--- Nobody comes in any more: the dock is closed or failed, or as many connections came as can be.
-abbrev pub IsDone : {D : Type 0} → Dock D → D → D → List Decision → Type 0
-IsDone dock old new decisions =
-    IsTrue (dock.is_closed new) ⊎ HasRisen (dock.dock_faults old) (dock.dock_faults new) ⊎ (length decisions ≡ CONNECTIONS)
-
 -- The halves of all threads, none of which has begun a write, are there before the writers begin, and none later.
 abbrev pub lent_if : Bool → Option ℕ
 lent_if true = Some 0
@@ -47,3 +44,55 @@ pub record GoesOn (early : Bool) (old new : ServerHalf) : Type 0 where
   pub left : new.left ≡ old.left
   pub more : old.early ≤ new.early
   pub late : early ≡ true → new.late ≡ old.late
+
+-- ---- turns
+
+-- How the server's turns came to their end, if they did.
+abbrev pub IsExit : {D L : Type 0} → Dock D L → Option Exit → D → D → ServerHalf → Type 0
+IsExit dock None old new now = dock.dock_faults new ≡ dock.dock_faults old
+IsExit dock (Some exit.Enough) old new now = dock.dock_faults new ≡ dock.dock_faults old
+IsExit dock (Some exit.Closed) old new now = (dock.dock_faults new ≡ dock.dock_faults old) × IsTrue (dock.is_closed new)
+IsExit dock (Some exit.Failed) old new now = HasRisen (dock.dock_faults old) (dock.dock_faults new)
+IsExit dock (Some exit.Full) old new now = (dock.dock_faults new ≡ dock.dock_faults old) × (length now.decisions ≡ CONNECTIONS)
+
+-- Between two moments each connection that came in was decided, and the server's turns came to their end so, if they did.
+pub record HasTurned {D L : Type 0} (dock : Dock D L) (early : Bool) (exit : Option Exit) (old new : D) (was now : ServerHalf) : Type 0 where
+  pub greets : dock.greeting new ≡ dock.greeting old
+  pub count : dock.arrivals new + length was.decisions ≡ dock.arrivals old + length now.decisions
+  pub goes : GoesOn early was now
+  pub exits : IsExit dock exit old new now
+
+-- Nobody comes in any more.
+abbrev pub is_last : Exit → Bool
+is_last exit.Enough = false
+is_last exit.Closed = true
+is_last exit.Failed = true
+is_last exit.Full = true
+
+-- A server that has decided on no connection.
+abbrev pub no_server : ServerHalf
+no_server = record { decisions = []; early = 0; late = 0; left = false }
+
+-- The server's later turns follow on the first ones, unless nobody comes in any more.
+abbrev pub GoesOnFrom : {D L : Type 0} → Dock D L → Exit → Exit → D → D → ServerHalf → ServerHalf → Type 0
+GoesOnFrom dock exit.Enough last old new was now = HasTurned dock false (Some last) old new was now
+GoesOnFrom dock exit.Closed last old new was now = (last ≡ exit.Closed) × (new ≡ old) × (now ≡ was)
+GoesOnFrom dock exit.Failed last old new was now = (last ≡ exit.Failed) × (new ≡ old) × (now ≡ was)
+GoesOnFrom dock exit.Full last old new was now = (last ≡ exit.Full) × (new ≡ old) × (now ≡ was)
+
+-- What the server has come to: its last turns ended so, and either so many sessions were opened on all rows before any
+-- write, or nobody came in any more when the writers began, and no session was opened later.
+pub record HasServed {D L : Type 0} (dock : Dock D L) (gave : L → ReadSide) (took : L → WriteSide) (facts : Facts) (greeting : List ℕ) (wait : ℕ) (exit : Exit) (conns : List (ConnEnd L)) (old new : D) (half : ServerHalf) : Type 0 where
+  pub count : dock.arrivals new ≡ dock.arrivals old + length half.decisions
+  pub exits : IsExit dock (Some exit) old new half
+  pub told : AreTold gave took facts greeting 1 half.decisions conns
+  pub waited : (wait ≤ half.early) ⊎ ((is_last exit ≡ true) × (half.late ≡ 0))
+
+-- ---- a start that fails
+
+-- Why a session did not start, by whether something was written and by its fault.
+abbrev pub why_of : Bool → Fault → Unstarted
+why_of false fault = unstarted.Silent
+why_of true fault.WriteFault = unstarted.WriteFault
+why_of true fault.TooLong = unstarted.Cut
+why_of true fault.OutOfMemory = unstarted.Cut

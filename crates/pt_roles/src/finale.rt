@@ -22,13 +22,13 @@ impl<W: World, L: Link> Model for Finale<W, L> {
 
     ghost view = { λ f. f.session };
 
-    ghost invariant = { λ f. IsEnd L.Source L.Sink W.world f.session };
+    ghost invariant = { λ f. IsEnd L.read_side L.Sink W.world f.session };
 }
 
 impl<W: World, L: Link> Finale<W, L> {
     /// A session that has ended so.
     pub(crate) fn new(session: LiveSession<L>) -> Finale<W, L>
-        requires { IsEnd L.Source L.Sink W.world session }
+        requires { IsEnd L.read_side L.Sink W.world session }
         ensures { result ≡ session }
     {
         Finale {
@@ -39,8 +39,8 @@ impl<W: World, L: Link> Finale<W, L> {
 
     /// What is left of it.
     pub(crate) fn open(self) -> LiveSession<L>
-        ensures value { result ≡ self.entry }
-        ensures is_end { IsEnd L.Source L.Sink W.world result }
+        ensures value { result ≡ self }
+        ensures is_end { IsEnd L.read_side L.Sink W.world result }
     {
         self.session
     }

@@ -1,14 +1,19 @@
 //! The server of a run.
-ghost use Rattle.std.specs.Prelude.{◌≡◌, ◌+◌, ◌<◌, ◌≤◌, [], length, true, false, IsTrue, Some, None, IfSome};
+ghost use Rattle.std.specs.Prelude.{◌≡◌, ◌≢◌, ◌+◌, ◌-◌, ◌^◌, ◌<◌, ◌≤◌, [], length, true, false, IsTrue, Some, None, IfSome};
 ghost use Rattle.ep_journal.specs.declared.limits.TheConstants.{CONNECTIONS};
 ghost use Rattle.ep_journal.specs.Kept.{is_last};
 ghost use Rattle.ipc_body.specs.declared.request.Request.TheVariants as request;
 ghost use Rattle.ep_defs.specs.Session.{is_valid_config, is_valid_facts};
 ghost use Rattle.pt_server.specs.Connection.{HasAsked, IsFresh, Took};
 ghost use Rattle.pt_server.specs.Told.{AreTold};
-ghost use Rattle.pt_roles.specs.Server.{GoesOn, IsBegun, lent_if};
+ghost use Rattle.ep_journal.specs.declared.session.Stage.TheVariants as stage;
+ghost use Rattle.ep_journal.specs.declared.session.Opened.TheVariants as opened;
+ghost use Rattle.pt_stream.specs.State.{first_seat, new_stream};
+ghost use Rattle.pt_roles.specs.declared.exit.Exit.TheVariants as exit;
+ghost use Rattle.pt_roles.specs.Server.{GoesOn, HasTurned, IsBegun, lent_if, why_of};
 
 use crate::around::Around;
+use crate::exit::Exit;
 use crate::held_dock::HeldDock;
 use crate::locked::Locked;
 use crate::opening::open_all;
@@ -41,19 +46,6 @@ pub(crate) struct Host<'t, 'a, W: World, R: Wait, L: Link + Drop, C, G> {
     ghost facts_are: { (facts.now ≡ W.world.facts) × IsTrue (is_valid_facts facts.now) },
 }
 
-/// How the server's turns came to their end.
-#[derive(Clone, Copy, Debug, PartialEq, Eq)]
-pub(crate) enum Exit {
-    /// As many sessions are open as the writers wait for, or the writers have ended.
-    Enough,
-    /// Nobody comes in any more.
-    Closed,
-    /// The dock has failed.
-    Failed,
-    /// As many connections came in as can be.
-    Full,
-}
-
 impl<'t, 'a, W: World, R: Wait + Timer, L: Link + Drop, C: Clock, G: Gate> Host<
     't,
     'a,
@@ -68,7 +60,16 @@ impl<'t, 'a, W: World, R: Wait + Timer, L: Link + Drop, C: Clock, G: Gate> Host<
         &mut self,
         held: &mut HeldDock<'_, D>,
         wait: u32,
-    ) -> Exit {
+    ) -> Exit
+        requires open { self.old.desk.decider.left ≡ false }
+        requires stands { self.old.stands ≡ Some 0 }
+        requires greeting { D.greeting held.old.dock.now ≡ W.greeting }
+        ensures turned { HasTurned D.Dock true (Some result) held.old.dock.now held.new.dock.now
+            self.old.desk.decider self.new.desk.decider }
+        ensures enough { result ≡ exit.Enough → wait ≤ self.new.desk.decider.early }
+        ensures stands { self.new.stands ≡ Some 0 }
+        ensures same { held.new.dock.ghost_name ≡ held.old.dock.ghost_name }
+    {
         for _ in self.around.scene.rt.forever() {
             if self.desk.decider.early() >= wait {
                 return Exit::Enough;
@@ -81,7 +82,14 @@ impl<'t, 'a, W: World, R: Wait + Timer, L: Link + Drop, C: Clock, G: Gate> Host<
     }
 
     /// Takes connections while the writers write.
-    pub(crate) fn serve_late<D: Dock<Link = L>>(&mut self, held: &mut HeldDock<'_, D>) -> Exit {
+    pub(crate) fn serve_late<D: Dock<Link = L>>(&mut self, held: &mut HeldDock<'_, D>) -> Exit
+        requires open { self.old.desk.decider.left ≡ false }
+        requires stands { self.old.stands ≡ None }
+        requires greeting { D.greeting held.old.dock.now ≡ W.greeting }
+        ensures turned { HasTurned D.Dock false (Some result) held.old.dock.now held.new.dock.now
+            self.old.desk.decider self.new.desk.decider }
+        ensures same { held.new.dock.ghost_name ≡ held.old.dock.ghost_name }
+    {
         for _ in self.around.scene.rt.forever() {
             if self.around.scene.hints.have_ended() {
                 return Exit::Enough;
@@ -218,7 +226,10 @@ impl<'t, 'a, W: World, R: Wait + Timer, L: Link + Drop, C: Clock, G: Gate> Host<
     }
 
     /// The server takes no more connections. Gives its half, and the connections that are no sessions.
-    pub(crate) fn close(self) -> (Server<Books<W>, RoleMarks<W>>, Vec<ConnEnd<L>>) {
+    pub(crate) fn close(self) -> (Server<Books<W>, RoleMarks<W>>, Vec<ConnEnd<L>>)
+        ensures server { result.0 ≡ record self.entry.desk.decider { left = true } }
+        ensures told { AreTold L.read_side L.write_side W.facts W.greeting 1 result.0.decisions result.1.items }
+    {
         let Host { desk, .. } = self;
         let (decider, conns) = desk.finish();
         (decider.close(), conns)
@@ -232,7 +243,12 @@ fn granted<'a, R: Wait>(
     shelf: &'a Shelf<Grant>,
     config: Config,
     rows: u32,
-) -> Option<(&'a Grant, PoolSeat)> {
+) -> Option<(&'a Grant, PoolSeat)>
+    requires some { rows < 2 ^ 32 - 1 }
+    requires valid { IsTrue (is_valid_config config) }
+    ensures config { IfSome result (λ granted. granted.0.now.config ≡ config) }
+    ensures seat { IfSome result (λ granted. granted.1 ≡ first_seat granted.0.now.pool (rows + 1)) }
+{
     let Ok((pool, seat)) = Pool::new(rt, alloc, config.chunks, rows + 1) else {
         return None;
     };
@@ -243,7 +259,9 @@ fn granted<'a, R: Wait>(
 }
 
 // Why a session did not start, by whether something was written and by its fault.
-fn why_unstarted(wrote: bool, fault: Fault) -> Unstarted {
+fn why_unstarted(wrote: bool, fault: Fault) -> Unstarted
+    ensures { result ≡ why_of wrote fault }
+{
     if !wrote {
         return Unstarted::Silent;
     }

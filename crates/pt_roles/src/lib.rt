@@ -11,6 +11,7 @@
 
 mod around;
 mod drafts;
+mod exit;
 mod finale;
 mod groups;
 mod held_dock;

@@ -1,5 +1,10 @@
 //! The table behind its lock, as the server uses it.
-ghost use Rattle.std.specs.Prelude.{◌≡◌, ◌+◌, ◌<◌, ◌≤◌, length, true, false, not};
+ghost use Rattle.std.specs.Prelude.{◌≡◌, ◌+◌, ◌<◌, ◌≤◌, length, true, false, not, option_map, IfSome};
+ghost use Rattle.ep_journal.specs.declared.decision.Decision.TheVariants as decision;
+ghost use Rattle.ep_journal.specs.Items.{with_item};
+ghost use Rattle.ep_journal.specs.Kept.{is_last};
+ghost use Rattle.pt_server.specs.Deciding.{accepts_as, decided, stops_as};
+ghost use Rattle.pt_roles.specs.Server.{IsBegun, SameBut};
 ghost use Rattle.ep_journal.specs.declared.limits.TheConstants.{CONNECTIONS};
 ghost use Rattle.ep_journal.specs.declared.session.Opened.TheVariants as opened;
 ghost use Rattle.ep_journal.specs.Recorded.{is_serving, opened_at};
@@ -123,14 +128,27 @@ impl<'t, 'a, W: World, R: Wait, L: Link + Drop> Deciding<Holder<Holds<W>>, Free<
 
     ghost same = { SameBut };
 
-    fn pass(&mut self) {
+    fn pass(&mut self)
+        requires room { length self.old.decisions < CONNECTIONS }
+        ensures decides { self.new.decisions ≡ decided self.old.decisions decision.Nothing }
+        ensures same { SameBut self.old self.new }
+    {
         self.decided += 1;
         self.table.lock(self.rt).pass(&mut self.server);
     }
 
-    fn accept(&mut self) -> Option<Begun<Holder<Holds<W>>, Free<'a, W>>> {
+    fn accept(&mut self) -> Option<Begun<Holder<Holds<W>>, Free<'a, W>>>
+        requires open { self.old.left ≡ false }
+        requires room { length self.old.decisions < CONNECTIONS }
+        ensures decides { self.new.decisions
+            ≡ decided self.old.decisions (accepts_as (option_map (λ begun. begun.id) result)) }
+        ensures begins { IfSome result
+            (λ begun. IsBegun self.new.decisions begun.id begun.slot begun.holder begun.free) }
+        ensures same { SameBut self.old self.new }
+    {
         self.decided += 1;
-        match self.table.lock(self.rt).accept(&mut self.server) {
+        let begun = self.table.lock(self.rt).accept(&mut self.server);
+        match begun {
             Some((holder, free)) => {
                 let hold = holder.hold();
                 Some(Begun {
@@ -144,15 +162,23 @@ impl<'t, 'a, W: World, R: Wait, L: Link + Drop> Deciding<Holder<Holds<W>>, Free<
         }
     }
 
-    fn stop(&mut self, id: u64) -> bool {
+    fn stop(&mut self, id: u64) -> bool
+        requires room { length self.old.decisions < CONNECTIONS }
+        ensures decides { self.new.decisions ≡ decided self.old.decisions (stops_as id result) }
+        ensures same { SameBut self.old self.new }
+    {
         self.decided += 1;
-        match self.table.lock(self.rt).stop(&mut self.server, id) {
-            StopAnswer::Ticket(_) => true,
-            StopAnswer::NotLive { .. } => false,
-        }
+        let answer = self.table.lock(self.rt).stop(&mut self.server, id);
+        matches!(answer, StopAnswer::Ticket(_))
     }
 
-    fn fail(&mut self, begun: Begun<Holder<Holds<W>>, Free<'a, W>>) {
+    fn fail(&mut self, begun: Begun<Holder<Holds<W>>, Free<'a, W>>)
+        requires last { IsTrue (is_last self.old.decisions begun.id) }
+        requires begun { IsBegun self.old.decisions begun.id begun.slot begun.holder begun.free }
+        ensures decides { self.new.decisions
+            ≡ with_item self.old.decisions (length self.old.decisions) decision.Nothing }
+        ensures same { SameBut self.old self.new }
+    {
         let Begun { holder, free, .. } = begun;
         self.table
             .lock(self.rt)

@@ -1,5 +1,7 @@
 //! How a session is opened on the rows of a run.
-ghost use Rattle.std.specs.Prelude.{◌≡◌, ◌+◌, ◌<◌, ◌≤◌, true, false};
+ghost use Rattle.std.specs.Prelude.{◌≡◌, ◌+◌, ◌<◌, ◌≤◌, true, false, Some, replicate};
+ghost use Rattle.pt_stream.specs.State.{is_complete, no_place, place_at};
+ghost use Rattle.pt_roles.specs.Serving.{IsOpenedOnce};
 
 use crate::around::Around;
 use crate::table::Telling;
@@ -20,7 +22,14 @@ pub(crate) fn open_all<'a, W: World, R: Wait + Timer, L: Link, C, G>(
     around: &Around<'_, 'a, W, R, L, C, G>,
     stream: Telling<'a, W, L>,
     early: bool,
-) -> (Telling<'a, W, L>, bool) {
+) -> (Telling<'a, W, L>, bool)
+    requires new { (stream.places ≡ replicate W.rows no_place) × (stream.early ≡ true) }
+    requires stands { early ≡ true → stream.stands ≡ Some 0 }
+    ensures same { result.0
+        ≡ record stream.entry { places = result.0.places; early = result.0.early } }
+    ensures complete { is_complete result.0 ≡ result.1 }
+    ensures early { early ≡ true → result.0.early ≡ true }
+{
     let mut stream = stream;
     for number in 0..around.scene.plan.threads {
         let (next, opened) = open_row(around, stream, number, early);
@@ -38,7 +47,12 @@ fn open_row<'a, W: World, R: Wait + Timer, L: Link, C, G>(
     stream: Telling<'a, W, L>,
     number: u32,
     early: bool,
-) -> (Telling<'a, W, L>, bool) {
+) -> (Telling<'a, W, L>, bool)
+    requires row { number < W.rows }
+    requires never { place_at stream.places (number + 1) ≡ no_place }
+    ensures opened { result.1 ≡ true → IsOpenedOnce early (number + 1) stream.entry result.0 }
+    ensures stays { result.1 ≡ false → result.0 ≡ stream.entry }
+{
     let scene = &around.scene;
     let mut stream = stream;
     for _ in scene.rt.forever() {

@@ -1,14 +1,19 @@
 //! A run with its server, from its first turn to its end.
-ghost use Rattle.std.specs.Prelude.{◌≡◌, ◌+◌, ◌*◌, ◌<◌, ◌≤◌, IfOk, OnErr, IsTrue};
+ghost use Rattle.std.specs.Prelude.{◌≡◌, ◌+◌, ◌*◌, ◌<◌, ◌≤◌, [], None, Some, false, vec_capacity, IfOk, IfErr, IfNone, IfSome, OnErr, IsTrue};
+ghost use Rattle.ep_journal.specs.declared.limits.TheConstants.{CONNECTIONS};
+ghost use Rattle.ep_table.specs.declared.limits.TheConstants.{SLOTS};
+ghost use Rattle.pt_roles.specs.Ending.{IsAllOver, has_failed};
+ghost use Rattle.pt_roles.specs.Server.{GoesOnFrom, HasServed, no_server};
 ghost use Rattle.ep_defs.specs.declared.limits.TheConstants.{THREADS as MOST_THREADS, WRITES};
 ghost use Rattle.ep_defs.specs.Session.{is_valid_facts};
 ghost use Rattle.pt_roles.specs.Ran.{IsRan};
-ghost use Rattle.pt_roles.specs.World.{AreOptions, world_of};
+ghost use Rattle.pt_roles.specs.World.{AreOptions, IsWorldOf, rows_of, world_of};
 
 use crate::around::Around;
+use crate::exit::Exit;
 use crate::groups::{AllLeft, AtEnd, Streaming, WritersKit};
 use crate::held_dock::HeldDock;
-use crate::host::{Exit, Host};
+use crate::host::Host;
 use crate::live_end::{LiveEnd, LiveSession};
 use crate::locked::Locked;
 use crate::options::LiveOptions;
@@ -57,7 +62,7 @@ pub fn run_live<
     requires writes { plan.now.writes ≤ WRITES }
     requires options { AreOptions options.now }
     requires facts { IsTrue (is_valid_facts facts.now) }
-    ensures ran { IfOk result (IsRan D.Dock L.Source L.Sink L.read_side L.write_side
+    ensures ran { IfOk result (IsRan D.Dock L.Sink L.read_side L.write_side
         (world_of plan.now options.now facts.now (D.greeting dock.old)) dock.old dock.new) }
     ensures memory { OnErr result (dock.new ≡ dock.old) }
 {
@@ -106,7 +111,22 @@ fn run_named<
     blanks: Blanks<'a>,
     held: HeldDock<'d, D>,
     answer: &mut Result<LiveEnd<L>, AllocError>,
-) -> HeldDock<'d, D> {
+) -> HeldDock<'d, D>
+    requires world { IsWorldOf W.world W.rows W.events W.writes W.setting W.facts W.greeting }
+    requires plan { (parts.plan.now ≡ W.world.plan) × (parts.options ≡ W.world.options) }
+    requires facts { (parts.facts.now ≡ W.world.facts) × IsTrue (is_valid_facts parts.facts.now) }
+    requires rows { (blanks.rows.ties ≡ W.ties) × (blanks.rows.places ≡ W.rows + 128 * W.rows) }
+    requires table { (blanks.books.ties ≡ W.books) × (blanks.holds.ties ≡ W.holds)
+        × (blanks.marks.ties ≡ W.marks) }
+    requires places { (blanks.books.places ≡ 1) × (blanks.holds.places ≡ CONNECTIONS)
+        × (blanks.marks.places ≡ SLOTS + 1) }
+    requires events { blanks.events.items ≡ W.events }
+    requires greeting { D.greeting held.dock.now ≡ W.world.greeting }
+    ensures same { result.dock.ghost_name ≡ held.entry.dock.ghost_name }
+    ensures ran { IfOk answer.new (IsRan D.Dock L.Sink L.read_side L.write_side W.world
+        held.entry.dock.now result.dock.now) }
+    ensures memory { IfErr answer.new (λ _. result.dock.now ≡ held.entry.dock.now) }
+{
     let Parts { options, .. } = parts;
     match Prepared::<W, L>::new(
         parts.alloc,
@@ -142,7 +162,16 @@ fn run_prepared<
     shelf: &'a Shelf<Grant>,
     prepared: Prepared<'a, W, L>,
     held: HeldDock<'d, D>,
-) -> (HeldDock<'d, D>, Result<LiveEnd<L>, AllocError>) {
+) -> (HeldDock<'d, D>, Result<LiveEnd<L>, AllocError>)
+    requires world { IsWorldOf W.world W.rows W.events W.writes W.setting W.facts W.greeting }
+    requires plan { (parts.now.plan.now ≡ W.world.plan) × (parts.now.options ≡ W.world.options) }
+    requires facts { (parts.now.facts.now ≡ W.world.facts) × IsTrue (is_valid_facts parts.now.facts.now) }
+    requires greeting { D.greeting held.dock.now ≡ W.world.greeting }
+    ensures same { result.0.dock.ghost_name ≡ held.entry.dock.ghost_name }
+    ensures ran { IfOk result.1 (IsRan D.Dock L.Sink L.read_side L.write_side W.world
+        held.entry.dock.now result.0.dock.now) }
+    ensures memory { IfErr result.1 (λ _. result.0.dock.now ≡ held.entry.dock.now) }
+{
     let Prepared {
         live,
         hints,
@@ -194,7 +223,10 @@ fn around<'t, 'a, W: World, R: Wait, L: Link, C, G>(
     live: &'t Live<'a, W>,
     hints: &'t Hints<W>,
     table: &'t Mutex<Table<'a, W, L>>,
-) -> Around<'t, 'a, W, R, L, C, G> {
+) -> Around<'t, 'a, W, R, L, C, G>
+    requires world { IsWorldOf W.world W.rows W.events W.writes W.setting W.facts W.greeting }
+    requires plan { (parts.now.plan.now ≡ W.world.plan) × (parts.now.options ≡ W.world.options) }
+{
     Around {
         scene: Scene {
             rt: parts.rt,
@@ -239,51 +271,69 @@ fn run_groups<
     streaming: Streaming<'t, 'a, W, R, L, C, G>,
     kit: WritersKit<'t, 'a, W, R, L, C, G>,
     held: HeldDock<'d, D>,
-) -> (HeldDock<'d, D>, Option<Over<W, L>>) {
-    thread::scope(thread::scope_env(), rt, move |scope| {
-        let mut held = held;
-        let mut host = host;
-        let serving = match scope.spawn(move || streaming.play_all()) {
-            Ok(handle) => handle,
-            Err(_) => return (held, None),
-        };
-        let first = host.serve_early(&mut held, wait);
-        let writing = kit.ready(host.stands.lend());
-        match scope.spawn(move || writing.write_all()) {
-            Ok(handle) => {
-                let exit = go_on(&mut host, &mut held, first);
-                let (server, conns) = host.close();
-                let end = handle.join(rt);
-                let left = serving.join(rt);
-                (
-                    held,
-                    Some(Over {
-                        server,
-                        conns,
-                        exit,
-                        left,
-                        end,
-                    }),
-                )
+) -> (HeldDock<'d, D>, Option<Over<W, L>>)
+    requires host { (host.desk.decider ≡ no_server) × (host.stands ≡ Some 0) }
+    requires greeting { D.greeting held.dock.now ≡ W.greeting }
+    ensures same { result.0.dock.ghost_name ≡ held.entry.dock.ghost_name }
+    ensures served { IfSome result.1 (λ over. HasServed D.Dock L.read_side L.write_side W.facts W.greeting
+        wait over.exit over.conns.items held.entry.dock.now result.0.dock.now over.server) }
+    ensures none { IfNone result.1 (result.0.dock.now ≡ held.entry.dock.now) }
+{
+    thread::scope(
+        thread::scope_env(),
+        rt,
+        move |scope|
+            requires { (host.desk.decider ≡ no_server) × (host.stands ≡ Some 0)
+                × (D.greeting held.dock.now ≡ W.greeting) }
+            ensures { (result.0.dock.ghost_name ≡ held.entry.dock.ghost_name)
+                × IfSome result.1 (λ over. HasServed D.Dock L.read_side L.write_side W.facts W.greeting
+                wait over.exit over.conns.items held.entry.dock.now result.0.dock.now over.server)
+                × IfNone result.1 (result.0.dock.now ≡ held.entry.dock.now) }
+        {
+            let mut held = held;
+            let mut host = host;
+            let serving = match scope.spawn(move || streaming.play_all()) {
+                Ok(handle) => handle,
+                Err(_) => return (held, None),
+            };
+            let first = host.serve_early(&mut held, wait);
+            let writing = kit.ready(host.stands.lend());
+            match scope.spawn(move || writing.write_all()) {
+                Ok(handle) => {
+                    let exit = go_on(&mut host, &mut held, first);
+                    let (server, conns) = host.close();
+                    let end = handle.join(rt);
+                    let left = serving.join(rt);
+                    (
+                        held,
+                        Some(Over {
+                            server,
+                            conns,
+                            exit,
+                            left,
+                            end,
+                        }),
+                    )
+                }
+                Err(refused) => {
+                    let end = (refused.value)();
+                    let exit = go_on(&mut host, &mut held, first);
+                    let (server, conns) = host.close();
+                    let left = serving.join(rt);
+                    (
+                        held,
+                        Some(Over {
+                            server,
+                            conns,
+                            exit,
+                            left,
+                            end,
+                        }),
+                    )
+                }
             }
-            Err(refused) => {
-                let end = (refused.value)();
-                let exit = go_on(&mut host, &mut held, first);
-                let (server, conns) = host.close();
-                let left = serving.join(rt);
-                (
-                    held,
-                    Some(Over {
-                        server,
-                        conns,
-                        exit,
-                        left,
-                        end,
-                    }),
-                )
-            }
-        }
-    })
+        },
+    )
 }
 
 // The server goes on while the writers write, unless nobody comes in any more.
@@ -291,7 +341,14 @@ fn go_on<'t, 'a, W: World, R: Wait + Timer, L: Link + Drop, D: Dock<Link = L>, C
     host: &mut Host<'t, 'a, W, R, L, C, G>,
     held: &mut HeldDock<'_, D>,
     first: Exit,
-) -> Exit {
+) -> Exit
+    requires open { host.old.desk.decider.left ≡ false }
+    requires stands { host.old.stands ≡ None }
+    requires greeting { D.greeting held.old.dock.now ≡ W.greeting }
+    ensures turned { GoesOnFrom D.Dock first result held.old.dock.now held.new.dock.now
+        host.old.desk.decider host.new.desk.decider }
+    ensures same { held.new.dock.ghost_name ≡ held.old.dock.ghost_name }
+{
     match first {
         Exit::Enough => host.serve_late(held),
         Exit::Closed | Exit::Failed | Exit::Full => first,
@@ -303,7 +360,14 @@ fn end_of<'a, W: World, L: Link + Drop>(
     table: Table<'a, W, L>,
     over: Over<W, L>,
     sessions: Vec<LiveSession<L>>,
-) -> LiveEnd<L> {
+) -> LiveEnd<L>
+    requires none { sessions.items ≡ [] }
+    requires room { CONNECTIONS ≤ vec_capacity sessions }
+    ensures rows { result.rows.items ≡ rows_of W.world.plan W.world.options.lives }
+    ensures conns { result.conns ≡ over.conns }
+    ensures sessions { IsAllOver L.read_side L.Sink W.world over.server result.sessions.items }
+    ensures failed { result.dock_failed ≡ has_failed over.exit }
+{
     let Over {
         mut server,
         conns,

@@ -111,7 +111,7 @@ pub(crate) struct Scene<'t, 'a, P: World, R, C, G> {
     pub(crate) gate: &'t G,
     pub(crate) plan: &'t Plan,
     pub(crate) lives: u32,
-    ghost is_world: { IsWorldOf P.world P.rows P.events P.writes },
+    ghost is_world: { IsWorldOf P.world P.rows P.events P.writes P.setting P.facts P.greeting },
     ghost plan_is: { plan.now ≡ P.world.plan },
     ghost lives_are: { lives ≡ P.world.options.lives },
 }

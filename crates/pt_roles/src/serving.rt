@@ -7,7 +7,7 @@ ghost use Rattle.ep_journal.specs.Recorded.{goes_on, may_end};
 ghost use Rattle.ep_live_laws.specs.Tracing.{is_fault};
 ghost use Rattle.pt_stream.specs.State.{IsDone, IsShut, is_complete, place_at};
 ghost use Rattle.pt_roles.specs.Fates.{fate_as, fate_of};
-ghost use Rattle.pt_roles.specs.Serving.{KeepsSession};
+ghost use Rattle.pt_roles.specs.Serving.{IsLastOf, IsLeftOf, KeepsSession};
 ghost use Rattle.pt_roles.specs.Table.{Fits};
 
 use crate::around::Around;
@@ -20,7 +20,7 @@ use ep_journal::Fate as Kept;
 use ep_registry::{Handed, Holder};
 use ep_stream::{Fate, SessionEnd};
 use pt_io::{Clock, Gate, Link, Moment};
-use pt_server::Process;
+use pt_server::{Process, Served};
 use pt_stream::Run;
 use std::sync::Wait;
 
@@ -200,7 +200,15 @@ fn finish<'a, W: World, R: Wait, L: Link + Drop, C: Clock, G: Gate>(
     holder: Holder<Holds<W>>,
     stream: Telling<'a, W, L>,
     fate: Fate,
-) {
+)
+    requires ends { IsTrue (may_end (fate_as fate) holder.stage) }
+    requires goes { IsTrue (goes_on holder.stage) }
+    requires own { (fate ≢ fates.LinkFault) × (fate ≢ fates.TooLong) }
+    requires complete { is_fault fate ≡ false → is_complete stream ≡ true }
+    requires shut { IsShut stream }
+    requires done { fate ≡ fates.ProgramEnd → AllByRecursion (IsDone W.writes) stream.marks }
+    requires last { IsLastOf holder stream }
+{
     let scene = &around.scene;
     let slot = stream.slot();
     let stamp = scene.clock.now();
@@ -216,7 +224,9 @@ fn finish<'a, W: World, R: Wait, L: Link + Drop, C: Clock, G: Gate>(
 }
 
 // What is left of a session whose stream has ended. Its link is shut.
-fn session_of<W: World, L: Link>(end: SessionEnd<pt_server::Served<'_, W, L>>) -> LiveSession<L> {
+fn session_of<W: World, L: Link>(end: SessionEnd<Served<'_, W, L>>) -> LiveSession<L>
+    ensures { IsLeftOf L.read_side L.Sink end.entry result }
+{
     let SessionEnd {
         id,
         slot: _,
