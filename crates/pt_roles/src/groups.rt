@@ -6,8 +6,9 @@ ghost use Rattle.pt_roles.specs.Streamers.{AreThere};
 ghost use Rattle.pt_roles.specs.World.{rows_of};
 ghost use Rattle.pt_roles.specs.Writers.{AreDrafts, AreReady};
 
-use crate::around::Around;
 use crate::drafts::Drafts;
+use crate::scene::Scene;
+use crate::shared::Shared;
 use crate::streamers::{Streamer, play_each};
 use crate::world::{RoleMarks, World};
 use crate::writers::{Writer, give_back, write_each, writers_of};
@@ -22,10 +23,11 @@ use std::time::Clock as Timer;
 
 /// What the writers are made of, and memory for what they leave.
 #[derive(Drop)]
-pub(crate) struct WritersKit<'t, 'a, W: World, R: Wait, L: Link, C, G> {
-    pub(crate) around: Around<'t, 'a, W, R, L, C, G>,
+pub(crate) struct WritersKit<'r, 't, 'a, W: World, R: Wait, L: Link, C, G> {
+    pub(crate) scene: Scene<'r, W, R, C, G>,
+    pub(crate) shared: &'t Shared<'a, W, L>,
     pub(crate) drafts: Vec<Drafts>,
-    pub(crate) writers: Vec<Writer<'a, W>>,
+    pub(crate) writers: Vec<Writer<'t, 'a, W, L>>,
     pub(crate) rows: Vec<(u64, u32)>,
     pub(crate) halves: Vec<Right<W, Agreed<'a>>>,
     ghost count: { vec_len drafts ≡ W.rows },
@@ -38,9 +40,10 @@ pub(crate) struct WritersKit<'t, 'a, W: World, R: Wait, L: Link, C, G> {
 
 /// The writers of a run, none of whose threads has made a write.
 #[derive(Drop)]
-pub(crate) struct Writing<'t, 'a, W: World, R: Wait, L: Link, C, G> {
-    around: Around<'t, 'a, W, R, L, C, G>,
-    writers: Vec<Writer<'a, W>>,
+pub(crate) struct Writing<'r, 't, 'a, W: World, R: Wait, L: Link, C, G> {
+    scene: Scene<'r, W, R, C, G>,
+    shared: &'t Shared<'a, W, L>,
+    writers: Vec<Writer<'t, 'a, W, L>>,
     rows: Vec<(u64, u32)>,
     halves: Vec<Right<W, Agreed<'a>>>,
     ghost count: { vec_len writers ≡ W.rows },
@@ -58,22 +61,27 @@ pub(crate) struct AtEnd<W: World> {
     ghost rows_are: { rows.items ≡ rows_of W.world.plan W.world.options.lives },
 }
 
-impl<'t, 'a, W: World, R: Wait, L: Link, C, G> WritersKit<'t, 'a, W, R, L, C, G> {
+impl<'r, 't, 'a, W: World, R: Wait, L: Link, C, G> WritersKit<'r, 't, 'a, W, R, L, C, G> {
     /// The writers with their halves of the ties to the rows, by row.
-    pub(crate) fn ready(self, stands: Vec<Right<W, Agreed<'a>>>) -> Writing<'t, 'a, W, R, L, C, G>
+    pub(crate) fn ready(
+        self,
+        stands: Vec<Right<W, Agreed<'a>>>,
+    ) -> Writing<'r, 't, 'a, W, R, L, C, G>
         requires count { vec_len stands ≡ W.rows }
         requires halves { AreStands 0 stands.items }
     {
         let WritersKit {
-            around,
+            scene,
+            shared,
             drafts,
             mut writers,
             rows,
             halves,
         } = self;
-        writers_of(stands, drafts, &mut writers);
+        writers_of(shared, stands, drafts, &mut writers);
         Writing {
-            around,
+            scene,
+            shared,
             writers,
             rows,
             halves,
@@ -82,6 +90,7 @@ impl<'t, 'a, W: World, R: Wait, L: Link, C, G> WritersKit<'t, 'a, W, R, L, C, G>
 }
 
 impl<
+    'r,
     't,
     'a,
     W: World + Send + Sync,
@@ -89,18 +98,19 @@ impl<
     L: Link + Drop,
     C: Clock,
     G: Gate,
-> Writing<'t, 'a, W, R, L, C, G> {
+> Writing<'r, 't, 'a, W, R, L, C, G> {
     /// Lets each writer make its writes, and tells the roles once all have ended.
     pub(crate) fn write_all(self) -> AtEnd<W> {
         let Writing {
-            around,
+            scene,
+            shared,
             mut writers,
             mut rows,
             halves,
         } = self;
-        write_each(&around.scene, writers.as_mut_slice());
-        let gone = give_back(&around.scene, writers, &mut rows, halves);
-        around.end_writers(gone);
+        write_each(&scene, writers.as_mut_slice());
+        let gone = give_back(&scene, writers, &mut rows, halves);
+        shared.end_writers(scene.rt, gone);
         AtEnd {
             rows,
             name: PhantomData,
@@ -110,9 +120,9 @@ impl<
 
 /// The streaming roles, and memory for what they leave.
 #[derive(Drop)]
-pub(crate) struct Streaming<'t, 'a, W: World, R: Wait, L: Link, C, G> {
-    pub(crate) around: Around<'t, 'a, W, R, L, C, G>,
-    pub(crate) streamers: Vec<Streamer<'a, W, L>>,
+pub(crate) struct Streaming<'r, 't, 'a, W: World, R: Wait, L: Link, C, G> {
+    pub(crate) scene: Scene<'r, W, R, C, G>,
+    pub(crate) streamers: Vec<Streamer<'t, 'a, W, L>>,
     pub(crate) roles: Vec<Role<RoleMarks<W>>>,
     ghost there: { AreThere streamers.items },
     ghost none: { roles.items ≡ [] },
@@ -127,6 +137,7 @@ pub(crate) struct AllLeft<W: World> {
 }
 
 impl<
+    'r,
     't,
     'a,
     W: World + Send + Sync,
@@ -134,22 +145,22 @@ impl<
     L: Link + Drop,
     C: Clock,
     G: Gate,
-> Streaming<'t, 'a, W, R, L, C, G> {
+> Streaming<'r, 't, 'a, W, R, L, C, G> {
     /// Lets each role serve its sessions until the server has ended and all of them are over.
     pub(crate) fn play_all(self) -> AllLeft<W> {
         let Streaming {
-            around,
+            scene,
             mut streamers,
             roles,
         } = self;
-        play_each(&around, streamers.as_mut_slice());
+        play_each(&scene, streamers.as_mut_slice());
         all_left(streamers, roles)
     }
 }
 
 // The roles alone, in memory that is there.
 fn all_left<W: World, L: Link + Drop>(
-    streamers: Vec<Streamer<'_, W, L>>,
+    streamers: Vec<Streamer<'_, '_, W, L>>,
     roles: Vec<Role<RoleMarks<W>>>,
 ) -> AllLeft<W>
     requires left { AreLeft streamers.items }

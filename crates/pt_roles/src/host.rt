@@ -1,5 +1,5 @@
 //! The server of a run.
-ghost use Rattle.std.specs.Prelude.{◌≡◌, ◌≢◌, ◌+◌, ◌-◌, ◌^◌, ◌<◌, ◌≤◌, [], length, true, false, IsTrue, Some, None, IfSome};
+ghost use Rattle.std.specs.Prelude.{◌≡◌, ◌≢◌, ◌+◌, ◌-◌, ◌^◌, ◌<◌, ◌≤◌, [], length, true, false, IsTrue, Some, None, IfSome, replicate};
 ghost use Rattle.ep_journal.specs.declared.limits.TheConstants.{CONNECTIONS};
 ghost use Rattle.ep_journal.specs.Kept.{is_last};
 ghost use Rattle.ipc_body.specs.declared.request.Request.TheVariants as request;
@@ -8,15 +8,16 @@ ghost use Rattle.pt_server.specs.Connection.{HasAsked, IsFresh, Took};
 ghost use Rattle.pt_server.specs.Told.{AreTold};
 ghost use Rattle.ep_journal.specs.declared.session.Stage.TheVariants as stage;
 ghost use Rattle.ep_journal.specs.declared.session.Opened.TheVariants as opened;
-ghost use Rattle.pt_stream.specs.State.{first_seat, new_stream};
+ghost use Rattle.pt_stream.specs.State.{first_seat, is_complete, new_stream, no_place};
 ghost use Rattle.pt_roles.specs.declared.exit.Exit.TheVariants as exit;
 ghost use Rattle.pt_roles.specs.Server.{GoesOn, HasTurned, IsBegun, lent_if, why_of};
 
-use crate::around::Around;
 use crate::exit::Exit;
 use crate::held_dock::HeldDock;
 use crate::locked::Locked;
 use crate::opening::open_all;
+use crate::scene::Scene;
+use crate::shared::Shared;
 use crate::table::{Held, Telling};
 use crate::world::{Books, Holds, RoleMarks, World};
 use ep_defs::{Config, Facts};
@@ -34,206 +35,296 @@ use std::alloc::{AllocError, Global};
 use std::sync::Wait;
 use std::time::Clock as Timer;
 
-/// Who takes the connections of a run, on the calling thread: the desk, what the run shares, where the grants of sessions
-/// lie, and the writers' halves until the writers begin.
-#[derive(Drop)]
-pub(crate) struct Host<'t, 'a, W: World, R: Wait, L: Link + Drop, C, G> {
-    pub(crate) around: Around<'t, 'a, W, R, L, C, G>,
-    pub(crate) shelf: &'a Shelf<Grant>,
-    pub(crate) facts: &'t Facts,
-    pub(crate) desk: Desk<W, Holder<Holds<W>>, Free<'a, W>, Locked<'t, 'a, W, R, L>, L>,
-    pub(crate) stands: Stands<'a, W>,
-    ghost facts_are: { (facts.now ≡ W.world.facts) × IsTrue (is_valid_facts facts.now) },
-}
+/// The connections of a run's server, which decides by the table.
+pub(crate) type LiveDesk<'r, 't, 'a, W, R, L> = Desk<
+    W,
+    Holder<Holds<W>>,
+    Free<'a, W>,
+    Locked<'r, 't, 'a, W, R, L>,
+    L,
+>;
 
-impl<'t, 'a, W: World, R: Wait + Timer, L: Link + Drop, C: Clock, G: Gate> Host<
+/// Takes connections before the writers begin, until so many sessions were opened on all rows.
+pub(crate) fn serve_early<
+    'r,
     't,
     'a,
-    W,
-    R,
-    L,
-    C,
-    G,
-> {
-    /// Takes connections before the writers begin, until so many sessions were opened on all rows.
-    pub(crate) fn serve_early<D: Dock<Link = L>>(
-        &mut self,
-        held: &mut HeldDock<'_, D>,
-        wait: u32,
-    ) -> Exit
-        requires open { self.old.desk.decider.left ≡ false }
-        requires stands { self.old.stands ≡ Some 0 }
-        requires greeting { D.greeting held.old.dock.now ≡ W.greeting }
-        ensures turned { HasTurned D.Dock true (Some result) held.old.dock.now held.new.dock.now
-            self.old.desk.decider self.new.desk.decider }
-        ensures enough { result ≡ exit.Enough → wait ≤ self.new.desk.decider.early }
-        ensures stands { self.new.stands ≡ Some 0 }
-        ensures same { held.new.dock.ghost_name ≡ held.old.dock.ghost_name }
-    {
-        for _ in self.around.scene.rt.forever() {
-            if self.desk.decider.early() >= wait {
-                return Exit::Enough;
-            }
-            if let Some(exit) = self.turn(held, true) {
-                return exit;
-            }
+    W: World,
+    R: Wait + Timer,
+    L: Link + Drop,
+    D: Dock<Link = L>,
+    C: Clock,
+    G: Gate,
+>(
+    scene: &Scene<'_, W, R, C, G>,
+    shared: &Shared<'a, W, L>,
+    shelf: &'a Shelf<Grant>,
+    desk: &mut LiveDesk<'r, 't, 'a, W, R, L>,
+    stands: &mut Stands<'a, W>,
+    held: &mut HeldDock<'_, D>,
+    wait: u32,
+) -> Exit
+    requires open { desk.old.decider.left ≡ false }
+    requires stands { stands.old ≡ Some 0 }
+    requires greeting { D.greeting held.old.dock.now ≡ W.greeting }
+    ensures turned { HasTurned D.Dock true (Some result) held.old.dock.now held.new.dock.now
+        desk.old.decider desk.new.decider }
+    ensures enough { result ≡ exit.Enough → wait ≤ desk.new.decider.early }
+    ensures stands { stands.new ≡ Some 0 }
+    ensures same { held.new.dock.ghost_name ≡ held.old.dock.ghost_name }
+{
+    for _ in scene.rt.forever() {
+        if desk.decider.early() >= wait {
+            return Exit::Enough;
         }
-        unreachable!()
+        if let Some(exit) = turn(scene, shared, shelf, desk, stands, held, true) {
+            return exit;
+        }
     }
+    unreachable!()
+}
 
-    /// Takes connections while the writers write.
-    pub(crate) fn serve_late<D: Dock<Link = L>>(&mut self, held: &mut HeldDock<'_, D>) -> Exit
-        requires open { self.old.desk.decider.left ≡ false }
-        requires stands { self.old.stands ≡ None }
-        requires greeting { D.greeting held.old.dock.now ≡ W.greeting }
-        ensures turned { HasTurned D.Dock false (Some result) held.old.dock.now held.new.dock.now
-            self.old.desk.decider self.new.desk.decider }
-        ensures same { held.new.dock.ghost_name ≡ held.old.dock.ghost_name }
-    {
-        for _ in self.around.scene.rt.forever() {
-            if self.around.scene.hints.have_ended() {
-                return Exit::Enough;
-            }
-            if let Some(exit) = self.turn(held, false) {
-                return exit;
-            }
+/// Takes connections while the writers write.
+pub(crate) fn serve_late<
+    'r,
+    't,
+    'a,
+    W: World,
+    R: Wait + Timer,
+    L: Link + Drop,
+    D: Dock<Link = L>,
+    C: Clock,
+    G: Gate,
+>(
+    scene: &Scene<'_, W, R, C, G>,
+    shared: &Shared<'a, W, L>,
+    shelf: &'a Shelf<Grant>,
+    desk: &mut LiveDesk<'r, 't, 'a, W, R, L>,
+    stands: &mut Stands<'a, W>,
+    held: &mut HeldDock<'_, D>,
+) -> Exit
+    requires open { desk.old.decider.left ≡ false }
+    requires stands { stands.old ≡ None }
+    requires greeting { D.greeting held.old.dock.now ≡ W.greeting }
+    ensures turned { HasTurned D.Dock false (Some result) held.old.dock.now held.new.dock.now
+        desk.old.decider desk.new.decider }
+    ensures same { held.new.dock.ghost_name ≡ held.old.dock.ghost_name }
+{
+    for _ in scene.rt.forever() {
+        if shared.hints.have_ended() {
+            return Exit::Enough;
         }
-        unreachable!()
+        if let Some(exit) = turn(scene, shared, shelf, desk, stands, held, false) {
+            return exit;
+        }
     }
+    unreachable!()
+}
 
-    // Asks the dock once, unless as many connections came in as can be. Answers why it is to be asked no more, if so.
-    fn turn<D: Dock<Link = L>>(&mut self, held: &mut HeldDock<'_, D>, early: bool) -> Option<Exit> {
-        if self.desk.decider.is_full() {
-            return Some(Exit::Full);
-        }
-        match held.next() {
-            Ok(Arrival::Link(link)) => {
-                self.take(link, early);
-                None
-            }
-            Ok(Arrival::Quiet) => None,
-            Ok(Arrival::Closed) => Some(Exit::Closed),
-            Err(Failed) => Some(Exit::Failed),
-        }
+// Asks the dock once, unless as many connections came in as can be. Answers why it is to be asked no more, if so.
+fn turn<
+    'r,
+    't,
+    'a,
+    W: World,
+    R: Wait + Timer,
+    L: Link + Drop,
+    D: Dock<Link = L>,
+    C: Clock,
+    G: Gate,
+>(
+    scene: &Scene<'_, W, R, C, G>,
+    shared: &Shared<'a, W, L>,
+    shelf: &'a Shelf<Grant>,
+    desk: &mut LiveDesk<'r, 't, 'a, W, R, L>,
+    stands: &mut Stands<'a, W>,
+    held: &mut HeldDock<'_, D>,
+    early: bool,
+) -> Option<Exit>
+    requires open { desk.old.decider.left ≡ false }
+    requires stands { stands.old ≡ lent_if early }
+    requires greeting { D.greeting held.old.dock.now ≡ W.greeting }
+    ensures turned { HasTurned D.Dock early result held.old.dock.now held.new.dock.now
+        desk.old.decider desk.new.decider }
+    ensures goes_on { result ≢ Some exit.Enough }
+    ensures stands { stands.new ≡ stands.old }
+    ensures same { held.new.dock.ghost_name ≡ held.old.dock.ghost_name }
+{
+    if desk.decider.is_full() {
+        return Some(Exit::Full);
     }
+    match held.next() {
+        Ok(Arrival::Link(link)) => {
+            take(scene, shared, shelf, desk, stands, link, early);
+            None
+        }
+        Ok(Arrival::Quiet) => None,
+        Ok(Arrival::Closed) => Some(Exit::Closed),
+        Err(Failed) => Some(Exit::Failed),
+    }
+}
 
-    // Takes the next connection.
-    fn take(&mut self, link: L, early: bool)
-        requires fresh { IsFresh W.greeting (L.given link) (L.taken link) (L.read_faults link) (L.write_faults link) }
-        requires open { self.old.desk.decider.left ≡ false }
-        requires room { length self.old.desk.decider.decisions < CONNECTIONS }
-        requires stands { self.old.stands ≡ lent_if early }
-        ensures one { length self.new.desk.decider.decisions ≡ length self.old.desk.decider.decisions + 1 }
-        ensures goes { GoesOn early self.old.desk.decider self.new.desk.decider }
-        ensures stands { self.new.stands ≡ self.old.stands }
-    {
-        let alloc = self.around.alloc;
-        let gate = self.around.scene.gate;
-        if let Some(asked) = self.desk.answer(alloc, self.facts, gate, link) {
-            self.begin(asked, early);
-        }
+// Takes the next connection.
+fn take<'r, 't, 'a, W: World, R: Wait + Timer, L: Link + Drop, C: Clock, G: Gate>(
+    scene: &Scene<'_, W, R, C, G>,
+    shared: &Shared<'a, W, L>,
+    shelf: &'a Shelf<Grant>,
+    desk: &mut LiveDesk<'r, 't, 'a, W, R, L>,
+    stands: &mut Stands<'a, W>,
+    link: L,
+    early: bool,
+)
+    requires fresh { IsFresh W.greeting (L.given link) (L.taken link) (L.read_faults link)
+        (L.write_faults link) }
+    requires open { desk.old.decider.left ≡ false }
+    requires room { length desk.old.decider.decisions < CONNECTIONS }
+    requires stands { stands.old ≡ lent_if early }
+    ensures one { length desk.new.decider.decisions ≡ length desk.old.decider.decisions + 1 }
+    ensures goes { GoesOn early desk.old.decider desk.new.decider }
+    ensures stands { stands.new ≡ stands.old }
+{
+    if let Some(asked) = desk.answer(scene.alloc, scene.facts, scene.gate, link) {
+        begin(scene, shared, shelf, desk, stands, asked, early);
     }
+}
 
-    // Starts the session that was accepted last, and opens it on all rows.
-    fn begin(&mut self, asked: Asked<Holder<Holds<W>>, Free<'a, W>, L>, early: bool)
-        requires last { IsTrue (is_last self.old.desk.decider.decisions asked.begun.id) }
-        requires begun { IsBegun self.old.desk.decider.decisions asked.begun.id asked.begun.slot asked.begun.holder asked.begun.free }
-        requires asked { HasAsked (L.read_side asked.link) (request.Collect asked.config) }
-        requires valid { IsTrue (is_valid_config asked.config) }
-        requires silent { Took W.greeting [] (L.write_side asked.link) }
-        requires stands { self.old.stands ≡ lent_if early }
-        ensures same { length self.new.desk.decider.decisions ≡ length self.old.desk.decider.decisions }
-        ensures goes { GoesOn early self.old.desk.decider self.new.desk.decider }
-        ensures stands { self.new.stands ≡ self.old.stands }
-    {
-        let Asked {
-            conn,
-            begun,
-            config,
-            link,
-        } = asked;
-        let scene = &self.around.scene;
-        let Some((grant, seat)) = granted(
-            scene.rt,
-            self.around.alloc,
-            self.shelf,
-            config,
-            scene.plan.threads,
-        ) else {
-            self.desk.fail(scene.gate, begun, link, Unstarted::Silent);
-            return;
-        };
-        let Begun {
-            id,
-            slot,
-            holder,
-            free,
-        } = begun;
-        let accepted = Accepted {
-            free,
-            grant,
-            pool: seat,
-            sink: Served::new(link, &grant.config),
-            id,
-            conn,
-        };
-        let reply = session_reply(id);
-        match Stream::start(
-            self.around.alloc,
-            scene.rt,
-            scene.live,
-            accepted,
-            &reply,
-            &self.facts.info,
-        ) {
-            Ok(stream) => {
-                scene.gate.pass(Moment::Answered { conn });
-                self.open(holder, stream, early);
-            }
-            Err(NotStarted { free, sink, fault }) => {
-                let why = why_unstarted(sink.wrote(), fault);
-                let begun = Begun {
-                    id,
-                    slot,
-                    holder,
-                    free,
-                };
-                self.desk.fail(scene.gate, begun, sink.into_link(), why);
-            }
+// Starts the session that was accepted last, and opens it on all rows.
+fn begin<'r, 't, 'a, W: World, R: Wait + Timer, L: Link + Drop, C: Clock, G: Gate>(
+    scene: &Scene<'_, W, R, C, G>,
+    shared: &Shared<'a, W, L>,
+    shelf: &'a Shelf<Grant>,
+    desk: &mut LiveDesk<'r, 't, 'a, W, R, L>,
+    stands: &mut Stands<'a, W>,
+    asked: Asked<Holder<Holds<W>>, Free<'a, W>, L>,
+    early: bool,
+)
+    requires last { IsTrue (is_last desk.old.decider.decisions asked.begun.id) }
+    requires begun { IsBegun desk.old.decider.decisions asked.begun.id asked.begun.slot
+        asked.begun.holder asked.begun.free }
+    requires asked { HasAsked (L.read_side asked.link) (request.Collect asked.config) }
+    requires valid { IsTrue (is_valid_config asked.config) }
+    requires silent { Took W.greeting [] (L.write_side asked.link) }
+    requires conn { asked.conn ≡ length desk.old.decider.decisions }
+    requires stands { stands.old ≡ lent_if early }
+    ensures same { length desk.new.decider.decisions ≡ length desk.old.decider.decisions }
+    ensures goes { GoesOn early desk.old.decider desk.new.decider }
+    ensures stands { stands.new ≡ stands.old }
+{
+    let Asked {
+        conn,
+        begun,
+        config,
+        link,
+    } = asked;
+    let rows = scene.plan.threads;
+    let Some((grant, seat)) = granted(scene.rt, scene.alloc, shelf, config, rows) else {
+        desk.fail(scene.gate, begun, link, Unstarted::Silent);
+        return;
+    };
+    let Begun {
+        id,
+        slot,
+        holder,
+        free,
+    } = begun;
+    let accepted = Accepted {
+        free,
+        grant,
+        pool: seat,
+        sink: Served::new(link, &grant.config),
+        id,
+        conn,
+    };
+    let reply = session_reply(id);
+    let started = Stream::start(
+        scene.alloc,
+        scene.rt,
+        &shared.live,
+        accepted,
+        &reply,
+        &scene.facts.info,
+    );
+    match started {
+        Ok(stream) => {
+            scene.gate.pass(Moment::Answered { conn });
+            open(scene, shared, desk, stands, holder, stream, early);
+        }
+        Err(NotStarted { free, sink, fault }) => {
+            let why = why_unstarted(sink.wrote(), fault);
+            let begun = Begun {
+                id,
+                slot,
+                holder,
+                free,
+            };
+            desk.fail(scene.gate, begun, sink.into_link(), why);
         }
     }
+}
 
-    // Opens a session that was just started on all rows, and hands it over to its role.
-    fn open(&mut self, holder: Holder<Holds<W>>, stream: Telling<'a, W, L>, early: bool) {
-        let scene = &self.around.scene;
-        let mut holder = holder;
-        let mut stream = stream;
-        if early {
-            stream = stream.take_back(scene.rt, scene.live, self.stands.lend(), 0);
-        }
-        let (mut stream, all) = open_all(&self.around, stream, early);
-        if early {
-            let (next, halves) = stream.lend(scene.rt, scene.live);
-            stream = next;
-            self.stands.take_back(halves, 0);
-        }
-        if all {
-            self.desk.decider.open(&mut holder, early);
-            let session = stream.id();
-            scene.gate.pass(Moment::Opened { session });
-        }
-        self.desk.decider.hand_over(Handed::new(holder, stream));
+// Opens a session that was just started on all rows, and hands it over to its role.
+fn open<'r, 't, 'a, W: World, R: Wait + Timer, L: Link + Drop, C: Clock, G: Gate>(
+    scene: &Scene<'_, W, R, C, G>,
+    shared: &Shared<'a, W, L>,
+    desk: &mut LiveDesk<'r, 't, 'a, W, R, L>,
+    stands: &mut Stands<'a, W>,
+    holder: Holder<Holds<W>>,
+    stream: Telling<'a, W, L>,
+    early: bool,
+)
+    requires serves { (holder.stage ≡ stage.Serving) × (holder.opened ≡ opened.No) }
+    requires new { stream ≡ new_stream W.rows holder.id holder.slot holder.conn stream.config }
+    requires stands { stands.old ≡ lent_if early }
+    ensures same { desk.new.decider.decisions ≡ desk.old.decider.decisions }
+    ensures goes { GoesOn early desk.old.decider desk.new.decider }
+    ensures stands { stands.new ≡ stands.old }
+{
+    let (stream, all) = open_lent(scene, shared, stands, stream, early);
+    let mut holder = holder;
+    if all {
+        desk.decider.open(&mut holder, early);
+        let session = stream.id();
+        scene.gate.pass(Moment::Opened { session });
     }
+    desk.decider.hand_over(Handed::new(holder, stream));
+}
 
-    /// The server takes no more connections. Gives its half, and the connections that are no sessions.
-    pub(crate) fn close(self) -> (Server<Books<W>, RoleMarks<W>>, Vec<ConnEnd<L>>)
-        ensures server { result.0 ≡ record self.entry.desk.decider { left = true } }
-        ensures told { AreTold L.read_side L.write_side W.facts W.greeting 1 result.0.decisions result.1.items }
-    {
-        let Host { desk, .. } = self;
-        let (decider, conns) = desk.finish();
-        (decider.close(), conns)
+// Opens it on all rows. Before the writers begin it is lent their halves. Answers whether it is open on all rows.
+fn open_lent<'a, W: World, R: Wait + Timer, L: Link + Drop, C, G>(
+    scene: &Scene<'_, W, R, C, G>,
+    shared: &Shared<'a, W, L>,
+    stands: &mut Stands<'a, W>,
+    stream: Telling<'a, W, L>,
+    early: bool,
+) -> (Telling<'a, W, L>, bool)
+    requires new { (stream.places ≡ replicate W.rows no_place) × (stream.early ≡ true)
+        × (stream.stands ≡ None) }
+    requires stands { stands.old ≡ lent_if early }
+    ensures same { result.0 ≡ record stream.entry { places = result.0.places; early = result.0.early } }
+    ensures complete { is_complete result.0 ≡ result.1 }
+    ensures early { early ≡ true → result.0.early ≡ true }
+    ensures stands { stands.new ≡ stands.old }
+{
+    if !early {
+        return open_all(scene, shared, stream, false);
     }
+    let lent = stands.lend();
+    let stream = stream.take_back(scene.rt, &shared.live, lent, 0);
+    let (stream, all) = open_all(scene, shared, stream, true);
+    let (stream, halves) = stream.lend(scene.rt, &shared.live);
+    stands.take_back(halves, 0);
+    (stream, all)
+}
+
+/// The server takes no more connections. Gives its half, and the connections that are no sessions.
+pub(crate) fn close<'r, 't, 'a, W: World, R: Wait, L: Link + Drop>(
+    desk: LiveDesk<'r, 't, 'a, W, R, L>,
+) -> (Server<Books<W>, RoleMarks<W>>, Vec<ConnEnd<L>>)
+    ensures server { result.0 ≡ record desk.entry.decider { left = true } }
+    ensures told { AreTold L.read_side L.write_side W.facts W.greeting 1 result.0.decisions result.1.items }
+{
+    let (decider, conns) = desk.finish();
+    (decider.close(), conns)
 }
 
 // What a session is granted that was asked for so, and a seat of its pool with all shares. It may wait for the shelf.

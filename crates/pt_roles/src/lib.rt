@@ -9,12 +9,12 @@
 //! What was chosen here, and why: docs/DECISIONS.md, "The program".
 #![tactic(auto)]
 
-mod around;
 mod drafts;
 mod exit;
 mod finale;
 mod groups;
 mod held_dock;
+mod hints;
 mod host;
 mod limits;
 mod live_end;
@@ -25,6 +25,7 @@ mod prepared;
 mod run;
 mod scene;
 mod serving;
+mod shared;
 mod streamers;
 mod table;
 #[cfg(test)]

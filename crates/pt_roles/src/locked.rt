@@ -11,7 +11,8 @@ ghost use Rattle.ep_journal.specs.Recorded.{is_serving, opened_at};
 ghost use Rattle.ep_registry.specs.Registered.{counted_if};
 ghost use Rattle.std.specs.Prelude.{IsTrue};
 
-use crate::table::{Held, Table};
+use crate::shared::Shared;
+use crate::table::Held;
 use crate::world::{Books, Holds, RoleMarks, World};
 use ep_journal::limits::CONNECTIONS;
 use ep_live::Free;
@@ -21,19 +22,19 @@ use pt_io::Link;
 use pt_server::{Begun, Deciding, Process};
 use pt_stream::Run;
 use std::marker::Model;
-use std::sync::{Mutex, Wait};
+use std::sync::Wait;
 
 /// The server's half, and the table behind its lock. Contracts see the half.
 #[derive(Drop)]
-pub(crate) struct Locked<'t, 'a, W: World, R: Wait, L: Link> {
-    rt: &'t R,
-    table: &'t Mutex<Table<'a, W, L>>,
+pub(crate) struct Locked<'r, 't, 'a, W: World, R: Wait, L: Link> {
+    rt: &'r R,
+    shared: &'t Shared<'a, W, L>,
     server: Server<Books<W>, RoleMarks<W>>,
     // How many connections were decided.
     decided: u32,
 }
 
-impl<'t, 'a, W: World, R: Wait, L: Link> Model for Locked<'t, 'a, W, R, L> {
+impl<'r, 't, 'a, W: World, R: Wait, L: Link> Model for Locked<'r, 't, 'a, W, R, L> {
     ghost use Rattle.std.specs.Prelude.{◌≡◌, ◌≤◌, length};
     ghost use Rattle.ep_registry.specs.Registered.{ServerHalf};
     ghost use Rattle.ep_journal.specs.declared.limits.TheConstants.{CONNECTIONS};
@@ -45,19 +46,19 @@ impl<'t, 'a, W: World, R: Wait, L: Link> Model for Locked<'t, 'a, W, R, L> {
     ghost invariant = { λ l. (l.decided ≡ length l.server.decisions) × (l.decided ≤ CONNECTIONS) };
 }
 
-impl<'t, 'a, W: World, R: Wait, L: Link + Drop> Locked<'t, 'a, W, R, L> {
+impl<'r, 't, 'a, W: World, R: Wait, L: Link + Drop> Locked<'r, 't, 'a, W, R, L> {
     /// The table of a server that has decided on no connection.
     pub(crate) fn new(
-        rt: &'t R,
-        table: &'t Mutex<Table<'a, W, L>>,
+        rt: &'r R,
+        shared: &'t Shared<'a, W, L>,
         server: Server<Books<W>, RoleMarks<W>>,
-    ) -> Locked<'t, 'a, W, R, L>
+    ) -> Locked<'r, 't, 'a, W, R, L>
         requires { length server.decisions ≡ 0 }
         ensures { result ≡ server }
     {
         Locked {
             rt,
-            table,
+            shared,
             server,
             decided: 0,
         }
@@ -88,7 +89,8 @@ impl<'t, 'a, W: World, R: Wait, L: Link + Drop> Locked<'t, 'a, W, R, L> {
           late = self.old.late + counted_if (not early);
         } }
     {
-        self.table
+        self.shared
+            .table
             .lock(self.rt)
             .open(&mut self.server, holder, early);
     }
@@ -97,7 +99,7 @@ impl<'t, 'a, W: World, R: Wait, L: Link + Drop> Locked<'t, 'a, W, R, L> {
     pub(crate) fn hand_over(&mut self, held: Held<'a, W, L>)
         ensures { self.new ≡ self.old }
     {
-        self.table.lock(self.rt).hand_over(held);
+        self.shared.table.lock(self.rt).hand_over(held);
     }
 
     /// The server takes no more connections. Gives its half.
@@ -106,17 +108,17 @@ impl<'t, 'a, W: World, R: Wait, L: Link + Drop> Locked<'t, 'a, W, R, L> {
     {
         let Locked {
             rt,
-            table,
+            shared,
             mut server,
             decided: _,
         } = self;
-        table.lock(rt).close(&mut server);
+        shared.table.lock(rt).close(&mut server);
         server
     }
 }
 
-impl<'t, 'a, W: World, R: Wait, L: Link + Drop> Deciding<Holder<Holds<W>>, Free<'a, W>>
-    for Locked<'t, 'a, W, R, L> {
+impl<'r, 't, 'a, W: World, R: Wait, L: Link + Drop> Deciding<Holder<Holds<W>>, Free<'a, W>>
+    for Locked<'r, 't, 'a, W, R, L> {
     ghost use Rattle.std.specs.Prelude.{◌≡◌, false};
     ghost use Rattle.pt_roles.specs.Server.{IsBegun, SameBut};
 
@@ -134,7 +136,7 @@ impl<'t, 'a, W: World, R: Wait, L: Link + Drop> Deciding<Holder<Holds<W>>, Free<
         ensures same { SameBut self.old self.new }
     {
         self.decided += 1;
-        self.table.lock(self.rt).pass(&mut self.server);
+        self.shared.table.lock(self.rt).pass(&mut self.server);
     }
 
     fn accept(&mut self) -> Option<Begun<Holder<Holds<W>>, Free<'a, W>>>
@@ -147,7 +149,7 @@ impl<'t, 'a, W: World, R: Wait, L: Link + Drop> Deciding<Holder<Holds<W>>, Free<
         ensures same { SameBut self.old self.new }
     {
         self.decided += 1;
-        let begun = self.table.lock(self.rt).accept(&mut self.server);
+        let begun = self.shared.table.lock(self.rt).accept(&mut self.server);
         match begun {
             Some((holder, free)) => {
                 let hold = holder.hold();
@@ -168,7 +170,7 @@ impl<'t, 'a, W: World, R: Wait, L: Link + Drop> Deciding<Holder<Holds<W>>, Free<
         ensures same { SameBut self.old self.new }
     {
         self.decided += 1;
-        let answer = self.table.lock(self.rt).stop(&mut self.server, id);
+        let answer = self.shared.table.lock(self.rt).stop(&mut self.server, id);
         matches!(answer, StopAnswer::Ticket(_))
     }
 
@@ -180,7 +182,8 @@ impl<'t, 'a, W: World, R: Wait, L: Link + Drop> Deciding<Holder<Holds<W>>, Free<
         ensures same { SameBut self.old self.new }
     {
         let Begun { holder, free, .. } = begun;
-        self.table
+        self.shared
+            .table
             .lock(self.rt)
             .fail(&mut self.server, holder, free);
     }

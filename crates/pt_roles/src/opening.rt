@@ -3,7 +3,8 @@ ghost use Rattle.std.specs.Prelude.{◌≡◌, ◌+◌, ◌<◌, ◌≤◌, true
 ghost use Rattle.pt_stream.specs.State.{is_complete, no_place, place_at};
 ghost use Rattle.pt_roles.specs.Serving.{IsOpenedOnce};
 
-use crate::around::Around;
+use crate::scene::Scene;
+use crate::shared::Shared;
 use crate::table::Telling;
 use crate::world::World;
 use ep_guarded::NotOpened;
@@ -19,7 +20,8 @@ const REST: u64 = 1;
 /// Opens a session that was just started on each row, the first one first, until there is no memory for one more. Before
 /// the writers begin each row serves its first life. Answers whether it is open on all rows.
 pub(crate) fn open_all<'a, W: World, R: Wait + Timer, L: Link, C, G>(
-    around: &Around<'_, 'a, W, R, L, C, G>,
+    scene: &Scene<'_, W, R, C, G>,
+    shared: &Shared<'a, W, L>,
     stream: Telling<'a, W, L>,
     early: bool,
 ) -> (Telling<'a, W, L>, bool)
@@ -31,8 +33,8 @@ pub(crate) fn open_all<'a, W: World, R: Wait + Timer, L: Link, C, G>(
     ensures early { early ≡ true → result.0.early ≡ true }
 {
     let mut stream = stream;
-    for number in 0..around.scene.plan.threads {
-        let (next, opened) = open_row(around, stream, number, early);
+    for number in 0..scene.plan.threads {
+        let (next, opened) = open_row(scene, shared, stream, number, early);
         stream = next;
         if !opened {
             return (stream, false);
@@ -43,7 +45,8 @@ pub(crate) fn open_all<'a, W: World, R: Wait + Timer, L: Link, C, G>(
 
 // Opens it on the row with this number, in the life that the row serves by then. Answers whether there was memory.
 fn open_row<'a, W: World, R: Wait + Timer, L: Link, C, G>(
-    around: &Around<'_, 'a, W, R, L, C, G>,
+    scene: &Scene<'_, W, R, C, G>,
+    shared: &Shared<'a, W, L>,
     stream: Telling<'a, W, L>,
     number: u32,
     early: bool,
@@ -53,16 +56,15 @@ fn open_row<'a, W: World, R: Wait + Timer, L: Link, C, G>(
     ensures opened { result.1 ≡ true → IsOpenedOnce early (number + 1) stream.entry result.0 }
     ensures stays { result.1 ≡ false → result.0 ≡ stream.entry }
 {
-    let scene = &around.scene;
     let mut stream = stream;
     for _ in scene.rt.forever() {
         let life = if early {
             Some(0)
         } else {
-            scene.life(number as usize)
+            shared.hints.life(number as usize, scene.lives)
         };
         if let Some(life) = life {
-            match stream.open_row(around.alloc, scene.rt, scene.live, number + 1, life) {
+            match stream.open_row(scene.alloc, scene.rt, &shared.live, number + 1, life) {
                 (next, Ok(())) => return (next, true),
                 (next, Err(NotOpened::Away)) => stream = next,
                 (next, Err(_)) => return (next, false),

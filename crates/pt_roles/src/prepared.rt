@@ -4,26 +4,20 @@ ghost use Rattle.pt_load.specs.Sample.{sample};
 ghost use Rattle.ep_registry.specs.declared.server.Mark.TheVariants as mark;
 ghost use Rattle.ep_registry.specs.Places.{numbered};
 ghost use Rattle.pt_roles.specs.World.{IsWorldOf};
-ghost use Rattle.pt_roles.specs.Writers.{AreDrafts};
 ghost use Rattle.ep_table.specs.declared.limits.TheConstants.{SLOTS};
 ghost use Rattle.ep_journal.specs.declared.limits.TheConstants.{CONNECTIONS};
-ghost use Rattle.pt_roles.specs.Streamers.{AreThere};
+ghost use Rattle.pt_roles.specs.Server.{no_server};
 
-use crate::drafts::{Drafts, drafts_of};
-use crate::live_end::LiveSession;
-use crate::scene::Hints;
-use crate::streamers::Streamer;
-use crate::table::{Held, Table};
+use crate::table::Table;
 use crate::world::{Books, RoleMarks, World};
-use crate::writers::Writer;
 use ep_defs::EventDef;
 use ep_guarded::Agreed;
 use ep_journal::limits::CONNECTIONS;
 use ep_journal::{Decision, Log};
 use ep_live::{Live, ROW_TIES, Stands, free_slots};
-use ep_registry::{Hold, Mark, Opening, Registry, Role, Server};
+use ep_registry::{Hold, Kinds, Mark, Opening, Registry, Server};
 use ep_table::limits::SLOTS;
-use ep_tie::{Blank, Right};
+use ep_tie::{Blank, Named, Right};
 use pt_io::Link;
 use pt_load::laws::sample_events_are_valid;
 use pt_load::{Plan, sample_events};
@@ -55,47 +49,30 @@ impl<'a> Blanks<'a> {
     }
 }
 
-/// What a run has before anybody comes in, and memory for what it leaves.
+/// What a run has before anybody comes in.
 #[derive(Drop)]
 pub(crate) struct Prepared<'a, W: World, L: Link> {
     pub(crate) live: Live<'a, W>,
-    pub(crate) hints: Hints<W>,
     pub(crate) table: Table<'a, W, L>,
     pub(crate) server: Server<Books<W>, RoleMarks<W>>,
+    /// By the numbers of the roles, from 0.
+    pub(crate) roles: Vec<Right<RoleMarks<W>, Mark>>,
     pub(crate) stands: Stands<'a, W>,
-    pub(crate) streamers: Vec<Streamer<'a, W, L>>,
-    pub(crate) roles: Vec<Role<RoleMarks<W>>>,
-    pub(crate) drafts: Vec<Drafts>,
-    pub(crate) writers: Vec<Writer<'a, W>>,
-    pub(crate) rows: Vec<(u64, u32)>,
-    pub(crate) halves: Vec<Right<W, Agreed<'a>>>,
-    pub(crate) sessions: Vec<LiveSession<L>>,
-    ghost fresh: { server ≡ record { decisions = []; early = 0; late = 0; left = false } },
+    ghost fresh: { server ≡ no_server },
+    ghost roles_are: { roles.items ≡ numbered SLOTS (mark.Role W.world.options.streamers false) },
     ghost stands_are: { stands ≡ Some 0 },
-    ghost there: { AreThere streamers.items },
-    ghost role_room: { vec_len streamers ≤ vec_capacity roles },
-    ghost count: { vec_len drafts ≡ W.rows },
-    ghost drafts_are: { AreDrafts W.world.plan W.world.options.lives drafts.items },
-    ghost writer_room: { W.rows ≤ vec_capacity writers },
-    ghost row_room: { W.rows ≤ vec_capacity rows },
-    ghost half_room: { W.rows ≤ vec_capacity halves },
-    ghost session_room: { CONNECTIONS ≤ vec_capacity sessions },
-    ghost no_roles: { roles.items ≡ [] },
-    ghost no_writers: { (writers.items ≡ []) × (rows.items ≡ []) × (halves.items ≡ []) },
-    ghost no_sessions: { sessions.items ≡ [] },
 }
 
 impl<'a, W: World, L: Link + Drop> Prepared<'a, W, L> {
     pub(crate) fn new(
         alloc: Global,
         plan: &Plan,
-        lives: u32,
         streamers: u32,
         blanks: Blanks<'a>,
     ) -> Result<Prepared<'a, W, L>, AllocError>
         requires world { IsWorldOf W.world W.rows W.events W.writes W.setting W.facts W.greeting }
         requires plan { plan.now ≡ W.world.plan }
-        requires options { (lives ≡ W.world.options.lives) × (streamers ≡ W.world.options.streamers) }
+        requires options { streamers ≡ W.world.options.streamers }
         requires rows { (blanks.rows.ties ≡ W.ties) × (blanks.rows.places ≡ W.rows + 128 * W.rows) }
         requires table { (blanks.books.ties ≡ W.books) × (blanks.holds.ties ≡ W.holds)
             × (blanks.marks.ties ≡ W.marks) }
@@ -113,61 +90,33 @@ impl<'a, W: World, L: Link + Drop> Prepared<'a, W, L> {
         } = blanks;
         let (live, stands, hands) = Live::<W>::new(alloc, rows, plan.threads, events)?;
         let free = free_slots(alloc, hands)?;
-        let Opening {
-            registry,
-            server,
-            roles,
-        } = Registry::new(alloc, books, holds, marks, streamers, free)?;
-        let threads = plan.threads as usize;
+        let (table, server, roles) = parts_of(Registry::new(
+            alloc, books, holds, marks, streamers, free,
+        )?);
         Ok(Prepared {
             live,
-            hints: Hints::new(alloc, plan.threads)?,
-            table: registry,
+            table,
             server,
+            roles,
             stands: Stands::new(stands, 0),
-            streamers: streamers_of(alloc, roles, streamers)?,
-            roles: Vec::with_capacity(alloc, streamers as usize)?,
-            drafts: drafts_of(alloc, plan, lives)?,
-            writers: Vec::with_capacity(alloc, threads)?,
-            rows: Vec::with_capacity(alloc, threads)?,
-            halves: Vec::with_capacity(alloc, threads)?,
-            sessions: Vec::with_capacity(alloc, CONNECTIONS)?,
         })
     }
 }
 
-// The streaming roles, with no session.
-fn streamers_of<'a, W: World, L: Link + Drop>(
-    alloc: Global,
-    halves: Vec<Right<RoleMarks<W>, Mark>>,
-    count: u32,
-) -> Result<Vec<Streamer<'a, W, L>>, AllocError>
-    requires some { (0 < count) × (count ≤ SLOTS) }
-    requires halves { halves.items ≡ numbered SLOTS (mark.Role count false) }
-    ensures count { IfOk result (λ streamers. vec_len streamers ≡ count) }
-    ensures there { IfOk result (λ streamers. AreThere streamers.items) }
+// A registry and the halves of the others apart.
+fn parts_of<B: Named, S: Named, R: Named, P: Kinds<F, W, E, G>, F: Drop, W: Drop, E: Drop, G: Drop>(
+    opening: Opening<B, S, R, P, F, W, E, G>,
+) -> (
+    Registry<B, S, R, P, F, W, E, G>,
+    Server<B, R>,
+    Vec<Right<R, Mark>>,
+)
+    ensures { (result.0 ≡ opening.registry) × (result.1 ≡ opening.server) × (result.2 ≡ opening.roles) }
 {
-    let mut halves = halves;
-    halves.truncate(count as usize);
-    let mut streamers = Vec::with_capacity(alloc, count as usize)?;
-    let mut number = 0;
-    for half in halves {
-        let role = Role::new(number, count, half);
-        streamers.push(Streamer::new(role, no_sessions(alloc)?))?;
-        number += 1;
-    }
-    Ok(streamers)
-}
-
-// A place for a session in each slot.
-fn no_sessions<'a, W: World, L: Link + Drop>(
-    alloc: Global,
-) -> Result<Vec<Option<Held<'a, W, L>>>, AllocError>
-    ensures { IfOk result (λ places. vec_len places ≡ SLOTS) }
-{
-    let mut places = Vec::with_capacity(alloc, SLOTS)?;
-    for _slot in 0..SLOTS {
-        places.push(None)?;
-    }
-    Ok(places)
+    let Opening {
+        registry,
+        server,
+        roles,
+    } = opening;
+    (registry, server, roles)
 }

@@ -1,7 +1,11 @@
 //! A run with its server, from its first turn to its end.
-ghost use Rattle.std.specs.Prelude.{◌≡◌, ◌+◌, ◌*◌, ◌<◌, ◌≤◌, [], None, Some, false, vec_capacity, IfOk, IfErr, IfNone, IfSome, OnErr, IsTrue};
+ghost use Rattle.std.specs.Prelude.{◌≡◌, ◌+◌, ◌*◌, ◌<◌, ◌≤◌, [], None, Some, false, vec_capacity, vec_len, IfOk, IfErr, IfNone, IfSome, OnErr, IsTrue};
 ghost use Rattle.ep_journal.specs.declared.limits.TheConstants.{CONNECTIONS};
 ghost use Rattle.ep_table.specs.declared.limits.TheConstants.{SLOTS};
+ghost use Rattle.ep_registry.specs.declared.server.Mark.TheVariants as mark;
+ghost use Rattle.ep_registry.specs.Places.{numbered};
+ghost use Rattle.ep_live.specs.Made.{AreStands};
+ghost use Rattle.pt_roles.specs.declared.exit.Exit.TheVariants as exit;
 ghost use Rattle.pt_roles.specs.Ending.{IsAllOver, has_failed};
 ghost use Rattle.pt_roles.specs.Server.{GoesOnFrom, HasServed, no_server};
 ghost use Rattle.ep_defs.specs.declared.limits.TheConstants.{THREADS as MOST_THREADS, WRITES};
@@ -9,29 +13,34 @@ ghost use Rattle.ep_defs.specs.Session.{is_valid_facts};
 ghost use Rattle.pt_roles.specs.Ran.{IsRan};
 ghost use Rattle.pt_roles.specs.World.{AreOptions, IsWorldOf, rows_of, world_of};
 
-use crate::around::Around;
+use crate::drafts::drafts_of;
 use crate::exit::Exit;
 use crate::groups::{AllLeft, AtEnd, Streaming, WritersKit};
 use crate::held_dock::HeldDock;
-use crate::host::Host;
+use crate::hints::Hints;
+use crate::host::{LiveDesk, close, serve_early, serve_late};
 use crate::live_end::{LiveEnd, LiveSession};
 use crate::locked::Locked;
 use crate::options::LiveOptions;
 use crate::prepared::{Blanks, Prepared};
-use crate::scene::{Hints, Scene};
+use crate::scene::Scene;
+use crate::shared::Shared;
+use crate::streamers::streamers_of;
 use crate::table::Table;
 use crate::world::{Books, RoleMarks, World};
 use ep_defs::Facts;
-use ep_guarded::Grant;
-use ep_live::Live;
-use ep_registry::Server;
+use ep_guarded::{Agreed, Grant};
+use ep_journal::limits::CONNECTIONS;
+use ep_live::Stands;
+use ep_registry::{Mark, Server};
 use ep_shelf::Shelf;
+use ep_tie::Right;
 use pt_io::{Clock, Dock, Gate, Link};
 use pt_load::Plan;
 use pt_server::{ConnEnd, Desk};
 use std::alloc::{AllocError, Global};
 use std::marker::{Brand, PhantomData};
-use std::sync::{Mutex, Wait};
+use std::sync::Wait;
 use std::thread;
 use std::thread::Threads;
 use std::time::Clock as Timer;
@@ -127,14 +136,7 @@ fn run_named<
         held.entry.dock.now result.dock.now) }
     ensures memory { IfErr answer.new (λ _. result.dock.now ≡ held.entry.dock.now) }
 {
-    let Parts { options, .. } = parts;
-    match Prepared::<W, L>::new(
-        parts.alloc,
-        parts.plan,
-        options.lives,
-        options.streamers,
-        blanks,
-    ) {
+    match Prepared::<W, L>::new(parts.alloc, parts.plan, parts.options.streamers, blanks) {
         Ok(prepared) => {
             let (held, end) = run_prepared(&parts, shelf, prepared, held);
             *answer = end;
@@ -147,9 +149,10 @@ fn run_named<
     }
 }
 
-// The run, for which all memory is there that it takes before the dock is asked.
+// The run over what was made for it before anybody comes in.
 fn run_prepared<
     'd,
+    'r,
     'a,
     W: World + Send + Sync,
     R: Threads + Wait + Timer + Sync,
@@ -158,7 +161,7 @@ fn run_prepared<
     C: Clock,
     G: Gate,
 >(
-    parts: &Parts<'_, R, C, G>,
+    parts: &Parts<'r, R, C, G>,
     shelf: &'a Shelf<Grant>,
     prepared: Prepared<'a, W, L>,
     held: HeldDock<'d, D>,
@@ -174,72 +177,152 @@ fn run_prepared<
 {
     let Prepared {
         live,
-        hints,
         table,
         server,
-        stands,
-        streamers,
         roles,
-        drafts,
-        writers,
-        rows,
-        halves,
-        sessions,
+        stands,
     } = prepared;
-    let table = Mutex::new(table);
-    let desk = match Desk::new(parts.alloc, Locked::new(parts.rt, &table, server)) {
-        Ok(desk) => desk,
+    let (hints, sessions) = match room(parts) {
+        Ok(room) => room,
         Err(error) => return (held, Err(error)),
     };
-    let host = Host {
-        around: around(parts, &live, &hints, &table),
+    let shared = Shared::new(live, hints, table);
+    let (held, over) = run_shared(parts, shelf, &shared, server, roles, stands, held);
+    match over {
+        Ok(over) => (held, Ok(end_of(shared.into_table(), over, sessions))),
+        Err(error) => (held, Err(error)),
+    }
+}
+
+// The hints, and memory for all sessions.
+fn room<W: World, R, L, C, G>(
+    parts: &Parts<'_, R, C, G>,
+) -> Result<(Hints<W>, Vec<LiveSession<L>>), AllocError>
+    requires { parts.now.plan.now.threads ≡ W.rows }
+    ensures none { IfOk result (λ room. room.1.items ≡ []) }
+    ensures room { IfOk result (λ room. CONNECTIONS ≤ vec_capacity room.1) }
+{
+    let hints = Hints::new(parts.alloc, parts.plan.threads)?;
+    let sessions = Vec::with_capacity(parts.alloc, CONNECTIONS)?;
+    Ok((hints, sessions))
+}
+
+// The run over what its threads share.
+fn run_shared<
+    'd,
+    'r,
+    't,
+    'a,
+    W: World + Send + Sync,
+    R: Threads + Wait + Timer + Sync,
+    L: Link + Drop,
+    D: Dock<Link = L>,
+    C: Clock,
+    G: Gate,
+>(
+    parts: &Parts<'r, R, C, G>,
+    shelf: &'a Shelf<Grant>,
+    shared: &'t Shared<'a, W, L>,
+    server: Server<Books<W>, RoleMarks<W>>,
+    roles: Vec<Right<RoleMarks<W>, Mark>>,
+    stands: Stands<'a, W>,
+    held: HeldDock<'d, D>,
+) -> (HeldDock<'d, D>, Result<Over<W, L>, AllocError>)
+    requires world { IsWorldOf W.world W.rows W.events W.writes W.setting W.facts W.greeting }
+    requires plan { (parts.now.plan.now ≡ W.world.plan) × (parts.now.options ≡ W.world.options) }
+    requires facts { (parts.now.facts.now ≡ W.world.facts) × IsTrue (is_valid_facts parts.now.facts.now) }
+    requires server { server ≡ no_server }
+    requires roles { roles.items ≡ numbered SLOTS (mark.Role W.world.options.streamers false) }
+    requires stands { stands ≡ Some 0 }
+    requires greeting { D.greeting held.dock.now ≡ W.greeting }
+    ensures same { result.0.dock.ghost_name ≡ held.entry.dock.ghost_name }
+    ensures served { IfOk result.1 (λ over. HasServed D.Dock L.read_side L.write_side W.facts W.greeting
+        W.world.options.wait over.exit over.conns.items held.entry.dock.now result.0.dock.now over.server) }
+    ensures none { IfErr result.1 (λ _. result.0.dock.now ≡ held.entry.dock.now) }
+{
+    let wait = parts.options.wait;
+    match groups_of(parts, shelf, shared, server, roles, stands) {
+        Ok((serving, streaming, kit)) => run_groups(parts.rt, wait, serving, streaming, kit, held),
+        Err(error) => (held, Err(error)),
+    }
+}
+
+// The server, the roles and the writers, each with what it needs.
+fn groups_of<'r, 't, 'a, W: World, R: Wait, L: Link + Drop, C, G>(
+    parts: &Parts<'r, R, C, G>,
+    shelf: &'a Shelf<Grant>,
+    shared: &'t Shared<'a, W, L>,
+    server: Server<Books<W>, RoleMarks<W>>,
+    roles: Vec<Right<RoleMarks<W>, Mark>>,
+    stands: Stands<'a, W>,
+) -> Result<
+    (
+        Serving<'r, 't, 'a, W, R, L, C, G>,
+        Streaming<'r, 't, 'a, W, R, L, C, G>,
+        WritersKit<'r, 't, 'a, W, R, L, C, G>,
+    ),
+    AllocError,
+>
+    requires world { IsWorldOf W.world W.rows W.events W.writes W.setting W.facts W.greeting }
+    requires plan { (parts.now.plan.now ≡ W.world.plan) × (parts.now.options ≡ W.world.options) }
+    requires facts { (parts.now.facts.now ≡ W.world.facts) × IsTrue (is_valid_facts parts.now.facts.now) }
+    requires server { server ≡ no_server }
+    requires roles { roles.items ≡ numbered SLOTS (mark.Role W.world.options.streamers false) }
+    requires stands { stands ≡ Some 0 }
+    ensures { IfOk result (λ groups. (groups.0.desk.decider ≡ no_server) × (groups.0.stands ≡ Some 0)) }
+{
+    let alloc = parts.alloc;
+    let threads = parts.plan.threads as usize;
+    let count = parts.options.streamers;
+    let serving = Serving {
+        scene: scene(parts),
+        shared,
         shelf,
-        facts: parts.facts,
-        desk,
+        desk: Desk::new(alloc, Locked::new(parts.rt, shared, server))?,
         stands,
     };
     let streaming = Streaming {
-        around: around(parts, &live, &hints, &table),
-        streamers,
-        roles,
+        scene: scene(parts),
+        streamers: streamers_of(alloc, shared, roles, count)?,
+        roles: Vec::with_capacity(alloc, count as usize)?,
     };
     let kit = WritersKit {
-        around: around(parts, &live, &hints, &table),
-        drafts,
-        writers,
-        rows,
-        halves,
+        scene: scene(parts),
+        shared,
+        drafts: drafts_of(alloc, parts.plan, parts.options.lives)?,
+        writers: Vec::with_capacity(alloc, threads)?,
+        rows: Vec::with_capacity(alloc, threads)?,
+        halves: Vec::with_capacity(alloc, threads)?,
     };
-    let (held, over) = run_groups(parts.rt, parts.options.wait, host, streaming, kit, held);
-    let Some(over) = over else {
-        return (held, Err(AllocError));
-    };
-    (held, Ok(end_of(table.into_inner(), over, sessions)))
+    Ok((serving, streaming, kit))
 }
 
-// What one of the groups shares with the others.
-fn around<'t, 'a, W: World, R: Wait, L: Link, C, G>(
-    parts: &Parts<'t, R, C, G>,
-    live: &'t Live<'a, W>,
-    hints: &'t Hints<W>,
-    table: &'t Mutex<Table<'a, W, L>>,
-) -> Around<'t, 'a, W, R, L, C, G>
+// What never changes in the run.
+fn scene<'r, W: World, R, C, G>(parts: &Parts<'r, R, C, G>) -> Scene<'r, W, R, C, G>
     requires world { IsWorldOf W.world W.rows W.events W.writes W.setting W.facts W.greeting }
     requires plan { (parts.now.plan.now ≡ W.world.plan) × (parts.now.options ≡ W.world.options) }
+    requires facts { (parts.now.facts.now ≡ W.world.facts) × IsTrue (is_valid_facts parts.now.facts.now) }
 {
-    Around {
-        scene: Scene {
-            rt: parts.rt,
-            live,
-            hints,
-            clock: parts.clock,
-            gate: parts.gate,
-            plan: parts.plan,
-            lives: parts.options.lives,
-        },
+    Scene {
+        rt: parts.rt,
         alloc: parts.alloc,
-        table,
+        clock: parts.clock,
+        gate: parts.gate,
+        plan: parts.plan,
+        facts: parts.facts,
+        lives: parts.options.lives,
+        name: PhantomData,
     }
+}
+
+// The server with what it needs.
+#[derive(Drop)]
+struct Serving<'r, 't, 'a, W: World, R: Wait, L: Link + Drop, C, G> {
+    scene: Scene<'r, W, R, C, G>,
+    shared: &'t Shared<'a, W, L>,
+    shelf: &'a Shelf<Grant>,
+    desk: LiveDesk<'r, 't, 'a, W, R, L>,
+    stands: Stands<'a, W>,
 }
 
 // What the groups leave.
@@ -252,10 +335,11 @@ struct Over<W: World, L: Link> {
     end: AtEnd<W>,
 }
 
-// Lets the server, the roles and the writers do their parts. There is nothing where no thread can be made for the roles;
-// then the dock was not asked.
+// Lets the server, the roles and the writers do their parts. Where no thread can be made for the roles the dock is not
+// asked.
 fn run_groups<
     'd,
+    'r,
     't,
     'a,
     W: World + Send + Sync,
@@ -265,94 +349,193 @@ fn run_groups<
     C: Clock,
     G: Gate,
 >(
-    rt: &'t R,
+    rt: &'r R,
     wait: u32,
-    host: Host<'t, 'a, W, R, L, C, G>,
-    streaming: Streaming<'t, 'a, W, R, L, C, G>,
-    kit: WritersKit<'t, 'a, W, R, L, C, G>,
+    serving: Serving<'r, 't, 'a, W, R, L, C, G>,
+    streaming: Streaming<'r, 't, 'a, W, R, L, C, G>,
+    kit: WritersKit<'r, 't, 'a, W, R, L, C, G>,
     held: HeldDock<'d, D>,
-) -> (HeldDock<'d, D>, Option<Over<W, L>>)
-    requires host { (host.desk.decider ≡ no_server) × (host.stands ≡ Some 0) }
+) -> (HeldDock<'d, D>, Result<Over<W, L>, AllocError>)
+    requires server { (serving.desk.decider ≡ no_server) × (serving.stands ≡ Some 0) }
     requires greeting { D.greeting held.dock.now ≡ W.greeting }
     ensures same { result.0.dock.ghost_name ≡ held.entry.dock.ghost_name }
-    ensures served { IfSome result.1 (λ over. HasServed D.Dock L.read_side L.write_side W.facts W.greeting
+    ensures served { IfOk result.1 (λ over. HasServed D.Dock L.read_side L.write_side W.facts W.greeting
         wait over.exit over.conns.items held.entry.dock.now result.0.dock.now over.server) }
-    ensures none { IfNone result.1 (result.0.dock.now ≡ held.entry.dock.now) }
+    ensures none { IfErr result.1 (λ _. result.0.dock.now ≡ held.entry.dock.now) }
 {
     thread::scope(
         thread::scope_env(),
         rt,
         move |scope|
-            requires { (host.desk.decider ≡ no_server) × (host.stands ≡ Some 0)
+            requires { (serving.desk.decider ≡ no_server) × (serving.stands ≡ Some 0)
                 × (D.greeting held.dock.now ≡ W.greeting) }
             ensures { (result.0.dock.ghost_name ≡ held.entry.dock.ghost_name)
-                × IfSome result.1 (λ over. HasServed D.Dock L.read_side L.write_side W.facts W.greeting
+                × IfOk result.1 (λ over. HasServed D.Dock L.read_side L.write_side W.facts W.greeting
                 wait over.exit over.conns.items held.entry.dock.now result.0.dock.now over.server)
-                × IfNone result.1 (result.0.dock.now ≡ held.entry.dock.now) }
+                × IfErr result.1 (λ _. result.0.dock.now ≡ held.entry.dock.now) }
         {
-            let mut held = held;
-            let mut host = host;
-            let serving = match scope.spawn(move || streaming.play_all()) {
+            let play = move || streaming.play_all();
+            let playing = match scope.spawn(play) {
                 Ok(handle) => handle,
-                Err(_) => return (held, None),
+                Err(_) => return (held, Err(AllocError)),
             };
-            let first = host.serve_early(&mut held, wait);
-            let writing = kit.ready(host.stands.lend());
-            match scope.spawn(move || writing.write_all()) {
+            let (held, first, serving) = serve_first(serving, held, wait);
+            let (serving, stands) = lend(serving);
+            let writing = kit.ready(stands);
+            let write = move || writing.write_all();
+            let (held, exit, serving, end) = match scope.spawn(write) {
                 Ok(handle) => {
-                    let exit = go_on(&mut host, &mut held, first);
-                    let (server, conns) = host.close();
-                    let end = handle.join(rt);
-                    let left = serving.join(rt);
-                    (
-                        held,
-                        Some(Over {
-                            server,
-                            conns,
-                            exit,
-                            left,
-                            end,
-                        }),
-                    )
+                    let (held, exit, serving) = serve_on(serving, held, first);
+                    (held, exit, serving, handle.join(rt))
                 }
                 Err(refused) => {
                     let end = (refused.value)();
-                    let exit = go_on(&mut host, &mut held, first);
-                    let (server, conns) = host.close();
-                    let left = serving.join(rt);
-                    (
-                        held,
-                        Some(Over {
-                            server,
-                            conns,
-                            exit,
-                            left,
-                            end,
-                        }),
-                    )
+                    let (held, exit, serving) = serve_on(serving, held, first);
+                    (held, exit, serving, end)
                 }
-            }
+            };
+            let (server, conns) = close(serving.desk);
+            let left = playing.join(rt);
+            let over = Over {
+                server,
+                conns,
+                exit,
+                left,
+                end,
+            };
+            (held, Ok(over))
         },
     )
 }
 
-// The server goes on while the writers write, unless nobody comes in any more.
-fn go_on<'t, 'a, W: World, R: Wait + Timer, L: Link + Drop, D: Dock<Link = L>, C: Clock, G: Gate>(
-    host: &mut Host<'t, 'a, W, R, L, C, G>,
-    held: &mut HeldDock<'_, D>,
-    first: Exit,
-) -> Exit
-    requires open { host.old.desk.decider.left ≡ false }
-    requires stands { host.old.stands ≡ None }
-    requires greeting { D.greeting held.old.dock.now ≡ W.greeting }
-    ensures turned { GoesOnFrom D.Dock first result held.old.dock.now held.new.dock.now
-        host.old.desk.decider host.new.desk.decider }
-    ensures same { held.new.dock.ghost_name ≡ held.old.dock.ghost_name }
+// The server takes connections until the writers are to begin.
+fn serve_first<
+    'd,
+    'r,
+    't,
+    'a,
+    W: World,
+    R: Wait + Timer,
+    L: Link + Drop,
+    D: Dock<Link = L>,
+    C: Clock,
+    G: Gate,
+>(
+    serving: Serving<'r, 't, 'a, W, R, L, C, G>,
+    held: HeldDock<'d, D>,
+    wait: u32,
+) -> (HeldDock<'d, D>, Exit, Serving<'r, 't, 'a, W, R, L, C, G>)
+    requires open { serving.desk.decider.left ≡ false }
+    requires stands { serving.stands ≡ Some 0 }
+    requires greeting { D.greeting held.dock.now ≡ W.greeting }
+    ensures turned { HasTurned D.Dock true (Some result.1) held.entry.dock.now result.0.dock.now
+        serving.entry.desk.decider result.2.desk.decider }
+    ensures enough { result.1 ≡ exit.Enough → wait ≤ result.2.desk.decider.early }
+    ensures stands { result.2.stands ≡ Some 0 }
+    ensures same { result.0.dock.ghost_name ≡ held.entry.dock.ghost_name }
 {
-    match first {
-        Exit::Enough => host.serve_late(held),
-        Exit::Closed | Exit::Failed | Exit::Full => first,
+    let Serving {
+        scene,
+        shared,
+        shelf,
+        mut desk,
+        mut stands,
+    } = serving;
+    let mut held = held;
+    let exit = serve_early(
+        &scene,
+        shared,
+        shelf,
+        &mut desk,
+        &mut stands,
+        &mut held,
+        wait,
+    );
+    let serving = Serving {
+        scene,
+        shared,
+        shelf,
+        desk,
+        stands,
+    };
+    (held, exit, serving)
+}
+
+// The server lends the threads' halves to the writers.
+fn lend<'r, 't, 'a, W: World, R: Wait, L: Link + Drop, C, G>(
+    serving: Serving<'r, 't, 'a, W, R, L, C, G>,
+) -> (
+    Serving<'r, 't, 'a, W, R, L, C, G>,
+    Vec<Right<W, Agreed<'a>>>,
+)
+    requires { serving.stands ≡ Some 0 }
+    ensures desk { result.0.desk ≡ serving.entry.desk }
+    ensures none { result.0.stands ≡ None }
+    ensures count { vec_len result.1 ≡ W.rows }
+    ensures halves { AreStands 0 result.1.items }
+{
+    let Serving {
+        scene,
+        shared,
+        shelf,
+        desk,
+        mut stands,
+    } = serving;
+    let halves = stands.lend();
+    let serving = Serving {
+        scene,
+        shared,
+        shelf,
+        desk,
+        stands,
+    };
+    (serving, halves)
+}
+
+// The server goes on while the writers write, unless nobody comes in any more.
+fn serve_on<
+    'd,
+    'r,
+    't,
+    'a,
+    W: World,
+    R: Wait + Timer,
+    L: Link + Drop,
+    D: Dock<Link = L>,
+    C: Clock,
+    G: Gate,
+>(
+    serving: Serving<'r, 't, 'a, W, R, L, C, G>,
+    held: HeldDock<'d, D>,
+    first: Exit,
+) -> (HeldDock<'d, D>, Exit, Serving<'r, 't, 'a, W, R, L, C, G>)
+    requires open { serving.desk.decider.left ≡ false }
+    requires stands { serving.stands ≡ None }
+    requires greeting { D.greeting held.dock.now ≡ W.greeting }
+    ensures turned { GoesOnFrom D.Dock first result.1 held.entry.dock.now result.0.dock.now
+        serving.entry.desk.decider result.2.desk.decider }
+    ensures same { result.0.dock.ghost_name ≡ held.entry.dock.ghost_name }
+{
+    if first != Exit::Enough {
+        return (held, first, serving);
     }
+    let Serving {
+        scene,
+        shared,
+        shelf,
+        mut desk,
+        mut stands,
+    } = serving;
+    let mut held = held;
+    let exit = serve_late(&scene, shared, shelf, &mut desk, &mut stands, &mut held);
+    let serving = Serving {
+        scene,
+        shared,
+        shelf,
+        desk,
+        stands,
+    };
+    (held, exit, serving)
 }
 
 // What the run comes to, in memory that is there.

@@ -1,131 +1,30 @@
-//! What all threads of a run share.
-ghost use Rattle.std.specs.Prelude.{◌≡◌, ◌*◌, ◌<◌, ◌≤◌, length, IfOk, IfSome, vec_len};
+//! What never changes in a run.
+ghost use Rattle.std.specs.Prelude.{◌≡◌, IsTrue};
+ghost use Rattle.ep_defs.specs.Session.{is_valid_facts};
 ghost use Rattle.pt_roles.specs.World.{IsWorldOf};
 
 use crate::world::World;
-use ep_live::Live;
+use ep_defs::Facts;
 use pt_load::Plan;
-use std::alloc::{AllocError, Global};
+use pt_server::Process;
+use pt_stream::Run;
+use std::alloc::Global;
 use std::marker::PhantomData;
-use std::sync::atomic::{AtomicBool, AtomicU64, Ordering};
 
-/// What threads tell one another without a lock. Nothing that a run comes to rests on it: they are hints.
+/// What never changes in a run: the runtime, the clock and the gate that its threads pass, how much they write in how many
+/// lives of each row, and what the program says of itself.
 #[derive(Drop)]
-pub(crate) struct Hints<P: World> {
-    /// Of each row, twice its life from 0, and one more once the life's thread has left.
-    lives: Vec<AtomicU64>,
-    /// Of each row, the slots whose sessions are to be opened again before the next life writes.
-    reopen: Vec<AtomicU64>,
-    /// Whether all writers have ended.
-    done: AtomicBool,
-    name: PhantomData<P>,
-    ghost lives_are: { vec_len lives ≡ P.rows },
-    ghost reopen_are: { vec_len reopen ≡ P.rows },
-}
-
-impl<P: World> Hints<P> {
-    pub(crate) fn new(alloc: Global, rows: u32) -> Result<Hints<P>, AllocError>
-        requires { rows ≡ P.rows }
-    {
-        Ok(Hints {
-            lives: zeros(alloc, rows)?,
-            reopen: zeros(alloc, rows)?,
-            done: AtomicBool::new(false),
-            name: PhantomData,
-        })
-    }
-
-    /// The life of a row, by its number, and whether its thread has left.
-    pub(crate) fn life(&self, number: usize) -> (u64, bool)
-        requires { number < P.rows }
-    {
-        let said = self.lives[number].load(Ordering::SeqCst);
-        (said / 2, said % 2 == 1)
-    }
-
-    /// The thread of this life has left the row.
-    pub(crate) fn leaves(&self, number: usize, life: u32)
-        requires { number < P.rows }
-    {
-        self.lives[number].store(u64::from(life) * 2 + 1, Ordering::SeqCst);
-    }
-
-    /// The thread of this life has entered the row.
-    pub(crate) fn enters(&self, number: usize, life: u32)
-        requires { number < P.rows }
-    {
-        self.lives[number].store(u64::from(life) * 2, Ordering::SeqCst);
-    }
-
-    /// The slots whose sessions are to be opened again on the row.
-    pub(crate) fn reopen(&self, number: usize) -> &AtomicU64
-        requires { number < P.rows }
-    {
-        &self.reopen[number]
-    }
-
-    /// Whether a session is still to be opened again on the row.
-    pub(crate) fn waits(&self, number: usize) -> bool
-        requires { number < P.rows }
-    {
-        self.reopen[number].load(Ordering::SeqCst) != 0
-    }
-
-    /// The session in this slot is open on the row again, or has ended.
-    pub(crate) fn opened(&self, number: usize, slot: u32)
-        requires row { number < P.rows }
-        requires slot { slot < 64 }
-    {
-        self.reopen[number].fetch_and(!(1u64 << slot), Ordering::SeqCst);
-    }
-
-    /// All writers have ended.
-    pub(crate) fn end(&self) {
-        self.done.store(true, Ordering::SeqCst);
-    }
-
-    /// Whether all writers have ended.
-    pub(crate) fn have_ended(&self) -> bool {
-        self.done.load(Ordering::SeqCst)
-    }
-}
-
-fn zeros(alloc: Global, count: u32) -> Result<Vec<AtomicU64>, AllocError>
-    ensures { IfOk result (λ zeros. vec_len zeros ≡ count) }
-{
-    let mut zeros = Vec::with_capacity(alloc, count as usize)?;
-    for _made in 0..count {
-        zeros.push(AtomicU64::new(0))?;
-    }
-    Ok(zeros)
-}
-
-/// What never changes in a run: the runtime, the rows, the hints, the clock and the gate that its threads pass, and how
-/// much they write.
-#[derive(Drop)]
-pub(crate) struct Scene<'t, 'a, P: World, R, C, G> {
-    pub(crate) rt: &'t R,
-    pub(crate) live: &'t Live<'a, P>,
-    pub(crate) hints: &'t Hints<P>,
-    pub(crate) clock: &'t C,
-    pub(crate) gate: &'t G,
-    pub(crate) plan: &'t Plan,
+pub(crate) struct Scene<'r, W: World, R, C, G> {
+    pub(crate) rt: &'r R,
+    pub(crate) alloc: Global,
+    pub(crate) clock: &'r C,
+    pub(crate) gate: &'r G,
+    pub(crate) plan: &'r Plan,
+    pub(crate) facts: &'r Facts,
     pub(crate) lives: u32,
-    ghost is_world: { IsWorldOf P.world P.rows P.events P.writes P.setting P.facts P.greeting },
-    ghost plan_is: { plan.now ≡ P.world.plan },
-    ghost lives_are: { lives ≡ P.world.options.lives },
-}
-
-impl<'t, 'a, P: World, R, C, G> Scene<'t, 'a, P, R, C, G> {
-    /// The life that a row serves, by its number, unless its thread has left.
-    pub(crate) fn life(&self, number: usize) -> Option<u32>
-        requires { number < P.rows }
-        ensures { IfSome result (λ life. life < P.world.options.lives) }
-    {
-        let (life, has_left) = self.hints.life(number);
-        if has_left || life >= u64::from(self.lives) {
-            return None;
-        }
-        Some(life as u32)
-    }
+    pub(crate) name: PhantomData<W>,
+    ghost is_world: { IsWorldOf W.world W.rows W.events W.writes W.setting W.facts W.greeting },
+    ghost plan_is: { plan.now ≡ W.world.plan },
+    ghost facts_are: { (facts.now ≡ W.world.facts) × IsTrue (is_valid_facts facts.now) },
+    ghost lives_are: { lives ≡ W.world.options.lives },
 }

@@ -10,9 +10,10 @@ ghost use Rattle.pt_roles.specs.Fates.{fate_as, fate_of};
 ghost use Rattle.pt_roles.specs.Serving.{IsLastOf, IsLeftOf, KeepsSession};
 ghost use Rattle.pt_roles.specs.Table.{Fits};
 
-use crate::around::Around;
 use crate::finale::Finale;
 use crate::live_end::LiveSession;
+use crate::scene::Scene;
+use crate::shared::Shared;
 use crate::table::{Held, Telling};
 use crate::world::{Holds, World};
 use ep_guarded::NotOpened;
@@ -27,45 +28,46 @@ use std::sync::Wait;
 /// Serves a session once: ends it where it is to end, and else takes what its threads keep for it. Gives the session where
 /// it goes on, and whether something was taken or ended.
 pub(crate) fn serve<'a, W: World, R: Wait, L: Link + Drop, C: Clock, G: Gate>(
-    around: &Around<'_, 'a, W, R, L, C, G>,
+    scene: &Scene<'_, W, R, C, G>,
+    shared: &Shared<'a, W, L>,
     held: Held<'a, W, L>,
 ) -> (Option<Held<'a, W, L>>, bool) {
     let (mut holder, stream) = held.open();
     if !stream.is_complete() {
         // Memory was missing while it was opened.
-        end(around, holder, stream, Fate::OutOfMemory);
+        end(scene, shared, holder, stream, Fate::OutOfMemory);
         return (None, true);
     }
-    match around.look(&mut holder) {
+    match shared.look(scene.rt, &mut holder) {
         Some(Kept::Requested { conn }) => {
-            end(around, holder, stream, Fate::Requested { conn });
+            end(scene, shared, holder, stream, Fate::Requested { conn });
             (None, true)
         }
         Some(Kept::ProgramEnd) => {
-            end_done(around, holder, stream);
+            end_done(scene, shared, holder, stream);
             (None, true)
         }
         Some(Kept::LinkFault | Kept::TooLong | Kept::OutOfMemory) => unreachable!(),
-        None => go_on(around, holder, stream),
+        None => go_on(scene, shared, holder, stream),
     }
 }
 
 // Takes what its threads keep for it, on the lives that its rows serve by now.
 fn go_on<'a, W: World, R: Wait, L: Link + Drop, C: Clock, G: Gate>(
-    around: &Around<'_, 'a, W, R, L, C, G>,
+    scene: &Scene<'_, W, R, C, G>,
+    shared: &Shared<'a, W, L>,
     holder: Holder<Holds<W>>,
     stream: Telling<'a, W, L>,
 ) -> (Option<Held<'a, W, L>>, bool)
     requires { Fits W.writes holder stream }
 {
-    let (stream, opened) = follow(around, stream);
+    let (stream, opened) = follow(scene, shared, stream);
     if !opened {
-        end(around, holder, stream, Fate::OutOfMemory);
+        end(scene, shared, holder, stream, Fate::OutOfMemory);
         return (None, true);
     }
-    let scene = &around.scene;
     let stamp = scene.clock.now();
-    match stream.sweep(around.alloc, scene.rt, scene.live, stamp) {
+    match stream.sweep(scene.alloc, scene.rt, &shared.live, stamp) {
         (stream, Ok(taken)) => {
             let session = stream.id();
             scene.gate.pass(Moment::Swept { session, taken });
@@ -73,7 +75,7 @@ fn go_on<'a, W: World, R: Wait, L: Link + Drop, C: Clock, G: Gate>(
         }
         (stream, Err(_)) => {
             // The stream has failed, and says its own fault at its end.
-            end(around, holder, stream, Fate::OutOfMemory);
+            end(scene, shared, holder, stream, Fate::OutOfMemory);
             (None, true)
         }
     }
@@ -82,7 +84,8 @@ fn go_on<'a, W: World, R: Wait, L: Link + Drop, C: Clock, G: Gate>(
 // Closes it on each row whose thread has left, and opens it on each whose next thread is there. Answers whether there was
 // memory for that.
 fn follow<'a, W: World, R: Wait, L: Link, C, G>(
-    around: &Around<'_, 'a, W, R, L, C, G>,
+    scene: &Scene<'_, W, R, C, G>,
+    shared: &Shared<'a, W, L>,
     stream: Telling<'a, W, L>,
 ) -> (Telling<'a, W, L>, bool)
     requires complete { is_complete stream ≡ true }
@@ -92,11 +95,11 @@ fn follow<'a, W: World, R: Wait, L: Link, C, G>(
     ensures done { AllByRecursion (IsDone W.writes) result.0.marks }
 {
     let mut stream = stream;
-    if around.scene.lives == 1 {
+    if scene.lives == 1 {
         return (stream, true);
     }
-    for number in 0..around.scene.plan.threads {
-        let (next, opened) = follow_row(around, stream, number);
+    for number in 0..scene.plan.threads {
+        let (next, opened) = follow_row(scene, shared, stream, number);
         stream = next;
         if !opened {
             return (stream, false);
@@ -107,7 +110,8 @@ fn follow<'a, W: World, R: Wait, L: Link, C, G>(
 
 // The same on one row, by its number from 0.
 fn follow_row<'a, W: World, R: Wait, L: Link, C, G>(
-    around: &Around<'_, 'a, W, R, L, C, G>,
+    scene: &Scene<'_, W, R, C, G>,
+    shared: &Shared<'a, W, L>,
     stream: Telling<'a, W, L>,
     number: u32,
 ) -> (Telling<'a, W, L>, bool)
@@ -118,17 +122,16 @@ fn follow_row<'a, W: World, R: Wait, L: Link, C, G>(
     ensures complete { is_complete result.0 ≡ true }
     ensures done { AllByRecursion (IsDone W.writes) result.0.marks }
 {
-    let scene = &around.scene;
     let row = number + 1;
     let place = stream.place(row);
-    let life = scene.life(number as usize);
+    let life = shared.hints.life(number as usize, scene.lives);
     if place.is_open {
         if life.is_some() {
             return (stream, true);
         }
         let writes = scene.plan.writes;
         return (
-            stream.close_done(around.alloc, scene.rt, scene.live, row, writes),
+            stream.close_done(scene.alloc, scene.rt, &shared.live, row, writes),
             true,
         );
     }
@@ -139,9 +142,9 @@ fn follow_row<'a, W: World, R: Wait, L: Link, C, G>(
         return (stream, true);
     }
     let slot = stream.slot();
-    match stream.open_row(around.alloc, scene.rt, scene.live, row, life) {
+    match stream.open_row(scene.alloc, scene.rt, &shared.live, row, life) {
         (stream, Ok(())) => {
-            scene.hints.opened(number as usize, slot);
+            shared.hints.opened(number as usize, slot);
             (stream, true)
         }
         (stream, Err(NotOpened::Away)) => (stream, true),
@@ -151,28 +154,29 @@ fn follow_row<'a, W: World, R: Wait, L: Link, C, G>(
 
 // Ends it with the program, all of whose threads have ended.
 fn end_done<'a, W: World, R: Wait, L: Link + Drop, C: Clock, G: Gate>(
-    around: &Around<'_, 'a, W, R, L, C, G>,
+    scene: &Scene<'_, W, R, C, G>,
+    shared: &Shared<'a, W, L>,
     holder: Holder<Holds<W>>,
     stream: Telling<'a, W, L>,
 )
     requires ends { IsTrue (may_end (fate_as fates.ProgramEnd) holder.stage) }
     requires fits { Fits W.writes holder stream }
 {
-    let scene = &around.scene;
     let mut stream = stream;
     for number in 0..scene.plan.threads {
         let row = number + 1;
         if stream.place(row).is_open {
             let writes = scene.plan.writes;
-            stream = stream.close_done(around.alloc, scene.rt, scene.live, row, writes);
+            stream = stream.close_done(scene.alloc, scene.rt, &shared.live, row, writes);
         }
     }
-    finish(around, holder, stream, Fate::ProgramEnd);
+    finish(scene, shared, holder, stream, Fate::ProgramEnd);
 }
 
 // Ends it as it is to end, or by its own fault.
 fn end<'a, W: World, R: Wait, L: Link + Drop, C: Clock, G: Gate>(
-    around: &Around<'_, 'a, W, R, L, C, G>,
+    scene: &Scene<'_, W, R, C, G>,
+    shared: &Shared<'a, W, L>,
     holder: Holder<Holds<W>>,
     stream: Telling<'a, W, L>,
     fate: Fate,
@@ -183,20 +187,20 @@ fn end<'a, W: World, R: Wait, L: Link + Drop, C: Clock, G: Gate>(
     requires complete { is_fault fate ≡ false → is_complete stream ≡ true }
     requires fits { Fits W.writes holder stream }
 {
-    let scene = &around.scene;
     let mut stream = stream;
     for number in 0..scene.plan.threads {
         let row = number + 1;
         if stream.place(row).is_open {
-            stream = stream.close_row(around.alloc, scene.rt, scene.live, row);
+            stream = stream.close_row(scene.alloc, scene.rt, &shared.live, row);
         }
     }
-    finish(around, holder, stream, fate);
+    finish(scene, shared, holder, stream, fate);
 }
 
 // Ends its stream, which is open on no row, and gives back what it had.
 fn finish<'a, W: World, R: Wait, L: Link + Drop, C: Clock, G: Gate>(
-    around: &Around<'_, 'a, W, R, L, C, G>,
+    scene: &Scene<'_, W, R, C, G>,
+    shared: &Shared<'a, W, L>,
     holder: Holder<Holds<W>>,
     stream: Telling<'a, W, L>,
     fate: Fate,
@@ -209,17 +213,16 @@ fn finish<'a, W: World, R: Wait, L: Link + Drop, C: Clock, G: Gate>(
     requires done { fate ≡ fates.ProgramEnd → AllByRecursion (IsDone W.writes) stream.marks }
     requires last { IsLastOf holder stream }
 {
-    let scene = &around.scene;
     let slot = stream.slot();
     let stamp = scene.clock.now();
-    let (end, rows) = stream.end(around.alloc, scene.rt, scene.live, stamp, fate);
+    let (end, rows) = stream.end(scene.alloc, scene.rt, &shared.live, stamp, fate);
     let (free, _chunks) = rows.retire(scene.rt);
     let session = session_of(end);
     let fate = fate_as(session.fate);
     let finale = Finale::new(session);
-    around.end(holder, fate, free, finale);
+    shared.end(scene.rt, holder, fate, free, finale);
     for number in 0..scene.plan.threads {
-        scene.hints.opened(number as usize, slot);
+        shared.hints.opened(number as usize, slot);
     }
 }
 

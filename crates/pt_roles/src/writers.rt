@@ -5,11 +5,13 @@ ghost use Rattle.pt_roles.specs.World.{rows_of};
 ghost use Rattle.pt_roles.specs.Writers.{AreAtEnd, AreDrafts, AreReady, HasLeft, HaveWritten, IsAt, StandsAt};
 
 use crate::drafts::{Drafts, thread_of};
+use crate::hints::Hints;
 use crate::scene::Scene;
+use crate::shared::Shared;
 use crate::world::World;
 use ep_guarded::{Agreed, Program};
 use ep_tie::Right;
-use pt_io::{Clock, Gate, Moment};
+use pt_io::{Clock, Gate, Link, Moment};
 use pt_load::laws::{sample_events_are_valid, sample_writes_can_be_made};
 use std::marker::Model;
 use std::sync::Wait;
@@ -22,12 +24,13 @@ const REST: u64 = 1;
 
 /// A row's thread: its half of the tie to the row, and what gives its writes and those of the threads after it.
 #[derive(Drop)]
-pub(crate) struct Writer<'a, P: Program> {
+pub(crate) struct Writer<'t, 'a, P: World, L: Link> {
+    shared: &'t Shared<'a, P, L>,
     half: Right<P, Agreed<'a>>,
     drafts: Drafts,
 }
 
-impl<'a, P: Program> Model for Writer<'a, P> {
+impl<'t, 'a, P: World, L: Link> Model for Writer<'t, 'a, P, L> {
     ghost use Rattle.pt_roles.specs.Writers.{WriterState};
 
     ghost Value = { WriterState };
@@ -36,10 +39,11 @@ impl<'a, P: Program> Model for Writer<'a, P> {
 }
 
 /// The writers, each with its half of the tie, in memory that is there.
-pub(crate) fn writers_of<'a, P: World>(
+pub(crate) fn writers_of<'t, 'a, P: World, L: Link>(
+    shared: &'t Shared<'a, P, L>,
     halves: Vec<Right<P, Agreed<'a>>>,
     drafts: Vec<Drafts>,
-    writers: &mut Vec<Writer<'a, P>>,
+    writers: &mut Vec<Writer<'t, 'a, P, L>>,
 )
     requires none { writers.old.items ≡ [] }
     requires room { vec_len halves ≤ vec_capacity writers.old }
@@ -50,15 +54,19 @@ pub(crate) fn writers_of<'a, P: World>(
     ensures ready { AreReady P.world.plan P.world.options.lives writers.new.items }
 {
     for (half, drafts) in halves.into_iter().zip(drafts) {
-        writers.push_reserved(Writer { half, drafts });
+        writers.push_reserved(Writer {
+            shared,
+            half,
+            drafts,
+        });
     }
 }
 
-impl<'a, P: World> Writer<'a, P> {
+impl<'t, 'a, P: World, L: Link + Drop> Writer<'t, 'a, P, L> {
     /// Makes all writes of the row's threads, one thread after another.
     fn run<R: Wait + Timer, C: Clock, G: Gate>(
         &mut self,
-        scene: &Scene<'_, 'a, P, R, C, G>,
+        scene: &Scene<'_, P, R, C, G>,
         number: usize,
     )
         requires row { number < P.rows }
@@ -69,7 +77,7 @@ impl<'a, P: World> Writer<'a, P> {
         for life in 1..scene.lives {
             self.leave(scene, number, life - 1);
             self.enter(scene, number, life - 1);
-            wait_for_sessions(scene, number);
+            wait_for_sessions(scene.rt, &self.shared.hints, number);
             self.write_life(scene, number, life);
         }
     }
@@ -77,7 +85,7 @@ impl<'a, P: World> Writer<'a, P> {
     // Makes all writes of the thread of this life.
     fn write_life<R: Wait, C: Clock, G: Gate>(
         &mut self,
-        scene: &Scene<'_, 'a, P, R, C, G>,
+        scene: &Scene<'_, P, R, C, G>,
         number: usize,
         life: u32,
     )
@@ -90,11 +98,12 @@ impl<'a, P: World> Writer<'a, P> {
         sample_writes_can_be_made();
         let mut draft = self.drafts.next();
         let thread = thread_of(scene.plan.threads, number as u32, life);
+        let live = &self.shared.live;
         for index in 0..scene.plan.writes {
             let begun = Moment::Begun { thread, index };
             let write = draft.nth(index);
             let stamp = scene.clock.now();
-            scene.live.write(
+            live.write(
                 scene.rt,
                 scene.gate,
                 begun,
@@ -108,21 +117,23 @@ impl<'a, P: World> Writer<'a, P> {
     }
 
     // The thread of this life, which has made all its writes, leaves the row.
-    fn leave<R: Wait, C, G>(&mut self, scene: &Scene<'_, 'a, P, R, C, G>, number: usize, life: u32)
+    fn leave<R: Wait, C, G>(&mut self, scene: &Scene<'_, P, R, C, G>, number: usize, life: u32)
         requires row { number < P.rows }
         requires ready { IsAt P.world.plan number life P.world.plan.writes self.old.half }
         ensures left { HasLeft P.world.plan number life self.new.half }
         ensures drafts { self.new.drafts ≡ self.old.drafts }
     {
-        let reopen = scene.hints.reopen(number);
-        scene.live.leave(scene.rt, number, &mut self.half, reopen);
-        scene.hints.leaves(number, life);
+        let reopen = self.shared.hints.reopen(number);
+        self.shared
+            .live
+            .leave(scene.rt, number, &mut self.half, reopen);
+        self.shared.hints.leaves(number, life);
     }
 
     // The thread of the life after this one enters the row, once no session is open on it.
     fn enter<R: Wait + Timer, C, G>(
         &mut self,
-        scene: &Scene<'_, 'a, P, R, C, G>,
+        scene: &Scene<'_, P, R, C, G>,
         number: usize,
         life: u32,
     )
@@ -133,8 +144,8 @@ impl<'a, P: World> Writer<'a, P> {
         ensures drafts { self.new.drafts ≡ self.old.drafts }
     {
         for _ in scene.rt.forever() {
-            if scene.live.enter(scene.rt, number, &mut self.half) {
-                scene.hints.enters(number, life + 1);
+            if self.shared.live.enter(scene.rt, number, &mut self.half) {
+                self.shared.hints.enters(number, life + 1);
                 return;
             }
             thread::sleep(scene.rt, Duration::from_millis(REST));
@@ -144,43 +155,38 @@ impl<'a, P: World> Writer<'a, P> {
 }
 
 // Waits until each session that was open on the row's last thread is open on the next one, or has ended.
-fn wait_for_sessions<P: World, R: Wait + Timer, C, G>(
-    scene: &Scene<'_, '_, P, R, C, G>,
-    number: usize,
-)
+fn wait_for_sessions<P: World, R: Wait + Timer>(rt: &R, hints: &Hints<P>, number: usize)
     requires { number < P.rows }
 {
-    for _ in scene.rt.forever() {
-        if !scene.hints.waits(number) {
+    for _ in rt.forever() {
+        if !hints.waits(number) {
             return;
         }
-        thread::sleep(scene.rt, Duration::from_millis(REST));
+        thread::sleep(rt, Duration::from_millis(REST));
     }
     unreachable!()
 }
 
 /// Lets each writer make its writes, in a thread of its own where one can be made.
 pub(crate) fn write_each<
+    't,
     'a,
     P: World + Send + Sync,
+    L: Link + Drop,
     R: Threads + Wait + Timer + Sync,
     C: Clock,
     G: Gate,
->(scene: &Scene<'_, 'a, P, R, C, G>, writers: &mut [Writer<'a, P>])
+>(scene: &Scene<'_, P, R, C, G>, writers: &mut [Writer<'t, 'a, P, L>])
     requires rows { length writers.old ≡ P.rows }
     requires ready { AreReady P.world.plan P.world.options.lives writers.old }
     ensures { HaveWritten P.world.plan P.world.options.lives writers.new }
 {
+    let writing = |number: usize, writer: &mut Writer<'_, '_, P, L>|
+        requires { (number < P.rows) × StandsAt P.world.plan P.world.options.lives number 0 0 0 writer.now }
+        ensures { StandsAt P.world.plan P.world.options.lives number (P.world.options.lives - 1) P.world.plan.writes P.world.options.lives writer.exit.now }
+    { writer.run(scene, number) };
     let threads = writers.len();
-    thread::for_each_mut(
-        scene.rt,
-        writers,
-        threads,
-        &|number, writer|
-            requires { (number < P.rows) × StandsAt P.world.plan P.world.options.lives number 0 0 0 writer.now }
-            ensures { StandsAt P.world.plan P.world.options.lives number (P.world.options.lives - 1) P.world.plan.writes P.world.options.lives writer.exit.now }
-        { writer.run(scene, number) },
-    );
+    thread::for_each_mut(scene.rt, writers, threads, &writing);
 }
 
 /// What all writers of a run leave once each row's last thread has made all its writes: their halves of the ties to the
@@ -193,9 +199,9 @@ pub struct Gone<'a, P: World> {
 
 /// Reads from each row how far its last thread has come, and gives what all writers leave, in memory that is there. It
 /// waits for the rows.
-pub(crate) fn give_back<'a, P: World, R: Wait, C, G>(
-    scene: &Scene<'_, 'a, P, R, C, G>,
-    writers: Vec<Writer<'a, P>>,
+pub(crate) fn give_back<'t, 'a, P: World, L: Link, R: Wait, C, G>(
+    scene: &Scene<'_, P, R, C, G>,
+    writers: Vec<Writer<'t, 'a, P, L>>,
     rows: &mut Vec<(u64, u32)>,
     halves: Vec<Right<P, Agreed<'a>>>,
 ) -> Gone<'a, P>
@@ -208,9 +214,13 @@ pub(crate) fn give_back<'a, P: World, R: Wait, C, G>(
     let mut halves = halves;
     let mut number = 0;
     for writer in writers {
-        let Writer { half, drafts: _ } = writer;
+        let Writer {
+            shared,
+            half,
+            drafts: _,
+        } = writer;
         let mut half = half;
-        let stand = scene.live.stand(scene.rt, number, &mut half);
+        let stand = shared.live.stand(scene.rt, number, &mut half);
         rows.push_reserved((stand.thread, stand.index));
         halves.push_reserved(half);
         number += 1;

@@ -35,9 +35,13 @@ impl Gate for Until {
     fn pass(&self, at: Moment) {
         let awaited = match (self.awaited, at) {
             // Any sweep that took something.
-            (Moment::Swept { session, .. }, Moment::Swept { session: other, taken }) => {
-                session == other && taken > 0
-            }
+            (
+                Moment::Swept { session, .. },
+                Moment::Swept {
+                    session: other,
+                    taken,
+                },
+            ) => { session == other && taken > 0 }
             (awaited, at) => awaited == at,
         };
         if awaited {

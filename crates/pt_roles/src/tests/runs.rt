@@ -4,8 +4,8 @@ use super::scene::{COLLECT, COLLECT_JOBS, INFO, STOP, dock, link, run, runs};
 use ep_stream::Fate;
 use pt_io::{Moment, OpenGate};
 use pt_server::ConnAnswer;
-use std::test::Fail;
 use std::collections::VecDeque;
+use std::test::Fail;
 
 #[test]
 fn nobody_comes_in(rt: HostRuntime) -> Result<(), Fail> {
@@ -32,7 +32,10 @@ fn two_sessions_get_all_of_four_threads(rt: HostRuntime) -> Result<(), Fail> {
         assert_eq!(rt; session.fate, Fate::ProgramEnd);
         assert_eq!(rt; session.marks.len(), 4);
         for mark in &session.marks {
-            assert_eq!(rt; (mark.from, mark.to, mark.taken, mark.refused), (0, 10_000, taken, 0));
+            assert_eq!(rt;
+                (mark.from, mark.to, mark.taken, mark.refused),
+                (0, 10_000, taken, 0)
+            );
         }
     }
     assert_eq!(rt; told.conns.len(), 0);
@@ -95,7 +98,10 @@ fn a_session_is_stopped_while_its_threads_write(rt: HostRuntime) -> Result<(), F
     assert!(rt; !told.conns.is_empty());
     assert_eq!(rt; told.conns[0].answer, ConnAnswer::Stopped { session: 1 });
     if told.conns.len() > 1 {
-        assert_eq!(rt; told.conns[1].answer, ConnAnswer::Error { code: 0x8000_4005 });
+        assert_eq!(rt;
+            told.conns[1].answer,
+            ConnAnswer::Error { code: 0x8000_4005 }
+        );
     }
     Ok(())
 }
@@ -111,7 +117,10 @@ fn threads_come_and_go(rt: HostRuntime) -> Result<(), Fail> {
     assert_eq!(rt; told.sessions[0].fate, Fate::ProgramEnd);
     assert_eq!(rt; told.sessions[0].marks.len(), 6);
     for mark in &told.sessions[0].marks {
-        assert_eq!(rt; (mark.from, mark.to, mark.taken, mark.refused), (0, 80, 40, 0));
+        assert_eq!(rt;
+            (mark.from, mark.to, mark.taken, mark.refused),
+            (0, 80, 40, 0)
+        );
     }
     Ok(())
 }
@@ -137,6 +146,9 @@ fn the_sixty_fifth_session_is_refused(rt: HostRuntime) -> Result<(), Fail> {
         assert_eq!(rt; session.fate, Fate::ProgramEnd);
     }
     assert_eq!(rt; told.conns.len(), 1);
-    assert_eq!(rt; told.conns[0].answer, ConnAnswer::Error { code: 0x8000_4005 });
+    assert_eq!(rt;
+        told.conns[0].answer,
+        ConnAnswer::Error { code: 0x8000_4005 }
+    );
     Ok(())
 }

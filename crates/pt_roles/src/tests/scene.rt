@@ -122,7 +122,16 @@ pub(super) fn run<R: Threads + Wait + Timer + Sync>(
     };
     let facts = facts(alloc);
     let clock = StepClock::new(100);
-    let end = run_live(rt, alloc, &plan, &asked.options, &facts, &mut dock, &clock, gate)?;
+    let end = run_live(
+        rt,
+        alloc,
+        &plan,
+        &asked.options,
+        &facts,
+        &mut dock,
+        &clock,
+        gate,
+    )?;
     let mut sessions = Vec::new(alloc);
     for session in end.sessions {
         sessions.push(Session {
