@@ -1,3 +1,6 @@
 pub mod Load
 pub mod Lists
 pub mod Lives
+pub mod Ending
+pub mod Marks
+pub mod Ends

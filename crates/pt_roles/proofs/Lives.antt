@@ -37,3 +37,15 @@ append-some (y ∷ ys) x is P = absurd (cc)
 pub drafts-some : (plan : Plan) (number lives life : ℕ) → life < lives → drafts_from plan number life (lives - life) ≢ []
 drafts-some plan number lives life few none =
     append-some _ _ (sym (drafts-next plan number lives life few) ∙ none) _
+
+-- Lists with one thing more are equal only where both parts are.
+pub snoc-same : {A : Type 0} (xs ys : List A) (x y : A) → xs ++ x ∷ [] ≡ ys ++ y ∷ [] → (xs ≡ ys) × (x ≡ y)
+snoc-same [] [] x y e = (refl, cc)
+snoc-same [] (b ∷ ys) x y e = let t : ys ++ y ∷ [] ≡ [] = cc in append-some ys y t _
+snoc-same (a ∷ xs) [] x y e = let t : xs ++ x ∷ [] ≡ [] = cc in append-some xs x t _
+snoc-same (a ∷ xs) (b ∷ ys) x y e =
+    let t : xs ++ x ∷ [] ≡ ys ++ y ∷ [] = cc in
+    let h : a ≡ b = cc in
+    let r = snoc-same xs ys x y t in
+    let s : xs ≡ ys = r.0 in
+    (cc, r.1)

@@ -1,5 +1,5 @@
 -- What a run of the sample program with its diagnostic server comes to (this project's theorem).
-use Rattle.std.specs.Prelude.{◌≡◌, ◌≢◌, ℕ, suc, ◌+◌, ◌-◌, ◌*◌, ◌<◌, ◌≤◌, ◌⊎◌, Bool, true, false, ◌&&◌, ◌==◌, List, [], ◌∷◌, ◌++◌, length, map, Option, Some, None, slice_get, Ok, IsTrue, count_by}
+use Rattle.std.specs.Prelude.{◌≡◌, ◌≢◌, ℕ, suc, ◌+◌, ◌-◌, ◌*◌, ◌<◌, ◌≤◌, ◌⊎◌, Bool, true, false, ◌&&◌, ◌||◌, ◌==◌, nat_lt, List, [], ◌∷◌, ◌++◌, length, map, Option, Some, None, slice_get, Ok, IsTrue, count_by}
 use Rattle.std.specs.List.{list_all, list_any, range_with_len, sum_by, AllByRecursion}
 use Rattle.ep_defs.specs.declared.session.Config.{Config}
 use Rattle.ep_defs.specs.declared.session.Facts.{Facts}
@@ -14,7 +14,7 @@ use Rattle.ep_guarded.specs.Tied.{AreCounted, thread_of}
 use Rattle.ep_stream.specs.declared.session.Fate.{Fate}
 use Rattle.ep_stream.specs.declared.session.Fate.TheVariants as fate
 use Rattle.ep_live_laws.specs.Streams.{IsPartOf, IsTraceOf}
-use Rattle.ep_live_laws.specs.Tracing.{AreAscending, is_fault}
+use Rattle.ep_live_laws.specs.Tracing.{AreAscending, IsOneOf, is_fault}
 use Rattle.ep_journal.specs.declared.decision.Decision.{Decision}
 use Rattle.ep_journal.specs.declared.session.Entry.{Entry}
 use Rattle.ep_journal.specs.declared.session.Stage.TheVariants as stage
@@ -39,30 +39,32 @@ pub record IsThread (world : WorldState) (thread : ℕ) : Type 0 where
   pub lives : life < world.options.lives
   pub is : thread ≡ thread_of world.plan.threads number life
 
+-- The threads of the marks.
+abbrev pub threads_in : List Marks → List ℕ
+threads_in marks = map (λ mark. mark.thread) marks
+
 -- The marks are of threads of the run, ascending, and what was taken and what was refused of each thread's writes between
 -- its opening and its closing is all that the configuration admits of them.
 pub record AreMarksOf (world : WorldState) (config : Config) (marks : List Marks) : Type 0 where
-  pub ascending : AreAscending (map (λ mark. mark.thread) marks)
+  pub ascending : AreAscending (threads_in marks)
   pub threads : AllByRecursion (λ mark. IsThread world mark.thread) marks
   pub counted : AllByRecursion (AreCounted sample (writes_of world.plan) config) marks
 
 -- One of the marks is of a thread of the row with this number.
 pub record HasRow (world : WorldState) (marks : List Marks) (number : ℕ) : Type 0 where
-  pub place : ℕ
-  pub mark : Marks
-  pub at : slice_get marks place ≡ Some mark
   pub life : ℕ
   pub lives : life < world.options.lives
-  pub is : mark.thread ≡ thread_of world.plan.threads number life
+  pub has : IsOneOf (threads_in marks) (thread_of world.plan.threads number life)
 
 -- The session was opened on a thread of each row.
 abbrev pub HasEachRow : WorldState → List Marks → Type 0
 HasEachRow world marks = (number : ℕ) → number < world.plan.threads → HasRow world marks number
 
--- The session was open on the first thread of each row from its first write on.
+-- The session was open on the first thread of each row, and on these from their first writes on.
 abbrev pub is_early : WorldState → List Marks → Bool
 is_early world marks =
-    list_all (λ number. list_any (λ mark. (mark.thread == number + 1) && (mark.from == 0)) marks) (range_with_len 0 world.plan.threads)
+    list_all (λ number. list_any (λ t. t == number + 1) (threads_in marks)) (range_with_len 0 world.plan.threads)
+    && list_all (λ mark. nat_lt world.plan.threads mark.thread || (mark.from == 0)) marks
 
 -- How many events the session took of all threads.
 abbrev pub taken_of : List Marks → ℕ

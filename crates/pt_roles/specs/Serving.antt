@@ -19,6 +19,7 @@ pub record KeepsSession (old new : StreamState) : Type 0 where
   pub conn : new.conn ≡ old.conn
   pub config : new.config ≡ old.config
   pub early : new.early ≡ old.early
+  pub gave : new.gave ≡ old.gave
 
 -- It was opened on a row, in the row's first life where that is early.
 pub record IsOpenedOnce (early : Bool) (row : ℕ) (old new : StreamState) : Type 0 where
@@ -28,6 +29,7 @@ pub record IsOpenedOnce (early : Bool) (row : ℕ) (old new : StreamState) : Typ
 
 -- Who has the session has its stream, early and open on all rows where that is known.
 pub record IsLastOf (hold : Hold) (stream : StreamState) : Type 0 where
+  pub asked : HasAsked stream.gave (request.Collect stream.config)
   pub id_is : stream.id ≡ hold.id
   pub slot_is : stream.slot ≡ hold.slot
   pub conn_is : stream.conn ≡ hold.conn
@@ -41,7 +43,7 @@ pub record IsLeftOf {L : Type 0} (gave : L → ReadSide) (sink : Sink L) (end : 
   pub config_is : session.config ≡ end.config
   pub marks_are : session.marks ≡ end.marks
   pub fate_is : session.fate ≡ end.fate
-  pub asked : HasAsked (gave session.link) (request.Collect end.sink.config)
+  pub gave_is : gave session.link ≡ gave end.sink.link
   pub tells : sink.tells_taken session.link ≡ sink.tells_taken end.sink.link
   pub taken : sink.taken session.link ≡ sink.taken end.sink.link
   pub faults : sink.write_faults session.link ≡ sink.write_faults end.sink.link

@@ -8,6 +8,8 @@ use Rattle.ep_journal.specs.declared.session.Stage.TheVariants as stage
 use Rattle.ep_journal.specs.Kept.{was_early}
 use Rattle.ep_live_laws.specs.Tracing.{is_fault}
 use Rattle.ep_registry.specs.declared.hold.Hold.{Hold}
+use Rattle.ipc_body.specs.declared.request.Request.TheVariants as request
+use Rattle.pt_server.specs.Connection.{HasAsked}
 use Rattle.pt_stream.specs.State.{IsDone, StreamState, is_complete}
 use Rattle.pt_roles.specs.Fates.{fate_as}
 use Rattle.pt_roles.specs.Ran.{is_early}
@@ -20,9 +22,10 @@ was_opened opened.No = false
 was_opened opened.Early = true
 was_opened opened.Late = true
 
--- The stream is that of the session, opened on all rows where the session was, and before any write where that is said;
+-- The stream is that of the session, whose link asked for it, opened on all rows where the session was, and before any write where that is said;
 -- each thread on which it was closed had made all its writes.
 pub record Fits (writes : ℕ → List Write) (hold : Hold) (stream : StreamState) : Type 0 where
+  pub asked : HasAsked stream.gave (request.Collect stream.config)
   pub id_is : stream.id ≡ hold.id
   pub slot_is : stream.slot ≡ hold.slot
   pub conn_is : stream.conn ≡ hold.conn

@@ -273,7 +273,8 @@ fn open<'r, 't, 'a, W: World, R: Wait + Timer, L: Link + Drop, C: Clock, G: Gate
     early: bool,
 )
     requires serves { (holder.stage ≡ stage.Serving) × (holder.opened ≡ opened.No) }
-    requires new { stream ≡ new_stream W.rows holder.id holder.slot holder.conn stream.config }
+    requires new { stream ≡ new_stream W.rows holder.id holder.slot holder.conn stream.config stream.gave }
+    requires asked { HasAsked stream.gave (request.Collect stream.config) }
     requires stands { stands.old ≡ lent_if early }
     ensures same { desk.new.decider.decisions ≡ desk.old.decider.decisions }
     ensures goes { GoesOn early desk.old.decider desk.new.decider }

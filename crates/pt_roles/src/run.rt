@@ -7,7 +7,7 @@ ghost use Rattle.ep_registry.specs.Places.{numbered};
 ghost use Rattle.ep_live.specs.Made.{AreStands};
 ghost use Rattle.pt_roles.specs.declared.exit.Exit.TheVariants as exit;
 ghost use Rattle.pt_roles.specs.Ending.{IsAllOver, has_failed};
-ghost use Rattle.pt_roles.specs.Server.{GoesOnFrom, HasServed, no_server};
+ghost use Rattle.pt_roles.specs.Server.{GoesOnFrom, HasServed, HasTurned, no_server};
 ghost use Rattle.ep_defs.specs.declared.limits.TheConstants.{THREADS as MOST_THREADS, WRITES};
 ghost use Rattle.ep_defs.specs.Session.{is_valid_facts};
 ghost use Rattle.pt_roles.specs.Ran.{IsRan};
@@ -363,11 +363,12 @@ fn run_groups<
         wait over.exit over.conns.items held.entry.dock.now result.0.dock.now over.server) }
     ensures none { IfErr result.1 (λ _. result.0.dock.now ≡ held.entry.dock.now) }
 {
+    let both = (serving, kit);
     thread::scope(
         thread::scope_env(),
         rt,
         move |scope|
-            requires { (serving.desk.decider ≡ no_server) × (serving.stands ≡ Some 0)
+            requires { (both.0.desk.decider ≡ no_server) × (both.0.stands ≡ Some 0)
                 × (D.greeting held.dock.now ≡ W.greeting) }
             ensures { (result.0.dock.ghost_name ≡ held.entry.dock.ghost_name)
                 × IfOk result.1 (λ over. HasServed D.Dock L.read_side L.write_side W.facts W.greeting
@@ -379,6 +380,7 @@ fn run_groups<
                 Ok(handle) => handle,
                 Err(_) => return (held, Err(AllocError)),
             };
+            let (serving, kit) = both;
             let (held, first, serving) = serve_first(serving, held, wait);
             let (serving, stands) = lend(serving);
             let writing = kit.ready(stands);

@@ -11,6 +11,7 @@ use Rattle.ep_defs.specs.Definitions.{AreDistinct, definition_at}
 use Rattle.ep_defs.specs.Event.{is_valid_event}
 use Rattle.ep_pool.specs.Shared.{SharedPool, SeatState}
 use Rattle.ep_stream.specs.Named.{with_marks}
+use Rattle.pt_io.specs.Sides.{ReadSide}
 use Rattle.pt_stream.specs.declared.place.Place.{Place}
 
 -- A session's stream: the session's id, its slot on each row, the connection that asked for it and its configuration; how
@@ -26,6 +27,8 @@ pub record StreamState : Type 0 where
   pub places : List Place
   pub marks : List Marks
   pub early : Bool
+  -- what its sink has given, where it is a source too
+  pub gave : ReadSide
 
 -- ---- places
 
@@ -56,8 +59,8 @@ abbrev pub first_seat : SharedPool → ℕ → SeatState
 first_seat pool seats = record { pool = pool.pool; total = pool.total; seats = seats; share = seats; taken = 0; given = 0; dry = 0 }
 
 -- A session that was just started.
-abbrev pub new_stream : ℕ → ℕ → ℕ → ℕ → Config → StreamState
-new_stream rows id slot conn config =
+abbrev pub new_stream : ℕ → ℕ → ℕ → ℕ → Config → ReadSide → StreamState
+new_stream rows id slot conn config gave =
     record {
       id = id;
       slot = slot;
@@ -67,6 +70,7 @@ new_stream rows id slot conn config =
       places = replicate rows no_place;
       marks = [];
       early = true;
+      gave = gave;
     }
 
 -- An opening in this life leaves the session an early one: it was opened on the row before, or no thread has made a write.

@@ -51,15 +51,15 @@ pub struct Stream<'a, P: Run, S: Sink> {
 
 impl<'a, P: Run, S: Sink> Model for Stream<'a, P, S> {
     ghost use Rattle.std.specs.Prelude.{◌≡◌};
-    ghost use Rattle.ep_stream.specs.Session.{rest_of};
+    ghost use Rattle.ep_stream.specs.Session.{rest_of, sink_of};
     ghost use Rattle.pt_stream.specs.Kept.{IsKept};
     ghost use Rattle.pt_stream.specs.State.{StreamState};
 
     ghost Value = { StreamState };
 
-    ghost view = { λ s. record { id = s.seat.id; slot = s.seat.slot; conn = s.seat.conn; config = (rest_of s.session).config; stands = s.stands; places = s.places.items; marks = (rest_of s.session).marks; early = s.early } };
+    ghost view = { λ s. record { id = s.seat.id; slot = s.seat.slot; conn = s.seat.conn; config = (rest_of s.session).config; stands = s.stands; places = s.places.items; marks = (rest_of s.session).marks; early = s.early; gave = S.read_side (sink_of s.session) } };
 
-    ghost invariant = { λ s. (s.rows.stands ≡ s.stands) × IsKept S.Sink P.rows P.events P.writes P.setting s.rows s.session s.openings (record { id = s.seat.id; slot = s.seat.slot; conn = s.seat.conn; config = (rest_of s.session).config; stands = s.stands; places = s.places.items; marks = (rest_of s.session).marks; early = s.early }) };
+    ghost invariant = { λ s. (s.rows.stands ≡ s.stands) × IsKept S.Sink P.rows P.events P.writes P.setting s.rows s.session s.openings (record { id = s.seat.id; slot = s.seat.slot; conn = s.seat.conn; config = (rest_of s.session).config; stands = s.stands; places = s.places.items; marks = (rest_of s.session).marks; early = s.early; gave = S.read_side (sink_of s.session) }) };
 }
 
 impl<'a, P: Run, S: Sink> Stream<'a, P, S> {
@@ -80,7 +80,7 @@ impl<'a, P: Run, S: Sink> Stream<'a, P, S> {
             → S.taken accepted.sink ++ reply.now ≡ P.setting.before accepted.id }
         requires faults { S.write_faults accepted.sink ≡ P.setting.faults accepted.id }
         ensures started { IfOk result (λ stream. stream ≡ new_stream P.rows accepted.entry.id accepted.entry.free
-            accepted.entry.conn accepted.entry.grant.now.config) }
+            accepted.entry.conn accepted.entry.grant.now.config (S.read_side accepted.entry.sink)) }
         ensures free { IfErr result (λ failed. failed.free ≡ accepted.entry.free) }
         ensures part { IfErr result (λ failed. TookStart S.tells_taken S.taken reply.now info.now
             accepted.entry.sink failed.sink) }
@@ -266,7 +266,7 @@ impl<'a, P: Run, S: Sink> Stream<'a, P, S> {
         requires complete { is_fault fate ≡ false → is_complete self ≡ true }
         requires done { fate ≡ fates.ProgramEnd → AllByRecursion (IsDone P.writes) self.marks }
         ensures ended { HasEnded S.Sink (watch_of P.rows P.events P.writes P.setting self.entry.config self.entry.id)
-            P.rows (P.setting.faults self.entry.id) self.entry fate result.0 }
+            P.rows P.setting.lives (P.setting.faults self.entry.id) self.entry fate result.0 }
         ensures left { Leaves self.entry result.1 }
     {
         for _ in rt.forever() {}
