@@ -48,6 +48,7 @@ known-more {L} id (e ∷ es) sessions entry session yes is known =
   where
     later : IsKnownAs (id + 1 + length es) entry session
     later = subst (λ (n : ℕ). IsKnownAs n entry session) (omega arith) is
+
     first : (b : Bool) (ss : List (LiveSession L)) → KnowsFirst (AreKnown (id + 1) es) id e b ss → KnowsFirst (AreKnown (id + 1) (es ++ entry ∷ [])) id e b (ss ++ session ∷ [])
     first false ss known = known-more (id + 1) es ss entry session yes later known
     first true [] known = absurd known

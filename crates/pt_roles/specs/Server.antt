@@ -1,20 +1,17 @@
 -- What a run's server keeps between two connections. All of it is this project's own.
-use Rattle.std.specs.Prelude.{◌≡◌, ℕ, ◌+◌, ◌≤◌, ◌⊎◌, Bool, true, false, List, [], length, Option, Some, None, IsTrue}
+use Rattle.std.specs.Prelude.{◌≡◌, ℕ, ◌+◌, ◌≤◌, ◌⊎◌, Bool, true, false, not, List, [], length, Option, Some, None, IsTrue}
 use Rattle.ep_journal.specs.declared.decision.Decision.{Decision}
 use Rattle.ep_journal.specs.declared.limits.TheConstants.{CONNECTIONS}
 use Rattle.ep_journal.specs.declared.session.Opened.TheVariants as opened
 use Rattle.ep_journal.specs.declared.session.Stage.TheVariants as stage
+use Rattle.ep_journal.specs.Recorded.{opened_at}
 use Rattle.ep_registry.specs.declared.hold.Hold.{Hold}
-use Rattle.ep_registry.specs.Registered.{ServerHalf}
+use Rattle.ep_registry.specs.Registered.{ServerHalf, counted_if}
 use Rattle.pt_io.specs.declared.dock.Dock.{Ghosts as Dock}
 use Rattle.pt_io.specs.Faults.{HasRisen}
 use Rattle.pt_io.specs.Sides.{ReadSide, WriteSide}
 use Rattle.ep_defs.specs.declared.session.Facts.{Facts}
 use Rattle.pt_server.specs.declared.desk.ConnEnd.{ConnEnd}
-use Rattle.nt_write.specs.declared.fault.Fault.{Fault}
-use Rattle.nt_write.specs.declared.fault.Fault.TheVariants as fault
-use Rattle.pt_server.specs.declared.unstarted.Unstarted.{Unstarted}
-use Rattle.pt_server.specs.declared.unstarted.Unstarted.TheVariants as unstarted
 use Rattle.pt_server.specs.Told.{AreTold}
 use Rattle.pt_roles.specs.declared.exit.Exit.{Exit}
 use Rattle.pt_roles.specs.declared.exit.Exit.TheVariants as exit
@@ -88,11 +85,13 @@ pub record HasServed {D L : Type 0} (dock : Dock D L) (gave : L → ReadSide) (t
   pub told : AreTold gave took facts greeting 1 half.decisions conns
   pub waited : (wait ≤ half.early) ⊎ ((is_last exit ≡ true) × (half.late ≡ 0))
 
--- ---- a start that fails
+-- ---- an opening
 
--- Why a session did not start, by whether something was written and by its fault.
-abbrev pub why_of : Bool → Fault → Unstarted
-why_of false fault = unstarted.Silent
-why_of true fault.WriteFault = unstarted.WriteFault
-why_of true fault.TooLong = unstarted.Cut
-why_of true fault.OutOfMemory = unstarted.Cut
+-- Who has a session that serves and was opened on no row.
+abbrev pub CanOpen : Hold → Type 0
+CanOpen hold = (hold.stage ≡ stage.Serving) × (hold.opened ≡ opened.No)
+
+-- The session was opened on all rows, and is counted.
+pub record HasOpened (early : Bool) (old new : ServerHalf) (was now : Hold) : Type 0 where
+  pub opened : now ≡ record was { opened = opened_at early }
+  pub counted : new ≡ record old { early = old.early + counted_if early; late = old.late + counted_if (not early) }

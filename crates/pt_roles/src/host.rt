@@ -10,11 +10,11 @@ ghost use Rattle.ep_journal.specs.declared.session.Stage.TheVariants as stage;
 ghost use Rattle.ep_journal.specs.declared.session.Opened.TheVariants as opened;
 ghost use Rattle.pt_stream.specs.State.{first_seat, is_complete, new_stream, no_place};
 ghost use Rattle.pt_roles.specs.declared.exit.Exit.TheVariants as exit;
-ghost use Rattle.pt_roles.specs.Server.{GoesOn, HasTurned, IsBegun, lent_if, why_of};
+ghost use Rattle.pt_roles.specs.Server.{GoesOn, HasTurned, IsBegun, lent_if};
 
 use crate::exit::Exit;
 use crate::held_dock::HeldDock;
-use crate::locked::Locked;
+use crate::locked::{Locked, early_at, is_full_at, open_at};
 use crate::opening::open_all;
 use crate::scene::Scene;
 use crate::shared::Shared;
@@ -27,7 +27,6 @@ use ep_pool::{Pool, PoolSeat};
 use ep_registry::{Handed, Holder, Server};
 use ep_shelf::Shelf;
 use ipc_serve::session_reply;
-use nt_write::Fault;
 use pt_io::{Arrival, Clock, Dock, Failed, Gate, Link, Moment};
 use pt_server::{Asked, Begun, ConnEnd, Desk, Process, Served, Unstarted};
 use pt_stream::{Accepted, NotStarted, Run, Stream};
@@ -74,7 +73,7 @@ pub(crate) fn serve_early<
     ensures same { held.new.dock.ghost_name ≡ held.old.dock.ghost_name }
 {
     for _ in scene.rt.forever() {
-        if desk.decider.early() >= wait {
+        if early_at(desk) >= wait {
             return Exit::Enough;
         }
         if let Some(exit) = turn(scene, shared, shelf, desk, stands, held, true) {
@@ -150,7 +149,7 @@ fn turn<
     ensures stands { stands.new ≡ stands.old }
     ensures same { held.new.dock.ghost_name ≡ held.old.dock.ghost_name }
 {
-    if desk.decider.is_full() {
+    if is_full_at(desk) {
         return Some(Exit::Full);
     }
     match held.next() {
@@ -250,14 +249,14 @@ fn begin<'r, 't, 'a, W: World, R: Wait + Timer, L: Link + Drop, C: Clock, G: Gat
             open(scene, shared, desk, stands, holder, stream, early);
         }
         Err(NotStarted { free, sink, fault }) => {
-            let why = why_unstarted(sink.wrote(), fault);
+            let (link, why) = sink.unstarted(fault);
             let begun = Begun {
                 id,
                 slot,
                 holder,
                 free,
             };
-            desk.fail(scene.gate, begun, sink.into_link(), why);
+            desk.fail(scene.gate, begun, link, why);
         }
     }
 }
@@ -283,11 +282,11 @@ fn open<'r, 't, 'a, W: World, R: Wait + Timer, L: Link + Drop, C: Clock, G: Gate
     let (stream, all) = open_lent(scene, shared, stands, stream, early);
     let mut holder = holder;
     if all {
-        desk.decider.open(&mut holder, early);
+        open_at(desk, &mut holder, early);
         let session = stream.id();
         scene.gate.pass(Moment::Opened { session });
     }
-    desk.decider.hand_over(Handed::new(holder, stream));
+    shared.hand_over(scene.rt, Handed::new(holder, stream));
 }
 
 // Opens it on all rows. Before the writers begin it is lent their halves. Answers whether it is open on all rows.
@@ -347,18 +346,5 @@ fn granted<'a, R: Wait>(
     match shelf.place(rt, Grant { config, pool }) {
         Ok(token) => Some((shelf.at(&token), seat)),
         Err(_) => None,
-    }
-}
-
-// Why a session did not start, by whether something was written and by its fault.
-fn why_unstarted(wrote: bool, fault: Fault) -> Unstarted
-    ensures { result ≡ why_of wrote fault }
-{
-    if !wrote {
-        return Unstarted::Silent;
-    }
-    match fault {
-        Fault::WriteFault => Unstarted::WriteFault,
-        Fault::OutOfMemory | Fault::TooLong => Unstarted::Cut,
     }
 }

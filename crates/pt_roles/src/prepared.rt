@@ -8,7 +8,9 @@ ghost use Rattle.ep_table.specs.declared.limits.TheConstants.{SLOTS};
 ghost use Rattle.ep_journal.specs.declared.limits.TheConstants.{CONNECTIONS};
 ghost use Rattle.pt_roles.specs.Server.{no_server};
 
-use crate::table::Table;
+use crate::hints::Hints;
+use crate::live_end::LiveSession;
+use crate::shared::Shared;
 use crate::world::{Books, RoleMarks, World};
 use ep_defs::EventDef;
 use ep_guarded::Agreed;
@@ -52,8 +54,8 @@ impl<'a> Blanks<'a> {
 /// What a run has before anybody comes in.
 #[derive(Drop)]
 pub(crate) struct Prepared<'a, W: World, L: Link> {
-    pub(crate) live: Live<'a, W>,
-    pub(crate) table: Table<'a, W, L>,
+    pub(crate) shared: Shared<'a, W, L>,
+    pub(crate) sessions: Vec<LiveSession<L>>,
     pub(crate) server: Server<Books<W>, RoleMarks<W>>,
     /// By the numbers of the roles, from 0.
     pub(crate) roles: Vec<Right<RoleMarks<W>, Mark>>,
@@ -61,6 +63,8 @@ pub(crate) struct Prepared<'a, W: World, L: Link> {
     ghost fresh: { server ≡ no_server },
     ghost roles_are: { roles.items ≡ numbered SLOTS (mark.Role W.world.options.streamers false) },
     ghost stands_are: { stands ≡ Some 0 },
+    ghost none: { sessions.items ≡ [] },
+    ghost room: { CONNECTIONS ≤ vec_capacity sessions },
 }
 
 impl<'a, W: World, L: Link + Drop> Prepared<'a, W, L> {
@@ -88,14 +92,16 @@ impl<'a, W: World, L: Link + Drop> Prepared<'a, W, L> {
             marks,
             events,
         } = blanks;
+        let hints = Hints::new(alloc, plan.threads)?;
+        let sessions = Vec::with_capacity(alloc, CONNECTIONS)?;
         let (live, stands, hands) = Live::<W>::new(alloc, rows, plan.threads, events)?;
         let free = free_slots(alloc, hands)?;
         let (table, server, roles) = parts_of(Registry::new(
             alloc, books, holds, marks, streamers, free,
         )?);
         Ok(Prepared {
-            live,
-            table,
+            shared: Shared::new(live, hints, table),
+            sessions,
             server,
             roles,
             stands: Stands::new(stands, 0),

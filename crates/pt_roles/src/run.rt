@@ -17,7 +17,6 @@ use crate::drafts::drafts_of;
 use crate::exit::Exit;
 use crate::groups::{AllLeft, AtEnd, Streaming, WritersKit};
 use crate::held_dock::HeldDock;
-use crate::hints::Hints;
 use crate::host::{LiveDesk, close, serve_early, serve_late};
 use crate::live_end::{LiveEnd, LiveSession};
 use crate::locked::Locked;
@@ -176,35 +175,17 @@ fn run_prepared<
     ensures memory { IfErr result.1 (λ _. result.0.dock.now ≡ held.entry.dock.now) }
 {
     let Prepared {
-        live,
-        table,
+        shared,
+        sessions,
         server,
         roles,
         stands,
     } = prepared;
-    let (hints, sessions) = match room(parts) {
-        Ok(room) => room,
-        Err(error) => return (held, Err(error)),
-    };
-    let shared = Shared::new(live, hints, table);
     let (held, over) = run_shared(parts, shelf, &shared, server, roles, stands, held);
     match over {
         Ok(over) => (held, Ok(end_of(shared.into_table(), over, sessions))),
         Err(error) => (held, Err(error)),
     }
-}
-
-// The hints, and memory for all sessions.
-fn room<W: World, R, L, C, G>(
-    parts: &Parts<'_, R, C, G>,
-) -> Result<(Hints<W>, Vec<LiveSession<L>>), AllocError>
-    requires { parts.now.plan.now.threads ≡ W.rows }
-    ensures none { IfOk result (λ room. room.1.items ≡ []) }
-    ensures room { IfOk result (λ room. CONNECTIONS ≤ vec_capacity room.1) }
-{
-    let hints = Hints::new(parts.alloc, parts.plan.threads)?;
-    let sessions = Vec::with_capacity(parts.alloc, CONNECTIONS)?;
-    Ok((hints, sessions))
 }
 
 // The run over what its threads share.
@@ -274,13 +255,6 @@ fn groups_of<'r, 't, 'a, W: World, R: Wait, L: Link + Drop, C, G>(
     let alloc = parts.alloc;
     let threads = parts.plan.threads as usize;
     let count = parts.options.streamers;
-    let serving = Serving {
-        scene: scene(parts),
-        shared,
-        shelf,
-        desk: Desk::new(alloc, Locked::new(parts.rt, shared, server))?,
-        stands,
-    };
     let streaming = Streaming {
         scene: scene(parts),
         streamers: streamers_of(alloc, shared, roles, count)?,
@@ -293,6 +267,14 @@ fn groups_of<'r, 't, 'a, W: World, R: Wait, L: Link + Drop, C, G>(
         writers: Vec::with_capacity(alloc, threads)?,
         rows: Vec::with_capacity(alloc, threads)?,
         halves: Vec::with_capacity(alloc, threads)?,
+    };
+    let desk = Desk::new(alloc, Locked::new(parts.rt, shared, server))?;
+    let serving = Serving {
+        scene: scene(parts),
+        shared,
+        shelf,
+        desk,
+        stands,
     };
     Ok((serving, streaming, kit))
 }

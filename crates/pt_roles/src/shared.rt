@@ -58,6 +58,11 @@ impl<'a, W: World, L: Link + Drop> Shared<'a, W, L> {
         self.table.lock(rt).take(slot)
     }
 
+    /// The session goes to its role, with its stream.
+    pub(crate) fn hand_over<R: Wait>(&self, rt: &R, held: Held<'a, W, L>) {
+        self.table.lock(rt).hand_over(held);
+    }
+
     /// Whether the session is to end, and as what.
     pub(crate) fn look<R: Wait>(&self, rt: &R, holder: &mut Holder<Holds<W>>) -> Option<Fate>
         requires { IsTrue (goes_on holder.old.stage) }

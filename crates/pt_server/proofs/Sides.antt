@@ -1,5 +1,5 @@
 -- What the sides of a link say, by what its calls say.
-use Rattle.std.proofs.Common.{◌≡◌, ◌≢◌, ℕ, ◌<◌, ◌≤◌, Bool, List, [], ◌++◌, Result, Ok, Err, IsTrue, IfOk, refl, sym, ◌∙◌, ap, subst, inl, inr, ◌⊎◌, arith}
+use Rattle.std.proofs.Common.{◌≡◌, ◌≢◌, ℕ, ◌<◌, List, [], ◌++◌, Result, Ok, Err, refl, ◌∙◌, ap, inl, inr, arith}
 use Rattle.std.proofs.lemmas.List.{append-nil}
 use Rattle.pt_io.specs.Faults.{HasRisen}
 use Rattle.pt_io.specs.Sides.{ReadSide}

@@ -1,14 +1,15 @@
 -- What all connections are told, where one is decided more.
-use Rattle.std.proofs.Common.{◌≡◌, ℕ, zero, suc, ◌+◌, ◌-◌, ◌<◌, ◌≤◌, Bool, true, false, List, [], ◌∷◌, ◌++◌, length, set, slice_get, Some, None, IsTrue, MatchBool, refl, sym, ◌∙◌, ap, subst, inl, inr, arith, length-append}
+use Rattle.std.proofs.Common.{◌≡◌, ℕ, ◌+◌, ◌-◌, ◌<◌, ◌≤◌, Bool, true, false, List, [], ◌∷◌, ◌++◌, length, MatchBool, refl, sym, ◌∙◌, ap, subst, inl, inr, arith, length-append}
 use Rattle.std.proofs.Math.Seq.{set-append_seam}
 use Rattle.std.proofs.lemmas.List.{append-nil}
-use Rattle.std.proofs.lemmas.Bool.{eqb-true}
+use Rattle.std.proofs.lemmas.Bool.{eqb-true, eq-eqb}
 use Rattle.ep_defs.specs.declared.session.Facts.{Facts}
 use Rattle.pt_io.specs.Sides.{ReadSide, WriteSide}
 use Rattle.ep_journal.specs.declared.decision.Decision.{Decision}
 use Rattle.ep_journal.specs.declared.decision.Decision.TheVariants as decision
-use Rattle.ep_journal.specs.Items.{item, with_item, passes}
-use Rattle.ep_journal.specs.Kept.{accepts, is_last}
+use Rattle.ep_journal.specs.Items.{with_item}
+use Rattle.ep_journal.proofs.Items.{item-last}
+use Rattle.ep_journal.specs.Kept.{is_last}
 use Rattle.pt_server.specs.declared.desk.ConnEnd.{ConnEnd}
 use Rattle.pt_server.specs.declared.desk.ConnAnswer.{ConnAnswer}
 use Rattle.pt_server.specs.declared.desk.ConnAnswer.TheVariants as answer
@@ -54,6 +55,12 @@ before-last (decision.Full ∷ []) id h = cc
 before-last (decision.Ticket other ∷ []) id h = cc
 before-last (decision.Refused other ∷ []) id h = cc
 before-last (d ∷ e ∷ es) id h = let more = before-last (e ∷ es) id h in (d ∷ more.0, ap (λ (xs : List Decision). d ∷ xs) more.1)
+
+-- The last decision is the one that was made last.
+pub accepted-last : (ds : List Decision) (id : ℕ) → is_last (ds ++ decision.Accepted id ∷ []) id ≡ true
+accepted-last ds id =
+    let e = item-last ds (length (ds ++ decision.Accepted id ∷ [])) (decision.Accepted id) (length-append ds (decision.Accepted id ∷ [])) in
+    rw e (eq-eqb id id refl)
 
 set-last : {A : Type 0} (front : List A) (x y : A) → with_item (front ++ x ∷ []) (length (front ++ x ∷ [])) y ≡ front ++ y ∷ []
 set-last {A} front x y =

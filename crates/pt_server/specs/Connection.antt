@@ -1,9 +1,10 @@
 -- How one connection of a diagnostic server ends: by what was decided on it, what its link gave and what its link took
 -- (the DOTNET_IPC_V1 protocol document of dotnet/diagnostics; that a connection carries one request, and which code
 -- answers which finding, is this project's profile).
-use Rattle.std.specs.Prelude.{◌≡◌, ◌≢◌, ℕ, ◌<◌, ◌++◌, ◌⊎◌, List, [], Result, Ok, Err, IsTrue}
+use Rattle.std.specs.Prelude.{◌≡◌, ◌≢◌, ℕ, Bool, ◌<◌, ◌++◌, ◌⊎◌, List, [], Ok, Err, IsTrue}
 use Rattle.ep_defs.specs.declared.session.Config.{Config}
 use Rattle.ep_defs.specs.declared.session.Facts.{Facts}
+use Rattle.ep_defs.specs.declared.session.TraceInfo.{TraceInfo}
 use Rattle.pt_io.specs.Sides.{ReadSide, WriteSide}
 use Rattle.pt_io.specs.Taken.{IsPrefix, TookPartOf}
 use Rattle.nt_write.specs.Canonical.{IsCanonical}
@@ -122,19 +123,24 @@ pub record WasLost (greeting : List ℕ) (d : Decision) (told : ConnAnswer) (gav
   pub lost : HasReadFault gave
   pub silent : Took greeting [] took
 
--- The link took a first part, or all, of a session's reply and of what begins each stream of the process.
-pub record TookStart (facts : Facts) (greeting : List ℕ) (took : WriteSide) : Type 0 where
+-- What was taken is the greeting and a first part of the reply of this session, or all of it and a first part of what
+-- begins each stream of the process.
+abbrev pub StartsWith : TraceInfo → List ℕ → ℕ → List ℕ → Type 0
+StartsWith info greeting id taken =
+    TookPartOf (session_reply id) greeting taken
+    ⊎ ((start : List ℕ) × IsCanonical info [] start × TookPartOf start (greeting ++ session_reply id) taken)
+
+-- The link took no more than a session's reply and what begins its stream, where it tells what it takes.
+pub record TookStart (info : TraceInfo) (greeting : List ℕ) (tells : Bool) (taken : List ℕ) : Type 0 where
   pub id : ℕ
-  pub start : List ℕ
-  pub begins : IsCanonical facts.info [] start
-  pub part : IsTrue took.tells → TookPartOf (session_reply id ++ start) greeting took.taken
+  pub part : IsTrue tells → StartsWith info greeting id taken
 
 -- It asked for a session, of which something was written before its start failed, by a write or for want of memory.
 pub record WasCut (facts : Facts) (greeting : List ℕ) (d : Decision) (told : ConnAnswer) (gave : ReadSide) (took : WriteSide) : Type 0 where
   pub nothing : d ≡ decision.Nothing
   pub config : Config
   pub asked : HasAsked gave (request.Collect config)
-  pub begun : TookStart facts greeting took
+  pub begun : TookStart facts.info greeting took.tells took.taken
   pub why : ((told ≡ answer.WriteFault) × (0 < took.faults)) ⊎ ((told ≡ answer.Error OUT_OF_MEMORY) × (took.faults ≡ 0))
 
 -- It ends in one of these ways.

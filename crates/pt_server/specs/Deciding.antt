@@ -1,5 +1,5 @@
 -- What is decided on a connection that asks for a session, or for the end of one (this project's profile).
-use Rattle.std.specs.Prelude.{◌≡◌, ℕ, Bool, if◌then◌else◌, Option, Some, None, List, [], ◌∷◌, ◌++◌}
+use Rattle.std.specs.Prelude.{ℕ, Bool, if◌then◌else◌, Option, Some, None, List, [], ◌∷◌, ◌++◌}
 use Rattle.ep_journal.specs.declared.decision.Decision.{Decision}
 use Rattle.ep_journal.specs.declared.decision.Decision.TheVariants as decision
 

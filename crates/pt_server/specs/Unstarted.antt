@@ -16,5 +16,5 @@ pub record HasAskedSession (gave : ReadSide) : Type 0 where
 -- Its link took nothing, or a part of the reply and the stream's start, and a write of it failed or none did.
 abbrev pub IsUnstarted : Facts → List ℕ → WriteSide → Unstarted → Type 0
 IsUnstarted facts greeting took unstarted.Silent = Took greeting [] took
-IsUnstarted facts greeting took unstarted.Cut = TookStart facts greeting took × (took.faults ≡ 0)
-IsUnstarted facts greeting took unstarted.WriteFault = TookStart facts greeting took × (0 < took.faults)
+IsUnstarted facts greeting took unstarted.Cut = TookStart facts.info greeting took.tells took.taken × (took.faults ≡ 0)
+IsUnstarted facts greeting took unstarted.WriteFault = TookStart facts.info greeting took.tells took.taken × (0 < took.faults)

@@ -2,10 +2,12 @@
 ghost use Rattle.std.specs.Prelude.{◌≡◌, ℕ, ◌+◌, ◌<◌, ◌++◌, ◌∷◌, [], length, IsTrue, IfOk, IfSome, OnSome, IfNone};
 ghost use Rattle.ep_defs.specs.Session.{is_valid_facts};
 ghost use Rattle.ep_journal.specs.declared.limits.TheConstants.{CONNECTIONS};
+ghost use Rattle.pt_server.specs.Deciding.{decided};
 ghost use Rattle.pt_server.specs.Connection.{IsFresh, Took};
 ghost use Rattle.pt_server.specs.Answered.{IsBeginning};
 ghost use Rattle.pt_server.specs.Told.{AreTold};
 ghost use Rattle.pt_server.specs.Unstarted.{HasAskedSession, IsUnstarted};
+ghost use Rattle.ep_journal.specs.declared.decision.Decision.{Decision};
 ghost use Rattle.ep_journal.specs.declared.decision.Decision.TheVariants as decision;
 ghost use Rattle.ep_journal.specs.Items.{with_item};
 ghost use Rattle.ep_journal.specs.Kept.{is_last};
@@ -95,14 +97,21 @@ impl<N: Process, H: Drop, F: Drop, D: Deciding<H, F> + Drop, L: Link + Drop> Des
             (L.write_faults link) }
         requires open { D.is_open self.old.decider }
         requires room { length (D.decisions self.old.decider) < CONNECTIONS }
-        ensures decided { length (D.decisions self.new.decider) ≡ length (D.decisions self.old.decider) + 1 }
+        ensures decides { (d : Decision)
+            × (D.decisions self.new.decider ≡ decided (D.decisions self.old.decider) d) }
+        ensures one { length (D.decisions self.new.decider)
+            ≡ length (D.decisions self.old.decider) + 1 }
         ensures same { D.same self.old.decider self.new.decider }
         ensures begins { IfSome result (λ asked. IsBeginning (D.begins self.new.decider)
-            (D.decisions self.old.decider) (D.decisions self.new.decider) (L.read_side asked.link) asked.begun asked.config) }
+            (D.decisions self.old.decider) (D.decisions self.new.decider) (L.read_side asked.link)
+            asked.begun asked.config) }
+        ensures last { IfSome result
+            (λ asked. IsTrue (is_last (D.decisions self.new.decider) asked.begun.id)) }
         ensures silent { IfSome result (λ asked. Took N.greeting [] (L.write_side asked.link)) }
         ensures conn { IfSome result (λ asked. asked.conn ≡ length (D.decisions self.new.decider)) }
-        ensures others { OnSome result (self.new.conns ≡ self.old.conns) }
-        ensures one { IfNone result ((end : ConnEnd L) × (self.new.conns ≡ self.old.conns ++ end ∷ [])) }
+        ensures goes_on { OnSome result (self.new.conns ≡ self.old.conns) }
+        ensures ended { IfNone result ((end : ConnEnd L)
+            × (self.new.conns ≡ self.old.conns ++ end ∷ [])) }
     {
         let conn = self.decided + 1;
         match answer::<N, H, F, D, L>(alloc, &mut self.decider, facts, link) {
@@ -136,9 +145,10 @@ impl<N: Process, H: Drop, F: Drop, D: Deciding<H, F> + Drop, L: Link + Drop> Des
         requires asked { HasAskedSession (L.read_side link) }
         requires why { IsUnstarted N.facts N.greeting (L.write_side link) why }
         ensures decides { D.decisions self.new.decider
-            ≡ with_item (D.decisions self.old.decider) (length (D.decisions self.old.decider)) decision.Nothing }
+            ≡ with_item (D.decisions self.old.decider) (length (D.decisions self.old.decider))
+            decision.Nothing }
         ensures same { D.same self.old.decider self.new.decider }
-        ensures one { (end : ConnEnd L) × (self.new.conns ≡ self.old.conns ++ end ∷ []) }
+        ensures ended { (end : ConnEnd L) × (self.new.conns ≡ self.old.conns ++ end ∷ []) }
     {
         let conn = self.decided;
         self.decider.fail(begun);

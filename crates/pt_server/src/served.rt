@@ -1,11 +1,14 @@
 //! The link of a session.
-ghost use Rattle.std.specs.Prelude.{◌≡◌, [], false};
+ghost use Rattle.std.specs.Prelude.{◌≡◌, ◌≢◌, ◌<◌, [], false, IsTrue};
 ghost use Rattle.ipc_body.specs.declared.request.Request.TheVariants as request;
-ghost use Rattle.pt_server.specs.Connection.{HasAsked, Took};
-ghost use Rattle.pt_server.specs.Served.{IsServed};
+ghost use Rattle.nt_write.specs.declared.fault.Fault.TheVariants.{WriteFault};
+ghost use Rattle.pt_server.specs.Connection.{HasAsked, Took, TookStart};
+ghost use Rattle.pt_server.specs.Unstarted.{HasAskedSession, IsUnstarted};
 
 use crate::process::Process;
+use crate::unstarted::Unstarted;
 use ep_defs::Config;
+use nt_write::Fault;
 use pt_io::{Failed, Link, Sink};
 use std::marker::{Model, PhantomData};
 
@@ -34,7 +37,9 @@ impl<'a, N: Process, L: Link> Served<'a, N, L> {
     pub fn new(link: L, config: &'a Config) -> Served<'a, N, L>
         requires asked { HasAsked (L.read_side link) (request.Collect config.now) }
         requires silent { Took N.greeting [] (L.write_side link) }
-        ensures { result ≡ record { link = link; config = config.now; wrote = false } }
+        ensures value { result ≡ record { link = link; config = config.now; wrote = false } }
+        ensures greeted { IsTrue (L.tells_taken link) → L.taken link ≡ N.greeting }
+        ensures sound { L.write_faults link ≡ 0 }
     {
         Served {
             link,
@@ -44,21 +49,31 @@ impl<'a, N: Process, L: Link> Served<'a, N, L> {
         }
     }
 
-    /// Whether something was written since the greeting.
-    pub fn wrote(&self) -> bool
-        ensures wrote { result ≡ self.now.wrote }
-        ensures served { IsServed N.greeting self.now.config self.now.wrote (L.read_side self.now.link)
-            (L.write_side self.now.link) }
-    {
-        self.wrote
-    }
-
     /// The link alone. It gave the request for the session.
     pub fn into_link(self) -> L
         ensures link { result ≡ self.entry.link }
         ensures asked { HasAsked (L.read_side result) (request.Collect self.entry.config) }
     {
         self.link
+    }
+
+    /// The link alone, and why its session did not start, by the fault that its stream's start told.
+    pub fn unstarted(self, fault: Fault) -> (L, Unstarted)
+        requires start { TookStart N.facts.info N.greeting (L.tells_taken self.link)
+            (L.taken self.link) }
+        requires fault { fault ≡ WriteFault → 0 < L.write_faults self.link }
+        requires sound { fault ≢ WriteFault → L.write_faults self.link ≡ 0 }
+        ensures link { result.0 ≡ self.entry.link }
+        ensures asked { HasAskedSession (L.read_side result.0) }
+        ensures why { IsUnstarted N.facts N.greeting (L.write_side result.0) result.1 }
+    {
+        if !self.wrote {
+            return (self.link, Unstarted::Silent);
+        }
+        match fault {
+            Fault::WriteFault => (self.link, Unstarted::WriteFault),
+            Fault::TooLong | Fault::OutOfMemory => (self.link, Unstarted::Cut),
+        }
     }
 
     /// Says that nothing more will be written.

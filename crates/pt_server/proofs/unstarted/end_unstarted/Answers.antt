@@ -1,4 +1,4 @@
-use Rattle.std.proofs.Common.{inl, inr, refl}
+use Rattle.std.proofs.Common.{inl, inr}
 use Rattle.ipc_serve.specs.declared.codes.TheConstants.{OUT_OF_MEMORY}
 use Rattle.pt_server.specs.declared.desk.ConnAnswer.TheVariants as answer
 use Rattle.pt_server.proofs.Sides.{asked-lacks}

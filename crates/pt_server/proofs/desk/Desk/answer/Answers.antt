@@ -1,8 +1,8 @@
-use Rattle.std.proofs.Common.{◌≡◌, ℕ, ◌+◌, ◌≤◌, ◌<◌, List, [], ◌∷◌, ◌++◌, length, ◌∙◌, ap, sym, arith, length-append}
+use Rattle.std.proofs.Common.{◌≡◌, ℕ, ◌+◌, ◌≤◌, ◌<◌, [], ◌∷◌, ◌++◌, length, ◌∙◌, ap, sym, arith, length-append}
 use Rattle.ep_journal.specs.declared.decision.Decision.TheVariants as decision
 use Rattle.ep_journal.specs.declared.limits.TheConstants.{CONNECTIONS}
 use Rattle.pt_server.specs.declared.desk.ConnEnd.{ConnEnd}
-use Rattle.pt_server.proofs.Telling.{told-more, told-session}
+use Rattle.pt_server.proofs.Telling.{told-more, told-session, accepted-last}
 use Rattle.pt_server.proofs.desk.Desk.answer.Goals as goal
 
 pub invariant_of-self : goal.invariant_of-self
@@ -48,5 +48,16 @@ invariant_of-self-in-Begins g c =
       room = k.room;
     }
 
-pub returns-in-Ended-clause-one : goal.returns-in-Ended-clause-one
-returns-in-Ended-clause-one g c = rw (← c.self.view_is) (_, c.push_reserved.ensures.items)
+pub returns-in-Ended-clause-decides : goal.returns-in-Ended-clause-decides
+returns-in-Ended-clause-decides g c = rw (← c.self.view_is) (c.in-Ended.ensures.answered.d, c.in-Ended.ensures.answered.decides)
+
+pub returns-in-Begins-clause-decides : goal.returns-in-Begins-clause-decides
+returns-in-Begins-clause-decides g c = rw (← c.self.view_is) (_, c.in-Begins.ensures.answered.0.decides)
+
+pub returns-in-Ended-clause-ended : goal.returns-in-Ended-clause-ended
+returns-in-Ended-clause-ended g c = rw (← c.self.view_is) (_, c.push_reserved.ensures.items)
+
+pub returns-in-Begins-clause-last : goal.returns-in-Begins-clause-last
+returns-in-Begins-clause-last g c =
+    let h = c.in-Begins.ensures.answered.0 in
+    rw h.decides (accepted-last (g.D.Deciding.decisions c.self.inside.decider) c.in-Begins.begun.id)

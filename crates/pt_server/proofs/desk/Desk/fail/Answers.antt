@@ -1,4 +1,4 @@
-use Rattle.std.proofs.Common.{◌≡◌, ℕ, ◌+◌, ◌-◌, ◌≤◌, ◌<◌, true, List, [], ◌∷◌, ◌++◌, length, ◌∙◌, ap, sym, arith, length-append}
+use Rattle.std.proofs.Common.{◌≡◌, ◌+◌, ◌-◌, ◌≤◌, ◌<◌, true, [], ◌∷◌, ◌++◌, length, ◌∙◌, ap, sym, arith, length-append}
 use Rattle.std.proofs.lemmas.List.{length-set}
 use Rattle.ep_journal.specs.declared.decision.Decision.TheVariants as decision
 use Rattle.ep_journal.specs.declared.limits.TheConstants.{CONNECTIONS}
@@ -42,5 +42,5 @@ invariant_of-self g c =
       room = rw c.push_reserved.ensures.capacity k.room;
     }
 
-pub returns-clause-one : goal.returns-clause-one
-returns-clause-one g c = rw (← c.self.view_is) (_, c.push_reserved.ensures.items)
+pub returns-clause-ended : goal.returns-clause-ended
+returns-clause-ended g c = rw (← c.self.view_is) (_, c.push_reserved.ensures.items)

@@ -1,5 +1,4 @@
-use Rattle.std.proofs.Common.{◌≡◌, List, [], length, ◌∙◌, ap, arith}
-use Rattle.pt_server.specs.declared.desk.ConnEnd.{ConnEnd}
+use Rattle.std.proofs.Common.{◌≡◌, [], ◌∙◌, arith}
 use Rattle.pt_server.specs.Told.{AreTold}
 use Rattle.pt_server.proofs.desk.Desk.new.Goals as goal
 
