@@ -4,3 +4,4 @@ pub mod Lives
 pub mod Ending
 pub mod Marks
 pub mod Ends
+pub mod Turning

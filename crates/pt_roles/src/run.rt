@@ -1,5 +1,5 @@
 //! A run with its server, from its first turn to its end.
-ghost use Rattle.std.specs.Prelude.{◌≡◌, ◌+◌, ◌*◌, ◌<◌, ◌≤◌, [], None, Some, false, vec_capacity, vec_len, IfOk, IfErr, IfNone, IfSome, OnErr, IsTrue};
+ghost use Rattle.std.specs.Prelude.{◌≡◌, ◌+◌, ◌*◌, ◌<◌, ◌≤◌, [], None, Some, true, false, vec_capacity, vec_len, IfOk, IfErr, IfNone, IfSome, OnErr, IsTrue};
 ghost use Rattle.ep_journal.specs.declared.limits.TheConstants.{CONNECTIONS};
 ghost use Rattle.ep_table.specs.declared.limits.TheConstants.{SLOTS};
 ghost use Rattle.ep_registry.specs.declared.server.Mark.TheVariants as mark;
@@ -15,7 +15,7 @@ ghost use Rattle.pt_roles.specs.World.{AreOptions, IsWorldOf, rows_of, world_of}
 
 use crate::drafts::drafts_of;
 use crate::exit::Exit;
-use crate::groups::{AllLeft, AtEnd, Streaming, WritersKit};
+use crate::groups::{AllLeft, AtEnd, Streaming, WritersKit, Writing};
 use crate::held_dock::HeldDock;
 use crate::host::{LiveDesk, close, serve_early, serve_late};
 use crate::live_end::{LiveEnd, LiveSession};
@@ -36,6 +36,7 @@ use ep_shelf::Shelf;
 use ep_tie::Right;
 use pt_io::{Clock, Dock, Gate, Link};
 use pt_load::Plan;
+use pt_load::laws::sample_events_are_valid;
 use pt_server::{ConnEnd, Desk};
 use std::alloc::{AllocError, Global};
 use std::marker::{Brand, PhantomData};
@@ -285,6 +286,7 @@ fn scene<'r, W: World, R, C, G>(parts: &Parts<'r, R, C, G>) -> Scene<'r, W, R, C
     requires plan { (parts.now.plan.now ≡ W.world.plan) × (parts.now.options ≡ W.world.options) }
     requires facts { (parts.now.facts.now ≡ W.world.facts) × IsTrue (is_valid_facts parts.now.facts.now) }
 {
+    sample_events_are_valid();
     Scene {
         rt: parts.rt,
         alloc: parts.alloc,
@@ -362,10 +364,7 @@ fn run_groups<
                 Ok(handle) => handle,
                 Err(_) => return (held, Err(AllocError)),
             };
-            let (serving, kit) = both;
-            let (held, first, serving) = serve_first(serving, held, wait);
-            let (serving, stands) = lend(serving);
-            let writing = kit.ready(stands);
+            let (held, first, serving, writing) = serve_until_ready(both, held, wait);
             let write = move || writing.write_all();
             let (held, exit, serving, end) = match scope.spawn(write) {
                 Ok(handle) => {
@@ -390,6 +389,46 @@ fn run_groups<
             (held, Ok(over))
         },
     )
+}
+
+// The server takes connections until the writers are to begin, and lends them the threads' halves.
+fn serve_until_ready<
+    'd,
+    'r,
+    't,
+    'a,
+    W: World,
+    R: Wait + Timer,
+    L: Link + Drop,
+    D: Dock<Link = L>,
+    C: Clock,
+    G: Gate,
+>(
+    both: (
+        Serving<'r, 't, 'a, W, R, L, C, G>,
+        WritersKit<'r, 't, 'a, W, R, L, C, G>,
+    ),
+    held: HeldDock<'d, D>,
+    wait: u32,
+) -> (
+    HeldDock<'d, D>,
+    Exit,
+    Serving<'r, 't, 'a, W, R, L, C, G>,
+    Writing<'r, 't, 'a, W, R, L, C, G>,
+)
+    requires open { both.0.desk.decider.left ≡ false }
+    requires stands { both.0.stands ≡ Some 0 }
+    requires greeting { D.greeting held.dock.now ≡ W.greeting }
+    ensures turned { HasTurned D.Dock true (Some result.1) held.entry.dock.now result.0.dock.now
+        both.entry.0.desk.decider result.2.desk.decider }
+    ensures enough { result.1 ≡ exit.Enough → wait ≤ result.2.desk.decider.early }
+    ensures stands { result.2.stands ≡ None }
+    ensures same { result.0.dock.ghost_name ≡ held.entry.dock.ghost_name }
+{
+    let (serving, kit) = both;
+    let (held, first, serving) = serve_first(serving, held, wait);
+    let (serving, stands) = lend(serving);
+    (held, first, serving, kit.ready(stands))
 }
 
 // The server takes connections until the writers are to begin.

@@ -1,5 +1,8 @@
 //! What never changes in a run.
-ghost use Rattle.std.specs.Prelude.{◌≡◌, IsTrue};
+ghost use Rattle.std.specs.Prelude.{◌≡◌, ◌≤◌, ℕ, length, IsTrue};
+ghost use Rattle.ep_defs.specs.declared.limits.TheConstants.{THREADS};
+ghost use Rattle.pt_stream.specs.State.{AreEvents};
+ghost use Rattle.pt_roles.specs.declared.limits.TheConstants.{LIVES};
 ghost use Rattle.ep_defs.specs.Session.{is_valid_facts};
 ghost use Rattle.pt_roles.specs.World.{IsWorldOf};
 
@@ -26,5 +29,9 @@ pub(crate) struct Scene<'r, W: World, R, C, G> {
     ghost is_world: { IsWorldOf W.world W.rows W.events W.writes W.setting W.facts W.greeting },
     ghost plan_is: { plan.now ≡ W.world.plan },
     ghost facts_are: { (facts.now ≡ W.world.facts) × IsTrue (is_valid_facts facts.now) },
-    ghost lives_are: { lives ≡ W.world.options.lives },
+    ghost lives_are: { (lives ≡ W.world.options.lives) × (lives ≡ W.setting.lives) × (lives ≤ LIVES) },
+    ghost rows_are: { plan.now.threads ≡ W.rows },
+    ghost few_rows: { W.rows ≤ THREADS },
+    ghost writes_are: { (thread : ℕ) → length (W.writes thread) ≡ plan.now.writes },
+    ghost events_are: { AreEvents W.events },
 }

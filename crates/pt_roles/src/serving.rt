@@ -18,6 +18,7 @@ use crate::table::{Held, Telling};
 use crate::world::{Holds, World};
 use ep_guarded::NotOpened;
 use ep_journal::Fate as Kept;
+use ep_live_laws::{a_part_is_found, a_traced_stream_is_found};
 use ep_registry::{Handed, Holder};
 use ep_stream::{Fate, SessionEnd};
 use pt_io::{Clock, Gate, Link, Moment};
@@ -213,6 +214,8 @@ fn finish<'a, W: World, R: Wait, L: Link + Drop, C: Clock, G: Gate>(
     requires done { fate ≡ fates.ProgramEnd → AllByRecursion (IsDone W.writes) stream.marks }
     requires last { IsLastOf holder stream }
 {
+    a_traced_stream_is_found();
+    a_part_is_found();
     let slot = stream.slot();
     let stamp = scene.clock.now();
     let (end, rows) = stream.end(scene.alloc, scene.rt, &shared.live, stamp, fate);
