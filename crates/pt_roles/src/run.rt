@@ -224,7 +224,7 @@ fn run_shared<
 {
     let wait = parts.options.wait;
     match groups_of(parts, shelf, shared, server, roles, stands) {
-        Ok((serving, streaming, kit)) => run_groups(parts.rt, wait, serving, streaming, kit, held),
+        Ok((front, streaming)) => run_groups(parts.rt, wait, front, streaming, held),
         Err(error) => (held, Err(error)),
     }
 }
@@ -239,9 +239,8 @@ fn groups_of<'r, 't, 'a, W: World, R: Wait, L: Link + Drop, C, G>(
     stands: Stands<'a, W>,
 ) -> Result<
     (
-        Serving<'r, 't, 'a, W, R, L, C, G>,
+        Front<'r, 't, 'a, W, R, L, C, G>,
         Streaming<'r, 't, 'a, W, R, L, C, G>,
-        WritersKit<'r, 't, 'a, W, R, L, C, G>,
     ),
     AllocError,
 >
@@ -251,7 +250,8 @@ fn groups_of<'r, 't, 'a, W: World, R: Wait, L: Link + Drop, C, G>(
     requires server { server ≡ no_server }
     requires roles { roles.items ≡ numbered SLOTS (mark.Role W.world.options.streamers false) }
     requires stands { stands ≡ Some 0 }
-    ensures { IfOk result (λ groups. (groups.0.desk.decider ≡ no_server) × (groups.0.stands ≡ Some 0)) }
+    ensures { IfOk result (λ groups. (groups.0.serving.desk.decider ≡ no_server)
+        × (groups.0.serving.stands ≡ Some 0)) }
 {
     let alloc = parts.alloc;
     let threads = parts.plan.threads as usize;
@@ -277,7 +277,7 @@ fn groups_of<'r, 't, 'a, W: World, R: Wait, L: Link + Drop, C, G>(
         desk,
         stands,
     };
-    Ok((serving, streaming, kit))
+    Ok((Front { serving, kit }, streaming))
 }
 
 // What never changes in the run.
@@ -297,6 +297,13 @@ fn scene<'r, W: World, R, C, G>(parts: &Parts<'r, R, C, G>) -> Scene<'r, W, R, C
         lives: parts.options.lives,
         name: PhantomData,
     }
+}
+
+// The server, and what the writers are made of.
+#[derive(Drop)]
+struct Front<'r, 't, 'a, W: World, R: Wait, L: Link + Drop, C, G> {
+    serving: Serving<'r, 't, 'a, W, R, L, C, G>,
+    kit: WritersKit<'r, 't, 'a, W, R, L, C, G>,
 }
 
 // The server with what it needs.
@@ -335,24 +342,22 @@ fn run_groups<
 >(
     rt: &'r R,
     wait: u32,
-    serving: Serving<'r, 't, 'a, W, R, L, C, G>,
+    front: Front<'r, 't, 'a, W, R, L, C, G>,
     streaming: Streaming<'r, 't, 'a, W, R, L, C, G>,
-    kit: WritersKit<'r, 't, 'a, W, R, L, C, G>,
     held: HeldDock<'d, D>,
 ) -> (HeldDock<'d, D>, Result<Over<W, L>, AllocError>)
-    requires server { (serving.desk.decider ≡ no_server) × (serving.stands ≡ Some 0) }
+    requires server { (front.serving.desk.decider ≡ no_server) × (front.serving.stands ≡ Some 0) }
     requires greeting { D.greeting held.dock.now ≡ W.greeting }
     ensures same { result.0.dock.ghost_name ≡ held.entry.dock.ghost_name }
     ensures served { IfOk result.1 (λ over. HasServed D.Dock L.read_side L.write_side W.facts W.greeting
         wait over.exit over.conns.items held.entry.dock.now result.0.dock.now over.server) }
     ensures none { IfErr result.1 (λ _. result.0.dock.now ≡ held.entry.dock.now) }
 {
-    let both = (serving, kit);
     thread::scope(
         thread::scope_env(),
         rt,
         move |scope|
-            requires { (both.0.desk.decider ≡ no_server) × (both.0.stands ≡ Some 0)
+            requires { (front.serving.desk.decider ≡ no_server) × (front.serving.stands ≡ Some 0)
                 × (D.greeting held.dock.now ≡ W.greeting) }
             ensures { (result.0.dock.ghost_name ≡ held.entry.dock.ghost_name)
                 × IfOk result.1 (λ over. HasServed D.Dock L.read_side L.write_side W.facts W.greeting
@@ -364,7 +369,7 @@ fn run_groups<
                 Ok(handle) => handle,
                 Err(_) => return (held, Err(AllocError)),
             };
-            let (held, first, serving, writing) = serve_until_ready(both, held, wait);
+            let (held, first, serving, writing) = serve_until_ready(front, held, wait);
             let write = move || writing.write_all();
             let (held, exit, serving, end) = match scope.spawn(write) {
                 Ok(handle) => {
@@ -404,10 +409,7 @@ fn serve_until_ready<
     C: Clock,
     G: Gate,
 >(
-    both: (
-        Serving<'r, 't, 'a, W, R, L, C, G>,
-        WritersKit<'r, 't, 'a, W, R, L, C, G>,
-    ),
+    front: Front<'r, 't, 'a, W, R, L, C, G>,
     held: HeldDock<'d, D>,
     wait: u32,
 ) -> (
@@ -416,16 +418,16 @@ fn serve_until_ready<
     Serving<'r, 't, 'a, W, R, L, C, G>,
     Writing<'r, 't, 'a, W, R, L, C, G>,
 )
-    requires open { both.0.desk.decider.left ≡ false }
-    requires stands { both.0.stands ≡ Some 0 }
+    requires open { front.serving.desk.decider.left ≡ false }
+    requires stands { front.serving.stands ≡ Some 0 }
     requires greeting { D.greeting held.dock.now ≡ W.greeting }
     ensures turned { HasTurned D.Dock true (Some result.1) held.entry.dock.now result.0.dock.now
-        both.entry.0.desk.decider result.2.desk.decider }
+        front.entry.serving.desk.decider result.2.desk.decider }
     ensures enough { result.1 ≡ exit.Enough → wait ≤ result.2.desk.decider.early }
     ensures stands { result.2.stands ≡ None }
     ensures same { result.0.dock.ghost_name ≡ held.entry.dock.ghost_name }
 {
-    let (serving, kit) = both;
+    let Front { serving, kit } = front;
     let (held, first, serving) = serve_first(serving, held, wait);
     let (serving, stands) = lend(serving);
     (held, first, serving, kit.ready(stands))

@@ -2,7 +2,7 @@
 use super::gates::Until;
 use super::scene::{COLLECT, COLLECT_JOBS, INFO, STOP, dock, link, run, runs};
 use ep_stream::Fate;
-use pt_io::{Moment, OpenGate};
+use pt_io::{MemLink, MemSink, MemSource, Moment, OpenGate};
 use pt_server::ConnAnswer;
 use std::collections::VecDeque;
 use std::test::Fail;
@@ -150,5 +150,58 @@ fn the_sixty_fifth_session_is_refused(rt: HostRuntime) -> Result<(), Fail> {
         told.conns[0].answer,
         ConnAnswer::Error { code: 0x8000_4005 }
     );
+    Ok(())
+}
+
+// The first link fails at one write after another, until it fails at none that is made.
+#[test]
+fn each_write_of_a_link_fails_in_turn(rt: HostRuntime) -> Result<(), Fail> {
+    let alloc = rt.alloc();
+    for failing in 1..100 {
+        let mut links = VecDeque::new(alloc);
+        links.push_back(link(alloc, &COLLECT, &[failing])?)?;
+        links.push_back(link(alloc, &COLLECT_JOBS, &[])?)?;
+        let told = run(&rt, alloc, runs(2, 16, 2), links, &[], &OpenGate)?;
+        assert_eq!(rt; told.rows.as_slice(), [(1, 16), (2, 16)].as_slice());
+        if failing < 3 {
+            assert_eq!(rt; told.sessions.len(), 1);
+            assert_eq!(rt; told.sessions[0].id, 2);
+            assert_eq!(rt; told.conns.len(), 1);
+            assert_eq!(rt; told.conns[0].answer, ConnAnswer::WriteFault);
+            assert_eq!(rt;
+                told.conns[0].taken.len(),
+                if failing == 1 { 0 } else { 28 }
+            );
+            continue;
+        }
+        assert_eq!(rt; told.sessions.len(), 2);
+        assert_eq!(rt; told.sessions[1].fate, Fate::ProgramEnd);
+        if told.sessions[0].fate == Fate::ProgramEnd {
+            assert!(rt; failing > 4);
+            return Ok(());
+        }
+        assert_eq!(rt; told.sessions[0].fate, Fate::LinkFault);
+    }
+    Err("each write fails")?
+}
+
+#[test]
+fn a_lost_link_is_no_session(rt: HostRuntime) -> Result<(), Fail> {
+    let alloc = rt.alloc();
+    for streamers in [1, 64] {
+        let mut asked = runs(2, 16, 1);
+        asked.options.streamers = streamers;
+        let mut links = VecDeque::new(alloc);
+        let source = MemSource::new(COLLECT.to_vec(alloc)?, 4_096, [1].to_vec(alloc)?);
+        links.push_back(MemLink::new(source, MemSink::new(Vec::new(alloc))))?;
+        links.push_back(link(alloc, &COLLECT_JOBS, &[])?)?;
+        let told = run(&rt, alloc, asked, links, &[], &OpenGate)?;
+        assert_eq!(rt; told.conns.len(), 1);
+        assert_eq!(rt; told.conns[0].answer, ConnAnswer::ReadFault);
+        assert_eq!(rt; told.conns[0].taken.len(), 0);
+        assert_eq!(rt; told.sessions.len(), 1);
+        assert_eq!(rt; told.sessions[0].id, 1);
+        assert_eq!(rt; told.sessions[0].conn, 2);
+    }
     Ok(())
 }
