@@ -3,6 +3,8 @@ use Rattle.std.specs.Prelude.{◌≡◌, ◌≢◌, ℕ, ◌≤◌, Bool, true, 
 use Rattle.std.specs.List.{AllByRecursion}
 use Rattle.ep_journal.specs.declared.limits.TheConstants.{CONNECTIONS}
 use Rattle.ep_journal.specs.declared.session.Entry.{Entry}
+use Rattle.ep_journal.specs.Kept.{is_late}
+use Rattle.ep_journal.specs.Kept as kept
 use Rattle.ep_journal.specs.Told.{AreTold}
 use Rattle.ep_live_laws.specs.Tracing.{is_fault}
 use Rattle.ep_registry.specs.Registered.{ServerHalf}
@@ -20,6 +22,14 @@ has_failed exit.Enough = false
 has_failed exit.Closed = false
 has_failed exit.Failed = true
 has_failed exit.Full = false
+
+-- What is left of these sessions, as the table knew them: each has ended as it may; at least as many were early as the table
+-- counts, and all that did not fail where it counts none later.
+pub record AreLeftOver {L : Type 0} (gave : L → ReadSide) (sink : Sink L) (world : WorldState) (entries : List Entry) (sessions : List (LiveSession L)) : Type 0 where
+  pub known : AreKnown 1 entries sessions
+  pub each : AllByRecursion (IsEnd gave sink world) sessions
+  pub early : count_by kept.is_early entries ≤ count_by (λ session. is_early world session.marks) sessions
+  pub all_early : count_by is_late entries ≡ 0 → AllByRecursion (λ session. is_fault session.fate ≡ false → is_early world session.marks ≡ true) sessions
 
 -- The sessions that the table knew in the end, beside what the server has decided.
 pub record IsAllOver {L : Type 0} (gave : L → ReadSide) (sink : Sink L) (world : WorldState) (server : ServerHalf) (sessions : List (LiveSession L)) : Type 0 where

@@ -1,16 +1,21 @@
 //! A run with its server, from its first turn to its end.
-ghost use Rattle.std.specs.Prelude.{◌≡◌, ◌+◌, ◌*◌, ◌<◌, ◌≤◌, [], None, Some, true, false, vec_capacity, vec_len, IfOk, IfErr, IfNone, IfSome, OnErr, IsTrue};
+ghost use Rattle.std.specs.Prelude.{◌≡◌, ◌+◌, ◌*◌, ◌<◌, ◌≤◌, ℕ, [], length, None, Some, true, false, vec_capacity, vec_len, IfOk, IfErr, IfNone, IfSome, OnErr, IsTrue};
 ghost use Rattle.ep_journal.specs.declared.limits.TheConstants.{CONNECTIONS};
 ghost use Rattle.ep_table.specs.declared.limits.TheConstants.{SLOTS};
 ghost use Rattle.ep_registry.specs.declared.server.Mark.TheVariants as mark;
 ghost use Rattle.ep_registry.specs.Places.{numbered};
 ghost use Rattle.ep_live.specs.Made.{AreStands};
 ghost use Rattle.pt_roles.specs.declared.exit.Exit.TheVariants as exit;
-ghost use Rattle.pt_roles.specs.Ending.{IsAllOver, has_failed};
+ghost use Rattle.pt_roles.specs.Ending.{AreLeftOver, IsAllOver, has_failed};
 ghost use Rattle.pt_roles.specs.Server.{GoesOnFrom, HasServed, HasTurned, no_server};
 ghost use Rattle.ep_defs.specs.declared.limits.TheConstants.{THREADS as MOST_THREADS, WRITES};
 ghost use Rattle.ep_defs.specs.Session.{is_valid_facts};
-ghost use Rattle.pt_roles.specs.Ran.{IsRan};
+ghost use Rattle.ep_journal.specs.declared.session.Entry.{Entry as EntryValue};
+ghost use Rattle.ep_journal.specs.Items.{item};
+ghost use Rattle.ep_journal.specs.Recorded.{goes_on};
+ghost use Rattle.ep_registry.specs.Held.{AreOver};
+ghost use Rattle.pt_roles.specs.Table.{IsOver};
+ghost use Rattle.pt_roles.specs.Ran.{IsEnd, IsRan};
 ghost use Rattle.pt_roles.specs.World.{AreOptions, IsWorldOf, rows_of, world_of};
 
 use crate::drafts::drafts_of;
@@ -25,11 +30,12 @@ use crate::prepared::{Blanks, Prepared};
 use crate::scene::Scene;
 use crate::shared::Shared;
 use crate::streamers::streamers_of;
-use crate::table::Table;
+use crate::table::{Left, Table};
 use crate::world::{Books, RoleMarks, World};
 use ep_defs::Facts;
 use ep_guarded::{Agreed, Grant};
 use ep_journal::limits::CONNECTIONS;
+use ep_journal::{Entry, Log};
 use ep_live::Stands;
 use ep_registry::{Mark, Server};
 use ep_shelf::Shelf;
@@ -367,7 +373,10 @@ fn run_groups<
             let play = move || streaming.play_all();
             let playing = match scope.spawn(play) {
                 Ok(handle) => handle,
-                Err(_) => return (held, Err(AllocError)),
+                Err(_) => {
+                    give_up(front);
+                    return (held, Err(AllocError));
+                }
             };
             let (held, first, serving, writing) = serve_until_ready(front, held, wait);
             let write = move || writing.write_all();
@@ -394,6 +403,21 @@ fn run_groups<
             (held, Ok(over))
         },
     )
+}
+
+// The server ends before it has asked the dock.
+fn give_up<'r, 't, 'a, W: World, R: Wait, L: Link + Drop, C, G>(
+    front: Front<'r, 't, 'a, W, R, L, C, G>,
+) {
+    let Front { serving, kit: _ } = front;
+    let Serving {
+        scene: _,
+        shared: _,
+        shelf: _,
+        desk,
+        stands: _,
+    } = serving;
+    let _ended = close(desk);
 }
 
 // The server takes connections until the writers are to begin, and lends them the threads' halves.
@@ -584,23 +608,56 @@ fn end_of<'a, W: World, L: Link + Drop>(
         end,
     } = over;
     let ended = table.finish(&mut server, left.roles);
-    let mut sessions = sessions;
-    let mut id = 0;
-    for place in ended.over {
-        id += 1;
-        if let Some(finished) = place {
-            let (_hold, finale) = finished.open();
-            let gone = ended.sessions.at(id).gone;
-            sessions.push_reserved(LiveSession {
-                gone,
-                ..finale.open()
-            });
-        }
-    }
+    // Both logs have room for as many items as connections, and no more.
+    let _decided = ended.decisions.len();
+    let _accepted = ended.sessions.len();
     LiveEnd {
         rows: end.rows,
-        sessions,
+        sessions: sessions_of(ended.over, &ended.sessions, sessions),
         conns,
         dock_failed: exit == Exit::Failed,
+    }
+}
+
+// What is left of the sessions, by id, in memory that is there.
+fn sessions_of<'a, W: World, L: Link + Drop>(
+    over: Vec<Option<Left<'a, W, L>>>,
+    entries: &Log<Entry>,
+    sessions: Vec<LiveSession<L>>,
+) -> Vec<LiveSession<L>>
+    requires over { AreOver over.items entries.now }
+    requires ended { (id : ℕ) (e : EntryValue) → item entries.now id ≡ Some e → goes_on e.stage ≡ false }
+    requires few { length entries.now ≤ CONNECTIONS }
+    requires none { sessions.items ≡ [] }
+    requires room { CONNECTIONS ≤ vec_capacity sessions }
+    ensures { AreLeftOver L.read_side L.Sink W.world entries.now result.items }
+{
+    let mut over = over;
+    over.truncate(CONNECTIONS);
+    let mut sessions = sessions;
+    let mut id = 0;
+    for place in over {
+        id += 1;
+        if let Some(finished) = place {
+            let gone = entries.at(id).gone;
+            sessions.push_reserved(session_with(finished, gone));
+        }
+    }
+    sessions
+}
+
+// What is left of a session, and since when it could be stopped no more.
+fn session_with<'a, W: World, L: Link + Drop>(
+    finished: Left<'a, W, L>,
+    gone: Option<u32>,
+) -> LiveSession<L>
+    ensures over { IsOver W.world finished result }
+    ensures gone { result.gone ≡ gone }
+    ensures is_end { IsEnd L.read_side L.Sink W.world result }
+{
+    let (_hold, finale) = finished.open();
+    LiveSession {
+        gone,
+        ..finale.open()
     }
 }

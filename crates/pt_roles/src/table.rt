@@ -3,7 +3,7 @@ use crate::finale::Finale;
 use crate::world::{Books, Holds, RoleMarks, World};
 use crate::writers::Gone;
 use ep_live::Free;
-use ep_registry::{Handed, Holder, Kinds, Registry};
+use ep_registry::{Finished, Handed, Kinds, Registry};
 use pt_io::Link;
 use pt_server::{Process, Served};
 use pt_stream::{Run, Stream};
@@ -48,6 +48,15 @@ pub type Table<'a, W, L> = Registry<
 /// A session with its stream.
 pub type Held<'a, W, L> = Handed<
     Holds<W>,
+    Kept,
+    Free<'a, W>,
+    Stream<'a, W, Served<'a, W, L>>,
+    Finale<W, L>,
+    Gone<'a, W>,
+>;
+
+/// A session that has ended, with what is left of it.
+pub type Left<'a, W, L> = Finished<
     Kept,
     Free<'a, W>,
     Stream<'a, W, Served<'a, W, L>>,
