@@ -9,7 +9,7 @@ same : (a b : Stand) → Some a ≡ Some b → a ≡ b
 same a b e = cc
 
 pub leave-requires-clause-all : goal.leave-requires-clause-all
-leave-requires-clause-all g c κs within x is =
+leave-requires-clause-all g c x is =
     let plan = g.P.World.world.plan in
     let thread = thread_of plan.threads c.args.number c.args.life in
     let stand = same _ x (sym c.requires.ready.stands ∙ is) in

@@ -6,7 +6,7 @@ use Rattle.ep_guarded.specs.Tied.{thread_of}
 use Rattle.pt_load.specs.Sample.{nth}
 use Rattle.pt_load.specs.Shape.{Drafted}
 use Rattle.pt_load.specs.declared.plan.Plan.{Plan}
-use Rattle.pt_roles.specs.Writers.{IsAt, drafted, drafts_from}
+use Rattle.pt_roles.specs.Writers.{IsAt, WriterState, drafted, drafts_from}
 use Rattle.pt_roles.proofs.Lives.{drafts-next, drafts-some, snoc-same}
 use Rattle.pt_roles.proofs.Load.{write-at}
 use Rattle.pt_roles.proofs.writers.Writer.write_life.Goals as goal
@@ -17,7 +17,7 @@ same a b e = cc
 pub next-draft-requires : goal.next-draft-requires
 next-draft-requires g c =
     let plan = g.P.World.world.plan in
-    λ none. drafts-some plan c.args.number g.P.World.world.options.lives c.args.life c.requires.life (sym c.requires.ready.drafts_are ∙ none)
+    λ none. drafts-some plan c.args.number g.P.World.world.options.lives c.args.life c.requires.life (sym c.requires.ready.drafts_are ∙ sym (ap (λ (w : WriterState). w.drafts) c.self.view_is) ∙ none)
 
 pub write-requires-clause-next : goal.write-requires-clause-next
 write-requires-clause-next g c κs within x is =
