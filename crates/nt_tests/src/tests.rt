@@ -1,0 +1,9 @@
+//! A module for each crate of the format.
+mod blocks;
+mod check;
+mod head;
+mod meta;
+mod object;
+mod read;
+mod stacks;
+mod write;
