@@ -1,15 +1,14 @@
 -- What one session's rows are after one of their halves changes.
 use Rattle.std.proofs.Common.{◌≡◌, ℕ, zero, suc, ◌+◌, ◌-◌, ◌*◌, ◌<◌, ◌≤◌, true, false, List, [], ◌∷◌, Option, None, Some, length, refl, ap, sym, ◌∙◌, arith}
-use Rattle.std.specs.Prelude.{◌==◌, ◌&&◌, if◌then◌else◌, slice_get, slice_set, slice_index_or}
+use Rattle.std.specs.Prelude.{◌==◌, if◌then◌else◌, slice_get, slice_set, slice_index_or}
 use Rattle.std.specs.List.{sum_by}
 use Rattle.std.specs.Option.{option_map_or}
-use Rattle.std.proofs.lemmas.Bool.{eqb-true, eqb-false, eq-eqb, ne_eqb}
-use Rattle.std.proofs.lemmas.List.{get_or-set_same, get_or-set_other, length-set}
+use Rattle.std.proofs.lemmas.Bool.{eqb-true, eq-eqb}
+use Rattle.std.proofs.lemmas.List.{length-set}
 use Rattle.std.proofs.lemmas.List.Sums.{sum_by-cons, sum_by-set}
 use Rattle.std.proofs.lemmas.Option.{slice_get_within, get_or_from_slice_get}
 use Rattle.ep_pool.specs.Shared.{SeatState}
 use Rattle.ep_slot.specs.Hand.{HandState}
-use Rattle.ep_stream.specs.Rows.{IsSetAt}
 use Rattle.ep_tie.specs.Tied.{Tied}
 use Rattle.ep_guarded.specs.declared.agreed.Agreed.{Agreed}
 use Rattle.ep_guarded.specs.declared.agreed.Agreed.TheVariants as agreed
@@ -44,49 +43,6 @@ said-there says halves own row slot y is =
       | false ↦ λ e is. absurd (none-some y is)
     ]
     refl is
-
-half-set : (halves : List (Tied Agreed)) (row : ℕ) (now : Tied Agreed) (r : ℕ) → 0 < row → row ≤ length halves → half_at (slice_set halves (row - 1) now) r ≡ (if r == row then now else half_at halves r)
-half-set halves zero now r some within = absurd (omega (arith, some))
-half-set halves (suc place) now r some within =
-    let before : suc place - 1 ≡ place = omega arith in
-    ap (λ (k : ℕ). half_at (slice_set halves k now) r) before ∙ at r
-  where
-    at : (r : ℕ) → half_at (slice_set halves place now) r ≡ (if r == suc place then now else half_at halves r)
-    at zero = ap (λ v. if v then now else half_at halves 0) (sym (ne_eqb 0 (suc place) (λ (e : 0 ≡ suc place). omega (arith, e))))
-    at (suc k) =
-        elim (suc k == suc place) as (λ v. (suc k == suc place) ≡ v → slice_index_or (slice_set halves place now) k (record { place = 0; value = None }) ≡ (if v then now else slice_index_or halves k (record { place = 0; value = None }))) [
-          | true ↦ λ e. let is = eqb-true (suc k) (suc place) e in
-              let here : k ≡ place = omega (arith, is) in
-              ap (λ (n : ℕ). slice_index_or (slice_set halves place now) n (record { place = 0; value = None })) here ∙ get_or-set_same halves place now (record { place = 0; value = None }) (omega (arith, within))
-          | false ↦ λ e. let not = eqb-false (suc k) (suc place) e in
-              get_or-set_other halves place k now (record { place = 0; value = None }) (λ (is : k ≡ place). not (ap suc is))
-        ]
-        refl
-
--- One half says something else.
-pub said-set : {A : Type 0} (says : Option Agreed → Option A) (halves : List (Tied Agreed)) (own row slot : ℕ) (now : Tied Agreed) (value : Option A) → slot ≡ own → 0 < row → row ≤ length halves → says now.value ≡ value
-    → IsSetAt row slot value (said_by says halves own) (said_by says (slice_set halves (row - 1) now) own)
-said-set {A = A} says halves own row slot now value own_is some within is r s =
-    ap (λ (half : Tied Agreed). if s == own then says half.value else None) (half-set halves row now r some within)
-    ∙ ap (λ (n : ℕ). if s == n then says (if r == row then now else half_at halves r).value else None) (sym own_is)
-    ∙ cases
-    ∙ ap (λ (n : ℕ). if (r == row) && (s == slot) then value else (if s == n then says (half_at halves r).value else None)) own_is
-  where
-    nothing : Option A
-    nothing = None
-
-    cases : (if s == slot then says (if r == row then now else half_at halves r).value else None) ≡ (if (r == row) && (s == slot) then value else (if s == slot then says (half_at halves r).value else None))
-    cases =
-        elim (s == slot) as (λ v. (if v then says (if r == row then now else half_at halves r).value else None) ≡ (if (r == row) && v then value else (if v then says (half_at halves r).value else None))) [
-          | true ↦ elim (r == row) as (λ w. says (if w then now else half_at halves r).value ≡ (if w && true then value else says (half_at halves r).value)) [
-            | true ↦ is
-            | false ↦ refl
-          ]
-          | false ↦ elim (r == row) as (λ w. nothing ≡ (if w && false then value else None)) [
-            | true ↦ refl
-            | false ↦ refl
-          ]
-        ]
 
 -- A half that stays leaves the list as it was.
 pub set-same : {A : Type 0} (xs : List A) (k : ℕ) (x : A) → slice_get xs k ≡ Some x → slice_set xs k x ≡ xs

@@ -3,5 +3,4 @@ pub mod Pushing
 pub mod Halves
 pub mod Columns
 pub mod Batches
-pub mod Configs
 pub mod Standing

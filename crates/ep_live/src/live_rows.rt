@@ -1,5 +1,5 @@
 //! The rows of one session's stream, behind locks.
-ghost use Rattle.std.specs.Prelude.{◌≡◌, ℕ, ◌+◌, ◌-◌, ◌<◌, ◌≤◌, None, Some, IsSome, IsTrue, slice_set, vec_len};
+ghost use Rattle.std.specs.Prelude.{◌≡◌, ℕ, ◌+◌, ◌-◌, ◌<◌, ◌≤◌, None, Some, IsSome, slice_set, vec_len};
 ghost use Rattle.std.specs.Option.{ForSome};
 ghost use Rattle.ep_pool.specs.Shared.{IsSeatOf};
 ghost use Rattle.ep_live.specs.Made.{AreStands};
@@ -176,6 +176,8 @@ impl<P: Program, R: Wait> RowSet for LiveRows<'_, '_, P, R> {
 
     ghost definitions = { λ _. P.events };
 
+    ghost can_attach = { λ set slot config. (slot ≡ set.slot) × (config ≡ set.grant.config) };
+
     ghost configured = { configured_in };
 
     ghost expected = { expected_in };
@@ -194,20 +196,17 @@ impl<P: Program, R: Wait> RowSet for LiveRows<'_, '_, P, R> {
         self.live.threads()
     }
 
-    /// It has the memory of its own session alone: it opens none in another slot or of another configuration, and none
-    /// where its session was opened on as many threads as one can be. It opens none on a row that has left or that serves
-    /// another life than the one in which it is expected, which `missed` tells.
+    /// It has the memory of its own session alone, and opens none where that was opened on as many threads as one can be.
+    /// It opens none on a row that has left or that serves another life than the one in which it is expected, which `missed`
+    /// tells.
     fn attach(
         &mut self,
         alloc: Global,
         row: u32,
         slot: u32,
         session: u64,
-        config: &Config,
+        _config: &Config,
     ) -> Result<Hand, AllocError> {
-        if slot != self.slot || !is_same(config, &self.grant.config) {
-            return Err(AllocError);
-        }
         if self.openings as usize == SESSION_THREADS {
             return Err(AllocError);
         }
@@ -274,10 +273,3 @@ pub fn same_tests_have_the_same_lives()
     ensures { (rows : ℕ) (old new : LiveRowsState) → 0 < rows → TestsHandsAs (tests_hand_in rows old) (tests_hand_in rows new)
         → (row : ℕ) → life_at new row ≡ life_at old row }
 {}
-
-// Says that two configurations are equal where they compare so.
-fn is_same(one: &Config, other: &Config) -> bool
-    ensures { IsTrue result → one.now ≡ other.now }
-{
-    one == other
-}

@@ -78,6 +78,15 @@ trace-unread end (inr (inl is)) other = cc
 trace-unread end (inr (inr (inl is))) other = cc
 trace-unread end (inr (inr (inr is))) other = cc
 
+-- A run that did not end for want of memory, nor with a fault of the output.
+trace-written : {X : Type 0} (end : End) → (end ≡ ends.Done) ⊎ (end ≡ ends.WriteFault) ⊎ (end ≡ ends.OutOfMemory) ⊎ (end ≡ ends.TooLong)
+    → ((end ≡ ends.Done) ⊎ (end ≡ ends.TooLong) → X) → (true ≡ false) ⊎ (end ≢ ends.OutOfMemory) → end ≢ ends.WriteFault → X
+trace-written end comes wrote (inl runs) written = absurd (cc)
+trace-written end (inl is) wrote (inr memory) written = wrote (inl is)
+trace-written end (inr (inl is)) wrote (inr memory) written = absurd (written is)
+trace-written end (inr (inr (inl is))) wrote (inr memory) written = absurd (memory is)
+trace-written end (inr (inr (inr is))) wrote (inr memory) written = wrote (inr is)
+
 client-unread : (end : End) → (end ≡ ends.Done) ⊎ (end ≡ ends.WriteFault) ⊎ (end ≡ ends.LinkFault)
     ⊎ ((code : ℕ) × (end ≡ ends.PeerError code)) ⊎ ((at : ℕ) × (end ≡ ends.BadReply at)) ⊎ (end ≡ ends.OutOfMemory) → end ≢ ends.ReadFault
 client-unread end (inl is) other = cc
@@ -111,7 +120,7 @@ comes-faults source sink caller reads takes (Some (command.Trace asked)) a end c
       read_fault = λ is. absurd (read is);
       all_read = λ _. ap source.read_faults (alone refl);
       write_fault = comes.write_fault;
-      all_written = λ runs other. absurd (cc);
+      all_written = λ memory written. trace-written end comes.ends comes.all_written memory written;
     }
 comes-faults source sink caller reads takes (Some (command.Client asked)) a end comes alone =
     let read = client-unread end comes.ends in

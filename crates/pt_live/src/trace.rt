@@ -124,6 +124,7 @@ fn run_named<
     requires ties { (parts.blank.ties ≡ P.ties) × (parts.blank.places ≡ P.rows + 128 * P.rows) }
     requires events { parts.events.items ≡ P.events }
     requires seat { parts.seat ≡ first_seat grant.now.pool (P.rows + 1) }
+    requires granted { grant.now.config ≡ parts.config }
     ensures same { result.output.ghost_name ≡ lent.entry.output.ghost_name }
     ensures traces { TracesOver O.Sink P.run lent.entry.output.now result.output.now answer.new }
 {
@@ -195,7 +196,8 @@ fn first_rows<'r, 'g, P: Run, R: Wait, C, G>(
     requires stands { stands ≡ Some 0 }
     requires count { vec_len hands ≡ P.rows * SESSIONS }
     requires hands { AreHandTies P.rows hands.items }
-    ensures { IfOk result (AreFirst P.rows) }
+    ensures first { IfOk result (AreFirst P.rows) }
+    ensures own { IfOk result (λ rows. (rows.slot ≡ 0) × (rows.grant ≡ grant.now)) }
 {
     let mut slots = free_slots(alloc, hands)?;
     let free = slots.swap_remove(SEAT.slot as usize);
@@ -226,6 +228,7 @@ fn run_over<
     requires lent { IsLentTo O.Sink P.run lent.output.ghost_name lent.output.now }
     requires asked { (info.now ≡ P.run.info) × (config ≡ P.run.config) }
     requires first { AreFirst P.rows rows }
+    requires granted { (rows.slot ≡ 0) × (rows.grant.config ≡ config) }
     ensures same { result.0.output.ghost_name ≡ lent.entry.output.ghost_name }
     ensures traces { TracesOver O.Sink P.run lent.entry.output.now result.0.output.now result.1 }
 {

@@ -3,8 +3,8 @@ use Rattle.std.specs.Prelude.{slice_index}
 use Rattle.pt_live.proofs.Firsts.{none-first}
 use Rattle.pt_live.proofs.trace.first_rows.Goals as goal
 
-pub returns : goal.returns
-returns g c =
+pub returns-clause-first : goal.returns-clause-first
+returns-clause-first g c =
     let fresh = c.new.ensures in
     record {
       count = fresh.count;
