@@ -4,3 +4,4 @@ pub mod Halves
 pub mod Columns
 pub mod Batches
 pub mod Standing
+pub mod Answering

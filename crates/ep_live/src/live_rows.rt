@@ -2,6 +2,7 @@
 ghost use Rattle.std.specs.Prelude.{◌≡◌, ℕ, ◌+◌, ◌-◌, ◌<◌, ◌≤◌, None, Some, IsSome, slice_set, vec_len};
 ghost use Rattle.std.specs.Option.{ForSome};
 ghost use Rattle.ep_pool.specs.Shared.{IsSeatOf};
+ghost use Rattle.ep_guarded.specs.Granted.{IsGrantFor};
 ghost use Rattle.ep_live.specs.Made.{AreStands};
 ghost use Rattle.ep_stream.specs.Rows.{TestsHandsAs};
 ghost use Rattle.ep_live.specs.RowSet.{LiveRowsState, AreFresh, expected_in, life_at, out_in, tests_hand_in};
@@ -50,7 +51,7 @@ impl<'r, 'a, P: Program, R: Wait> Model for LiveRows<'r, 'a, P, R> {
 
     ghost view = { λ s. record { slot = s.slot; grant = s.grant.now; halves = s.halves.items; seat = s.seat; stands = s.stands; lives = s.lives.items } };
 
-    ghost invariant = { λ s. AreRowsOfOne P.rows s.slot s.grant.now s.halves.items s.seat s.openings s.lives.items };
+    ghost invariant = { λ s. AreRowsOfOne P.rows P.events s.slot s.grant.now s.halves.items s.seat s.openings s.lives.items };
 }
 
 impl<'r, 'a, P: Program, R: Wait> LiveRows<'r, 'a, P, R> {
@@ -67,6 +68,7 @@ impl<'r, 'a, P: Program, R: Wait> LiveRows<'r, 'a, P, R> {
         lives: Vec<u32>,
     ) -> LiveRows<'r, 'a, P, R>
         requires seat { seat ≡ record { pool = grant.now.pool.pool; total = grant.now.pool.total; seats = P.rows + 1; share = P.rows + 1; taken = 0; given = 0; dry = 0 } }
+        requires admitted { IsGrantFor P.events grant.now }
         requires lives { vec_len lives ≡ P.rows }
         ensures { AreFresh P.rows free.entry grant.now seat stands.entry lives.items result }
     {

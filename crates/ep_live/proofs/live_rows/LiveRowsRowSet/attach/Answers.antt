@@ -17,7 +17,7 @@ open-requires-clause-place g c =
     let count : length halves ≡ length c.args.self.now.halves = ap (λ (v : LiveRowsState). length v.halves) c.self.view_is in
     let at = slice_get_read halves _ (c.args.row - 1) c.index_mut.result.now refl (omega (arith, count, c.requires.row)) c.index_mut.ensures.value in
     (c.self.invariant.halves_are (c.args.row - 1) c.index_mut.result.now at).place
-    ∙ ap (λ (slot : ℕ). hand_place g.P.Program.rows (buffer_number (c.args.row - 1) slot)) (c.requires.can_attach.0 ∙ sym (ap (λ (v : LiveRowsState). v.slot) c.self.view_is))
+    ∙ ap (λ (slot : ℕ). hand_place g.P.Program.rows (buffer_number (c.args.row - 1) slot)) (ap (λ (v : LiveRowsState). v.slot) c.self.view_is ∙ sym c.requires.can_attach.0)
 
 pub open-requires-clause-share : goal.open-requires-clause-share
 open-requires-clause-share g c =
@@ -45,7 +45,7 @@ invariant_of-self g c =
     let none = ap (λ h. h.stolen) opened.hand_is in
     let share = ap (λ s. s.share) opened.seat_is in
     let taken = ap (λ s. s.taken) opened.seat_is in
-    rows-changed _ _ _ halves c.self.inside.seat c.open.new.seat c.self.inside.openings (c.self.inside.openings + 1) (c.args.row - 1) _ half c.open.new.half c.self.invariant at
+    rows-changed _ _ _ _ halves c.self.inside.seat c.open.new.seat c.self.inside.openings (c.self.inside.openings + 1) (c.args.row - 1) _ half c.open.new.half c.self.invariant at
     c.in-Ok.ensures.place
     (λ grant is. same grant c.self.inside.grant.now (sym is ∙ opened.grant_is))
     (omega (arith, now, none)) (ap (λ s. s.pool) opened.seat_is) (ap (λ s. s.total) opened.seat_is) (ap (λ s. s.seats) opened.seat_is)
