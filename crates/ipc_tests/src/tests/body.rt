@@ -37,7 +37,7 @@ fn requests_are_put_as_they_stand_on_a_connection(rt: HostRuntime) -> Result<(),
         megabytes: 1,
         rules: rules.as_slice(),
     };
-    let size = crate::collect_size(&asked);
+    let size = ipc_body::collect_size(&asked);
     assert_eq!(rt; size, Some(57));
     if size.is_none() {
         return Ok(());
