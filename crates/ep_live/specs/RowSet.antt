@@ -42,7 +42,8 @@ hands_in half = option_map_or (λ hand. 1) (hand_in half.value) 0
 -- ---- the row set of one session
 
 -- The rows of one session: its slot, what it was granted, the halves of its hands by row, its pool's seat, how many writes
--- each thread has begun, while the set has the halves of all threads, and the life in which it expects each row.
+-- each thread has begun, while the set has the halves of all threads, the life in which it expects each row, and how many
+-- writes the threads are to have begun where the session is closed, if that is asked.
 pub record LiveRowsState : Type 0 where
   pub slot : ℕ
   pub grant : Grant
@@ -50,6 +51,7 @@ pub record LiveRowsState : Type 0 where
   pub seat : SeatState
   pub stands : Option ℕ
   pub lives : List ℕ
+  pub ends : Option ℕ
 
 -- The life in which a row is expected, the first being row 1.
 abbrev pub life_at : LiveRowsState → ℕ → ℕ
@@ -74,10 +76,11 @@ tests_hand_in rows set row hand =
     (hand.thread ≡ thread_of rows (row - 1) (life_at set row)) × ForSome set.stands (λ index. hand.from ≡ index)
 
 -- Marks pass that count all that the session gets, and while the threads' halves are here, those that end where the thread
--- stands.
+-- stands; else those that end where it was asked, if it was.
 abbrev pub tests_marks_in : List EventDef → (ℕ → List Write) → LiveRowsState → Config → Marks → Type 0
 tests_marks_in events writes set config marks =
     AreCounted events writes config marks × ForSome set.stands (λ index. marks.to ≡ index)
+    × (set.stands ≡ None → ForSome set.ends (λ index. marks.to ≡ index))
 
 -- ---- what holds at any time
 

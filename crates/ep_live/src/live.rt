@@ -34,6 +34,7 @@ use std::alloc::{AllocError, Global};
 use std::marker::{Model, PhantomData};
 use std::sync::Wait;
 use std::sync::atomic::{AtomicU64, Ordering};
+use std::thread;
 
 /// Under each number stands the row with this number, which is not in a write.
 pub struct RowsByNumber<P> {
@@ -454,6 +455,80 @@ impl<'a, P: Program> Live<'a, P> {
         self.buffers.put(buffer_held, buffer);
         self.rows.put(row_held, row);
         closed
+    }
+
+    /// The same once the row's thread has begun so many writes, for which it waits too.
+    pub(crate) fn close_last<R: Wait>(
+        &self,
+        rt: &R,
+        number: usize,
+        slot: u32,
+        life: u32,
+        writes: u32,
+        half: &mut Right<P, Agreed<'a>>,
+        hand: Hand,
+        seat: &mut PoolSeat,
+    ) -> (Batch, Marks)
+        requires row { number < P.rows }
+        requires slot { slot < SESSIONS }
+        requires place { half.old.place ≡ hand_place P.rows (buffer_number number slot) }
+        requires hand { hand_in half.old.value ≡ Some hand }
+        requires seat { ForSome (grant_in half.old.value) (λ grant. IsSeatOf grant.pool seat.old) }
+        requires few { seat.old.taken + WRITES < SEAT_COUNTS }
+        requires few_given { seat.old.given < SEAT_COUNTS }
+        ensures closes { Closes P.events P.writes half.old.value hand result.0.chain result.0.last result.1
+            seat.old seat.new }
+        ensures to { result.1.to ≡ writes }
+        ensures half { half.new.value ≡ Some agreed.Nothing }
+        ensures place { half.new.place ≡ half.old.place }
+    {
+        let mut hand = hand;
+        for _ in rt.forever() {
+            hand = match self.close_done(rt, number, slot, life, writes, half, hand, seat) {
+                Ok(closed) => return closed,
+                Err(back) => back,
+            };
+            thread::yield_now();
+        }
+        unreachable!()
+    }
+
+    /// Closes the session as `close` does, or, where it is to end once the row's thread has begun so many writes and the
+    /// threads' halves are not lent, as `close_last` does.
+    pub(crate) fn close_by<R: Wait>(
+        &self,
+        rt: &R,
+        number: usize,
+        slot: u32,
+        life: u32,
+        ends: Option<u32>,
+        half: &mut Right<P, Agreed<'a>>,
+        stands: &mut Stands<'a, P>,
+        hand: Hand,
+        seat: &mut PoolSeat,
+    ) -> (Batch, Marks)
+        requires row { number < P.rows }
+        requires slot { slot < SESSIONS }
+        requires place { half.old.place ≡ hand_place P.rows (buffer_number number slot) }
+        requires hand { hand_in half.old.value ≡ Some hand }
+        requires seat { ForSome (grant_in half.old.value) (λ grant. IsSeatOf grant.pool seat.old) }
+        requires few { seat.old.taken + WRITES < SEAT_COUNTS }
+        requires few_given { seat.old.given < SEAT_COUNTS }
+        ensures closes { Closes P.events P.writes half.old.value hand result.0.chain result.0.last result.1
+            seat.old seat.new }
+        ensures to { ForSome stands.old (λ index. result.1.to ≡ index) }
+        ensures ends { stands.old ≡ None → ForSome ends (λ writes. result.1.to ≡ writes) }
+        ensures half { half.new.value ≡ Some agreed.Nothing }
+        ensures place { half.new.place ≡ half.old.place }
+        ensures stands { stands.new ≡ stands.old }
+    {
+        let Some(writes) = ends else {
+            return self.close(rt, number, slot, half, stands, hand, seat);
+        };
+        if stands.are_here() {
+            return self.close(rt, number, slot, half, stands, hand, seat);
+        }
+        self.close_last(rt, number, slot, life, writes, half, hand, seat)
     }
 
     /// Takes all that is pending in a slot of the row with this number, with the session's hand and its half of the tie. It

@@ -40,6 +40,8 @@ pub struct LiveRows<'r, 'a, P: Program, R: Wait> {
     pub(crate) stands: Stands<'a, P>,
     // By row.
     pub(crate) lives: Vec<u32>,
+    // How many writes the threads are to have begun where the session is closed, if that is asked.
+    pub(crate) ends: Option<u32>,
     // Whether the last opening found the row away.
     pub(crate) missed: bool,
 }
@@ -49,7 +51,7 @@ impl<'r, 'a, P: Program, R: Wait> Model for LiveRows<'r, 'a, P, R> {
 
     ghost Value = { LiveRowsState };
 
-    ghost view = { λ s. record { slot = s.slot; grant = s.grant.now; halves = s.halves.items; seat = s.seat; stands = s.stands; lives = s.lives.items } };
+    ghost view = { λ s. record { slot = s.slot; grant = s.grant.now; halves = s.halves.items; seat = s.seat; stands = s.stands; lives = s.lives.items; ends = s.ends } };
 
     ghost invariant = { λ s. AreRowsOfOne P.rows P.events s.slot s.grant.now s.halves.items s.seat s.openings s.lives.items };
 }
@@ -83,6 +85,7 @@ impl<'r, 'a, P: Program, R: Wait> LiveRows<'r, 'a, P, R> {
             openings: 0,
             stands,
             lives,
+            ends: None,
             missed: false,
         }
     }
@@ -99,6 +102,7 @@ impl<'r, 'a, P: Program, R: Wait> LiveRows<'r, 'a, P, R> {
             openings,
             stands,
             lives,
+            ends,
             rt: _,
             live: _,
             missed: _,
@@ -111,15 +115,24 @@ impl<'r, 'a, P: Program, R: Wait> LiveRows<'r, 'a, P, R> {
             openings,
             stands,
             lives,
+            ends,
         }
     }
 
     /// Expects a row, the first being row 1, in this life.
     pub fn expect(&mut self, row: u32, life: u32)
         requires { (0 < row) × (row ≤ P.rows) }
-        ensures { self.new ≡ record self.old { lives = slice_set self.old.lives (row - 1) life } }
+        ensures set { self.new ≡ record self.old { lives = slice_set self.old.lives (row - 1) life } }
+        ensures expected { life_at self.new row ≡ life }
     {
         self.lives[row as usize - 1] = life;
+    }
+
+    /// Where it is asked, a closing waits until the row's thread has begun so many writes, unless the threads' halves are here.
+    pub fn close_at(&mut self, ends: Option<u32>)
+        ensures { self.new ≡ record self.old { ends = ends } }
+    {
+        self.ends = ends;
     }
 
     /// Whether the last opening that was refused found the row in another life, or left by its thread. It is a hint.
@@ -244,10 +257,12 @@ impl<P: Program, R: Wait> RowSet for LiveRows<'_, '_, P, R> {
 
     fn detach(&mut self, row: u32, slot: u32, hand: Hand) -> (Batch, Marks) {
         let number = row as usize - 1;
-        self.live.close(
+        self.live.close_by(
             self.rt,
             number,
             slot,
+            self.lives[number],
+            self.ends,
             &mut self.halves[number],
             &mut self.stands,
             hand,

@@ -21,6 +21,7 @@ pub struct Parked<'a, P: Program> {
     pub(crate) openings: u32,
     pub(crate) stands: Stands<'a, P>,
     pub(crate) lives: Vec<u32>,
+    pub(crate) ends: Option<u32>,
 }
 
 impl<'a, P: Program> Model for Parked<'a, P> {
@@ -28,7 +29,7 @@ impl<'a, P: Program> Model for Parked<'a, P> {
 
     ghost Value = { LiveRowsState };
 
-    ghost view = { λ s. record { slot = s.slot; grant = s.grant.now; halves = s.halves.items; seat = s.seat; stands = s.stands; lives = s.lives.items } };
+    ghost view = { λ s. record { slot = s.slot; grant = s.grant.now; halves = s.halves.items; seat = s.seat; stands = s.stands; lives = s.lives.items; ends = s.ends } };
 
     ghost invariant = { λ s. AreRowsOfOne P.rows P.events s.slot s.grant.now s.halves.items s.seat s.openings s.lives.items };
 }
@@ -46,6 +47,7 @@ impl<'a, P: Program> Parked<'a, P> {
             openings,
             stands,
             lives,
+            ends,
         } = self;
         LiveRows {
             rt,
@@ -57,6 +59,7 @@ impl<'a, P: Program> Parked<'a, P> {
             openings,
             stands,
             lives,
+            ends,
             missed: false,
         }
     }

@@ -1,5 +1,5 @@
 //! The threads' halves of the ties to their rows, while nobody writes.
-ghost use Rattle.std.specs.Prelude.{◌≡◌, ◌<◌, None, Some, IsSome, vec_len};
+ghost use Rattle.std.specs.Prelude.{◌≡◌, ◌↔◌, ◌<◌, None, Some, IsSome, IsTrue, vec_len};
 ghost use Rattle.std.specs.Option.{ForSome};
 ghost use Rattle.ep_live.specs.Made.{AreStands};
 
@@ -49,6 +49,13 @@ impl<'a, P: Program> Stands<'a, P> {
             halves: Vec::new(alloc),
             index: None,
         }
+    }
+
+    /// Whether the halves are here.
+    pub(crate) fn are_here(&self) -> bool
+        ensures { IsTrue result ↔ IsSome self.now }
+    {
+        self.index.is_some()
     }
 
     /// Lends the halves to those that write, by row. It takes no memory.

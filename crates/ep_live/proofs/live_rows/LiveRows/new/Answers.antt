@@ -1,4 +1,4 @@
-use Rattle.std.proofs.Common.{◌∙◌, ℕ, ap, sym, subst}
+use Rattle.std.proofs.Common.{◌∙◌, ℕ, None, ap, sym, subst}
 use Rattle.ep_pool.specs.Shared.{SeatState}
 use Rattle.ep_live.specs.RowSet.{LiveRowsState, AreFresh}
 use Rattle.ep_live.proofs.Halves.{rows-fresh, are-fresh}
@@ -9,6 +9,6 @@ invariant_of-result g c = rows-fresh _ _ _ _ _ _ _ c.free.invariant (sym c.args.
 
 pub returns : goal.returns
 returns g c =
-    let set : LiveRowsState = record { slot = c.free.inside.slot; grant = c.args.grant.now; halves = c.free.inside.halves.items; seat = c.args.seat; stands = c.args.stands; lives = c.args.lives.items } in
+    let set : LiveRowsState = record { slot = c.free.inside.slot; grant = c.args.grant.now; halves = c.free.inside.halves.items; seat = c.args.seat; stands = c.args.stands; lives = c.args.lives.items; ends = None } in
     subst (λ (slot : ℕ). AreFresh g.P.Program.rows slot c.args.grant.now c.args.seat c.args.stands c.args.lives.items set) c.free.view_is
     (are-fresh g.P.Program.rows set c.free.invariant (ap (λ (s : SeatState). s.taken) c.requires.seat))

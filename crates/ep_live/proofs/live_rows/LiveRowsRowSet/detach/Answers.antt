@@ -11,8 +11,8 @@ use Rattle.ep_live.proofs.Halves.{said-there, said-own, half-is, held-grant, cou
 use Rattle.ep_live.proofs.Batches.{is-batch}
 use Rattle.ep_live.proofs.live_rows.LiveRowsRowSet.detach.Goals as goal
 
-pub close-requires-clause-place : goal.close-requires-clause-place
-close-requires-clause-place g c =
+pub close_by-requires-clause-place : goal.close_by-requires-clause-place
+close_by-requires-clause-place g c =
     let halves = c.self.inside.halves.items in
     let count : length halves ≡ length c.args.self.now.halves = ap (λ (v : LiveRowsState). length v.halves) c.self.view_is in
     let at = slice_get_read halves _ (c.args.row - 1) c.index_mut.result.now refl (omega (arith, count, c.requires.row)) c.index_mut.ensures.value in
@@ -20,16 +20,16 @@ close-requires-clause-place g c =
     (c.self.invariant.halves_are (c.args.row - 1) c.index_mut.result.now at).place
     ∙ ap (λ (slot : ℕ). hand_place g.P.Program.rows (buffer_number (c.args.row - 1) slot)) (sym own)
 
-pub close-requires-clause-seat : goal.close-requires-clause-seat
-close-requires-clause-seat g c grant is =
+pub close_by-requires-clause-seat : goal.close_by-requires-clause-seat
+close_by-requires-clause-seat g c grant is =
     let halves = c.self.inside.halves.items in
     let count : length halves ≡ length c.args.self.now.halves = ap (λ (v : LiveRowsState). length v.halves) c.self.view_is in
     let at = slice_get_read halves _ (c.args.row - 1) c.index_mut.result.now refl (omega (arith, count, c.requires.row)) c.index_mut.ensures.value in
     let granted = sym ((c.self.invariant.halves_are (c.args.row - 1) c.index_mut.result.now at).granted grant is) in
     (c.self.invariant.seat_is.0 ∙ ap (λ (g : Grant). g.pool.pool) granted, c.self.invariant.seat_is.1 ∙ ap (λ (g : Grant). g.pool.total) granted)
 
-pub close-requires-clause-few_given : goal.close-requires-clause-few_given
-close-requires-clause-few_given g c =
+pub close_by-requires-clause-few_given : goal.close_by-requires-clause-few_given
+close_by-requires-clause-few_given g c =
     let few = few-given _ _ _ _ c.self.inside.halves.items c.self.inside.seat c.self.inside.openings _ c.self.invariant in
     omega (arith, few, c.self.invariant.given)
 
@@ -43,15 +43,15 @@ invariant_of-self g c =
     let own = said-there hand_in halves c.self.inside.slot c.args.row c.args.slot _ expected in
     let hand_is = ap (λ h. hand_in h.value) (sym (half-is halves c.args.row half c.requires.row.0 at)) ∙ sym (said-own hand_in halves c.self.inside.slot c.args.row c.args.slot own) ∙ expected in
     let was = counts half c.args.hand hand_is in
-    let none : hand_in c.close.new.half.value ≡ None = ap hand_in c.close.ensures.half in
-    let now = counts-none c.close.new.half none in
-    let seat = c.close.ensures.closes.seat_is in
+    let none : hand_in c.close_by.new.half.value ≡ None = ap hand_in c.close_by.ensures.half in
+    let now = counts-none c.close_by.new.half none in
+    let seat = c.close_by.ensures.closes.seat_is in
     let share = ap (λ s. s.share) seat in
     let taken = ap (λ s. s.taken) seat in
-    let few : c.args.hand.stolen + length c.close.result.0.chain ≤ 4000000000 = c.close.ensures.closes.few in
-    rows-changed _ _ _ _ halves c.self.inside.seat c.close.new.seat c.self.inside.openings c.self.inside.openings (c.args.row - 1) _ half c.close.new.half c.self.invariant at
-    c.close.ensures.place
-    (λ grant is. absurd (no_grant grant (sym (ap grant_in c.close.ensures.half) ∙ is)))
+    let few : c.args.hand.stolen + length c.close_by.result.0.chain ≤ 4000000000 = c.close_by.ensures.closes.few in
+    rows-changed _ _ _ _ halves c.self.inside.seat c.close_by.new.seat c.self.inside.openings c.self.inside.openings (c.args.row - 1) _ half c.close_by.new.half c.self.invariant at
+    c.close_by.ensures.place
+    (λ grant is. absurd (no_grant grant (sym (ap grant_in c.close_by.ensures.half) ∙ is)))
     (omega (arith, now)) (ap (λ s. s.pool) seat) (ap (λ s. s.total) seat) (ap (λ s. s.seats) seat)
     (omega (arith, was, now, share)) (ap (λ s. s.given) seat) (omega (arith, was, now, taken)) (omega (arith, was, now, taken, few)) c.self.invariant.few
   where
@@ -68,7 +68,7 @@ returns-clause-batch g c =
     let own = said-there hand_in halves c.self.inside.slot c.args.row c.args.slot _ expected in
     let hand_is = ap (λ h. hand_in h.value) (sym (half-is halves c.args.row half c.requires.row.0 at)) ∙ sym (said-own hand_in halves c.self.inside.slot c.args.row c.args.slot own) ∙ expected in
     let held = held-grant half.value c.args.hand hand_is in
-    is-batch _ held.0.config _ c.args.hand _ _ c.close.ensures.closes.taken (c.close.ensures.closes.numbered held.0 held.1)
+    is-batch _ held.0.config _ c.args.hand _ _ c.close_by.ensures.closes.taken (c.close_by.ensures.closes.numbered held.0 held.1)
 
 pub returns-clause-tested_marks : goal.returns-clause-tested_marks
 returns-clause-tested_marks g c config is =
@@ -83,9 +83,10 @@ returns-clause-tested_marks g c config is =
     let held = held-grant half.value c.args.hand hand_is in
     let configured = ap (λ (v : LiveRowsState). configured_in v c.args.row c.args.slot) c.self.view_is ∙ is in
     let config_is = ap (λ h. config_in h.value) (sym here) ∙ sym (said-own config_in halves c.self.inside.slot c.args.row c.args.slot own) ∙ configured in (
-      subst (λ (x : Config). AreCounted g.P.Program.events g.P.Program.writes x c.close.result.1) (same held.0.config config (sym (ap (λ (o : Option Grant). option_map (λ g. g.config) o) held.1) ∙ config_is))
-          (c.close.ensures.closes.counted held.0 held.1),
-      λ index here. c.close.ensures.to index (ap (λ (v : LiveRowsState). v.stands) c.self.view_is ∙ here),
+      subst (λ (x : Config). AreCounted g.P.Program.events g.P.Program.writes x c.close_by.result.1) (same held.0.config config (sym (ap (λ (o : Option Grant). option_map (λ g. g.config) o) held.1) ∙ config_is))
+          (c.close_by.ensures.closes.counted held.0 held.1),
+      λ index here. c.close_by.ensures.to index (ap (λ (v : LiveRowsState). v.stands) c.self.view_is ∙ here),
+      λ none index here. c.close_by.ensures.ends (ap (λ (v : LiveRowsState). v.stands) c.self.view_is ∙ none) index (ap (λ (v : LiveRowsState). v.ends) c.self.view_is ∙ here),
     )
   where
     same : (a b : Config) → Some a ≡ Some b → a ≡ b
@@ -101,14 +102,14 @@ returns-clause-out g c s =
     let own = said-there hand_in halves c.self.inside.slot c.args.row c.args.slot _ expected in
     let hand_is = ap (λ h. hand_in h.value) (sym (half-is halves c.args.row half c.requires.row.0 at)) ∙ sym (said-own hand_in halves c.self.inside.slot c.args.row c.args.slot own) ∙ expected in
     let was = counts half c.args.hand hand_is in
-    let none : hand_in c.close.new.half.value ≡ None = ap hand_in c.close.ensures.half in
-    let now = counts-none c.close.new.half none in
-    let seat = c.close.ensures.closes.seat_is in
+    let none : hand_in c.close_by.new.half.value ≡ None = ap hand_in c.close_by.ensures.half in
+    let now = counts-none c.close_by.new.half none in
+    let seat = c.close_by.ensures.closes.seat_is in
     let taken = ap (λ s. s.taken) seat in
     let given = ap (λ s. s.given) seat in
-    let chunks = sum-set stolen_in halves (c.args.row - 1) half c.close.new.half at in
-    let more : ℕ = length c.close.result.0.chain in
-    let all : sum_by stolen_in (slice_set halves (c.args.row - 1) c.close.new.half) + c.close.new.seat.taken - c.close.new.seat.given ≡ sum_by stolen_in halves + c.self.inside.seat.taken - c.self.inside.seat.given + more =
+    let chunks = sum-set stolen_in halves (c.args.row - 1) half c.close_by.new.half at in
+    let more : ℕ = length c.close_by.result.0.chain in
+    let all : sum_by stolen_in (slice_set halves (c.args.row - 1) c.close_by.new.half) + c.close_by.new.seat.taken - c.close_by.new.seat.given ≡ sum_by stolen_in halves + c.self.inside.seat.taken - c.self.inside.seat.given + more =
     omega (arith, was, now, taken, given, chunks, c.self.invariant.given)
     in
     out-more c.self.inside.slot c.args.slot s _ _ more own all

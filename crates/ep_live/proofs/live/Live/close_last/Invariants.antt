@@ -1,0 +1,11 @@
+use Rattle.std.proofs.Common.{◌≡◌}
+use Rattle.ep_live.proofs.live.Live.close_last.Given as goal
+
+-- it is as it was
+abbrev pub invariant-loop : goal.invariant-loop
+invariant-loop g l =
+    record {
+      hand : l.hand ≡ l.initial.hand;
+      half : l.half ≡ l.initial.half;
+      seat : l.seat ≡ l.initial.seat;
+    }
