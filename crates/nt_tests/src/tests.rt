@@ -6,4 +6,3 @@ mod meta;
 mod object;
 mod read;
 mod stacks;
-mod write;

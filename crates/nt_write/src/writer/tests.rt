@@ -2,7 +2,7 @@
 ghost use Rattle.std.specs.Prelude.{◌≡◌, ◌<◌, ◌≤◌, [], ◌∷◌, length, IsTrue, IfOk};
 ghost use Rattle.ep_defs.specs.Event.{is_valid_event};
 
-use nt_write::{EventOut, Fault, TraceWriter};
+use crate::{EventOut, Fault, TraceWriter};
 use ep_defs::{EventDef, Items, Units, standard_info};
 use pt_io::MemSink;
 use std::alloc::{AllocError, Global};
