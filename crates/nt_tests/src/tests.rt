@@ -1,4 +1,4 @@
-//! A module for each crate of the format.
+//! A module for each crate of the format below its writer.
 mod blocks;
 mod check;
 mod head;
