@@ -5,3 +5,6 @@ mod SessionWords
 mod TraceRows
 mod TraceWalk
 mod TraceWords
+mod OptionsTold
+mod RunWalk
+mod RunWords

@@ -1,7 +1,10 @@
 -- What words are as texts, and what `clap` is asked.
 pub mod Words
 pub mod Session
+pub mod Options
 pub mod Trace
 pub mod TraceTexts
+pub mod Run
+pub mod RunTexts
 pub mod Commands
 pub mod Matches

@@ -1,7 +1,7 @@
 //! The commands that `clap` is given. None has help, a version or a name before its words.
 ghost use Rattle.std.specs.Prelude.{◌≡◌, IfOk, false};
 ghost use Rattle.clap.specs.Words.{app_of, rule_of};
-ghost use Rattle.pt_words.specs.Commands.{plain_command, position_rule, several_rule, one_app, two_app, several_app, session_app, trace_app};
+ghost use Rattle.pt_words.specs.Commands.{plain_command, position_rule, several_rule, option_rule, one_app, two_app, several_app, session_app, trace_app, run_app};
 
 use clap::{Arg, ArgAction, Command};
 use std::alloc::{AllocError, Global};
@@ -40,8 +40,19 @@ pub(crate) fn trace_words<'a>(alloc: Global) -> Result<Command<'a>, AllocError>
 {
     two_positions(alloc)?
         .arg(position(alloc, "three"))?
-        .arg(Arg::new(alloc, "seed").long("seed"))?
-        .arg(Arg::new(alloc, "mb").long("mb"))
+        .arg(option(alloc, "seed"))?
+        .arg(option(alloc, "mb"))
+}
+
+/// Two positions, and the options `--seed`, `--wait`, `--streamers` and `--lives`, each of which has one text.
+pub(crate) fn run_words<'a>(alloc: Global) -> Result<Command<'a>, AllocError>
+    ensures { IfOk result (λ command. app_of command ≡ run_app) }
+{
+    two_positions(alloc)?
+        .arg(option(alloc, "seed"))?
+        .arg(option(alloc, "wait"))?
+        .arg(option(alloc, "streamers"))?
+        .arg(option(alloc, "lives"))
 }
 
 // No positions.
@@ -60,6 +71,14 @@ fn position<'a>(alloc: Global, id: &'a str) -> Arg<'a>
     ensures local { result.global ≡ false }
 {
     Arg::new(alloc, id).required(true)
+}
+
+// An option with one text.
+fn option<'a>(alloc: Global, name: &'a str) -> Arg<'a>
+    ensures rule { rule_of result ≡ option_rule name.entry.now }
+    ensures local { result.global ≡ false }
+{
+    Arg::new(alloc, name).long(name)
 }
 
 // One word or more.

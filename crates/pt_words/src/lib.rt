@@ -4,7 +4,7 @@
 //! It stands on clap alone. What a text means, a number or a rule, is for those above to say.
 //!
 //! Its one contract: which words have which texts is a function of the words (`specs/Words`, `specs/Session`,
-//! `specs/Trace`), whatever the words are.
+//! `specs/Trace`, `specs/Run`), whatever the words are.
 //!
 //! What was chosen here, and why: docs/DECISIONS.md, "The ground".
 #![tactic(auto)]
@@ -12,10 +12,12 @@
 mod commands;
 mod matches;
 mod positions;
+mod run;
 mod session;
 mod trace;
 
 pub use positions::{Several, one_text, several_texts, two_texts};
+pub use run::{Run, run_texts};
 pub use session::session_text;
 pub use trace::{Trace, trace_texts};
 

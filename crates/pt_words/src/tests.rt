@@ -1,4 +1,4 @@
-use crate::{one_text, session_text, several_texts, trace_texts, two_texts};
+use crate::{one_text, run_texts, session_text, several_texts, trace_texts, two_texts};
 use std::alloc::Global;
 use std::test::Fail;
 
@@ -50,6 +50,39 @@ const NO_TRACES: [&str; 14] = [
     "2 8 P -",
     "-- 2 8 P",
     "2 8 -P",
+];
+
+// Words with the texts of `--seed`, `--wait`, `--streamers` and `--lives` in them, where the positions are `2 8`.
+const RUNS: [(&str, [Option<&str>; 4]); 8] = [
+    ("2 8", [None; 4]),
+    ("2 8 --seed 7", [Some("7"), None, None, None]),
+    ("--wait=3 2 8", [None, Some("3"), None, None]),
+    ("2 --streamers 4 8", [None, None, Some("4"), None]),
+    ("2 8 --lives=5", [None, None, None, Some("5")]),
+    (
+        "--lives 5 2 --streamers=4 --wait 3 8 --seed=7",
+        [Some("7"), Some("3"), Some("4"), Some("5")],
+    ),
+    ("2 8 --seed= --wait==", [Some(""), Some("="), None, None]),
+    ("2 8 --lives=--seed", [None, None, None, Some("--seed")]),
+];
+
+// Words that are no two positions with each option once at most.
+const NO_RUNS: [&str; 14] = [
+    "",
+    "2",
+    "2 8 9",
+    "2 --seed 7",
+    "2 8 --lives",
+    "2 8 --wait --seed 7",
+    "2 8 --streamers -1",
+    "--seed 7 --seed 7 2 8",
+    "--wait=1 2 8 --wait 1",
+    "2 8 --lives=1 --lives=1",
+    "2 8 --live=1",
+    "2 8 --mb 1",
+    "-- 2 8",
+    "2 -8",
 ];
 
 fn owned(alloc: Global, words: &str) -> Result<Vec<String>, Fail> {
@@ -138,6 +171,30 @@ fn other_words_than_a_trace_are_refused(rt: HostRuntime) -> Result<(), Fail> {
     for words in NO_TRACES {
         let words = owned(alloc, words)?;
         assert!(rt; trace_texts(alloc, &words)?.is_none());
+    }
+    Ok(())
+}
+
+#[test]
+fn the_options_of_a_run_are_anywhere(rt: HostRuntime) -> Result<(), Fail> {
+    let alloc = rt.alloc();
+    for (words, options) in RUNS {
+        let words = owned(alloc, words)?;
+        let Some(run) = run_texts(alloc, &words)? else {
+            return Err("good words are refused")?;
+        };
+        assert_eq!(rt; (run.threads, run.writes), ("2", "8"));
+        assert_eq!(rt; [run.seed, run.wait, run.streamers, run.lives], options);
+    }
+    Ok(())
+}
+
+#[test]
+fn other_words_than_a_run_are_refused(rt: HostRuntime) -> Result<(), Fail> {
+    let alloc = rt.alloc();
+    for words in NO_RUNS {
+        let words = owned(alloc, words)?;
+        assert!(rt; run_texts(alloc, &words)?.is_none());
     }
     Ok(())
 }

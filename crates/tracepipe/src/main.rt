@@ -12,6 +12,8 @@
 
 mod arguments;
 mod clock;
+mod dock;
+mod name;
 mod socket;
 mod standard;
 

@@ -1,9 +1,9 @@
 //! Unix sockets as links, and the way to them. They are trusted: no clause can say what the system gives or takes.
-ghost use Rattle.std.specs.Prelude.{◌≡◌, ◌+◌, ◌^◌, ◌<◌, ◌≤◌, [], length, false, IsErr, IfOk, OnOk, OnErr};
+ghost use Rattle.std.specs.Prelude.{◌≡◌, ◌+◌, ◌^◌, ◌<◌, ◌≤◌, [], length, false, IsErr, IfOk, IfSome, OnOk, OnErr};
 ghost use Rattle.pt_io.specs.Faults.{HasRisen};
 
 use pt_io::{Caller, Failed, Link, Sink, Source};
-use std::io::{Read, Write};
+use std::io::{ErrorKind, Read, Write};
 use std::marker::Model;
 use std::net::{Net, Shutdown};
 use std::os::unix::net::UnixStream;
@@ -40,7 +40,7 @@ impl SocketLink {
     ghost use Rattle.tracepipe.specs.Sockets.{fresh_socket};
 
     /// A link over this socket, which has not failed.
-    fn new(stream: UnixStream) -> SocketLink
+    pub(crate) fn new(stream: UnixStream) -> SocketLink
         ensures { result ≡ fresh_socket }
     {
         SocketLink {
@@ -83,7 +83,7 @@ impl Source for SocketLink {
     {
         if self.may_give > 0 {
             let most = (buf.len() as u64).min(self.may_give) as usize;
-            if let Ok(count) = self.stream.read(&mut buf[..most]) {
+            if let Some(count) = read_once(&mut self.stream, &mut buf[..most]) {
                 self.may_give -= count as u64;
                 return Ok(count);
             }
@@ -91,6 +91,20 @@ impl Source for SocketLink {
         self.read_faults = self.read_faults.saturating_add(1);
         Err(Failed)
     }
+}
+
+// How many bytes one read gave, None where it failed. A read that a signal broke off, as after Ctrl-Z, is made again.
+fn read_once(stream: &mut UnixStream, buf: &mut [u8]) -> Option<usize>
+    ensures { IfSome result (λ n. n ≤ length buf.old) }
+{
+    for _ in 0..u64::MAX {
+        match stream.read(buf) {
+            Ok(count) => return Some(count),
+            Err(error) if error.kind() == ErrorKind::Interrupted => {}
+            Err(_) => return None,
+        }
+    }
+    None
 }
 
 impl Sink for SocketLink {

@@ -1,0 +1,22 @@
+-- What is answered of such a command, as texts.
+use Rattle.std.specs.Prelude.{ℕ, List, Option, Some, None, option_map}
+use Rattle.pt_words.specs.Run.{RunTexts}
+use Rattle.pt_words.specs.declared.run.Run.{Run}
+
+-- The texts of a parsed line.
+abbrev pub texts_of : Run → RunTexts
+texts_of run =
+    record {
+      threads = run.threads.now;
+      writes = run.writes.now;
+      seed = option_map (λ text. text.now) run.seed;
+      wait = option_map (λ text. text.now) run.wait;
+      streamers = option_map (λ text. text.now) run.streamers;
+      lives = option_map (λ text. text.now) run.lives;
+    }
+
+-- Two texts, where each is there, with those of the options.
+abbrev pub texts_from : (threads writes seed wait streamers lives : Option (List ℕ)) → Option RunTexts
+texts_from (Some threads) (Some writes) seed wait streamers lives =
+    Some (record { threads = threads; writes = writes; seed = seed; wait = wait; streamers = streamers; lives = lives })
+texts_from threads writes seed wait streamers lives = None
