@@ -1,0 +1,4 @@
+-- to be believed
+pub mod Plans
+pub mod Words
+pub mod Summary

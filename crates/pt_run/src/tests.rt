@@ -1,0 +1,3 @@
+//! The words of a run, and its lines.
+mod lines;
+mod words;
