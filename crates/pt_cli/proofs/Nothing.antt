@@ -8,6 +8,11 @@ use Rattle.pt_command.specs.Answers.{Answers}
 use Rattle.pt_command.proofs.Answering.{unanswered, no-refusal, no-done}
 use Rattle.pt_client.specs.Answers.{Asks}
 use Rattle.pt_client.specs.declared.words.Command.{Command as ClientCommand}
+use Rattle.pt_io.specs.declared.dock.Dock.{Ghosts as Dock}
+use Rattle.pt_io.specs.Sides.{ReadSide, WriteSide}
+use Rattle.ep_defs.specs.declared.session.Facts.{Facts}
+use Rattle.pt_run.specs.Command.{RunsTo}
+use Rattle.pt_run.specs.declared.words.Asked.{Asked as RunAsked}
 use Rattle.pt_cli.specs.declared.trace_words.Asked.{Asked}
 use Rattle.pt_cli.specs.declared.words.Command.{Command}
 use Rattle.pt_cli.specs.declared.words.Command.TheVariants as command
@@ -44,6 +49,7 @@ plain-nothing source sink (Some (command.Gen asked)) input output =
       ends = inr (inr refl);
     }
 plain-nothing source sink (Some (command.Trace asked)) input output = inr (refl, refl)
+plain-nothing source sink (Some (command.Run asked)) input output = inr (refl, refl)
 plain-nothing source sink (Some (command.Client asked)) input output = inr (refl, refl)
 plain-nothing source sink None input output = inr (refl, refl)
 
@@ -87,13 +93,31 @@ asks-nothing sink caller source takes asked output call =
       ends = inr (inr (inr (inr (inr refl))));
     }
 
-pub comes-to-nothing : {I O K L : Type 0} (source : Source I) (sink : Sink O) (caller : Caller K L) (reads : Source L) (takes : Sink L) (asked : Option Command)
-    (input : I) (output : O) (call : K)
-    → ComesTo source sink caller reads takes asked
-    (record { input_old = input; input_new = input; output_old = output; output_new = output; caller_old = call; caller_new = call; peer = None; rows = []; marks = [] }) ends.OutOfMemory
-comes-to-nothing source sink caller reads takes (Some (command.Replay session)) input output call = plain-nothing source sink (Some (command.Replay session)) input output
-comes-to-nothing source sink caller reads takes (Some command.Report) input output call = plain-nothing source sink (Some command.Report) input output
-comes-to-nothing source sink caller reads takes (Some (command.Gen asked)) input output call = plain-nothing source sink (Some (command.Gen asked)) input output
-comes-to-nothing source sink caller reads takes (Some (command.Trace asked)) input output call = traces-nothing sink asked output
-comes-to-nothing source sink caller reads takes (Some (command.Client asked)) input output call = asks-nothing sink caller reads takes asked output call
-comes-to-nothing source sink caller reads takes None input output call = plain-nothing source sink None input output
+runs-nothing : {O D L : Type 0} (sink : Sink O) (dock : Dock D) (source : Source L) (takes : Sink L) (gave : L → ReadSide) (took : L → WriteSide) (asked : RunAsked) (facts : Facts) (output : O) (dock_is : D)
+    → RunsTo sink dock source takes gave took asked facts output output dock_is dock_is None ends.OutOfMemory
+runs-nothing sink dock source takes gave took asked facts output dock_is = record { ran = tt; unrun = λ _. (refl, refl, refl) }
+
+pub comes-to-nothing : {I O D K L : Type 0} (source : Source I) (sink : Sink O) (dock : Dock D) (caller : Caller K L) (reads : Source L) (takes : Sink L) (gave : L → ReadSide)
+    (took : L → WriteSide) (facts : Facts) (asked : Option Command) (input : I) (output : O) (dock_is : D) (call : K)
+    → ComesTo source sink dock caller reads takes gave took facts asked
+    (record {
+      input_old = input;
+      input_new = input;
+      output_old = output;
+      output_new = output;
+      dock_old = dock_is;
+      dock_new = dock_is;
+      caller_old = call;
+      caller_new = call;
+      peer = None;
+      rows = [];
+      marks = [];
+      live = None;
+    }) ends.OutOfMemory
+comes-to-nothing source sink dock caller reads takes gave took facts (Some (command.Replay session)) input output dock_is call = plain-nothing source sink (Some (command.Replay session)) input output
+comes-to-nothing source sink dock caller reads takes gave took facts (Some command.Report) input output dock_is call = plain-nothing source sink (Some command.Report) input output
+comes-to-nothing source sink dock caller reads takes gave took facts (Some (command.Gen asked)) input output dock_is call = plain-nothing source sink (Some (command.Gen asked)) input output
+comes-to-nothing source sink dock caller reads takes gave took facts (Some (command.Trace asked)) input output dock_is call = traces-nothing sink asked output
+comes-to-nothing source sink dock caller reads takes gave took facts (Some (command.Run asked)) input output dock_is call = runs-nothing sink dock reads takes gave took asked facts output dock_is
+comes-to-nothing source sink dock caller reads takes gave took facts (Some (command.Client asked)) input output dock_is call = asks-nothing sink caller reads takes asked output call
+comes-to-nothing source sink dock caller reads takes gave took facts None input output dock_is call = plain-nothing source sink None input output
