@@ -8,7 +8,7 @@ use pt_roles::LiveEnd;
 use std::alloc::Global;
 
 /// How the program ended.
-#[derive(Debug, Drop)]
+#[derive(Drop)]
 pub struct Finished<L> {
     /// One of those of `pt_command::status`.
     pub status: u8,

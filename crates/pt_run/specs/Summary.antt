@@ -1,6 +1,6 @@
 -- What a run came to, and how it is printed (this project's profile).
 use Rattle.std.specs.Prelude.{ℕ, List, [], ◌∷◌, ◌++◌, codes}
-use Rattle.std.specs.List.{concat, flat_map, sum_by}
+use Rattle.std.specs.List.{flat_map, sum_by}
 use Rattle.ep_defs.specs.declared.session.Marks.{Marks}
 use Rattle.ep_stream.specs.declared.session.Fate.{Fate}
 use Rattle.ep_stream.specs.declared.session.Fate.TheVariants as fates
@@ -23,21 +23,23 @@ pub record SessionTold : Type 0 where
 
 -- ---- lines
 
+-- A line's word and its numbers.
+abbrev pub begun_line : List ℕ → List ℕ → List ℕ
+begun_line word numbers = word ++ flat_map number_part numbers
+
 -- What was asked for.
 abbrev pub plan_line : Plan → List ℕ
-plan_line plan = concat (codes "run" ∷ number_part plan.threads ∷ number_part plan.writes ∷ (10 ∷ []) ∷ [])
+plan_line plan = begun_line (codes "run") (plan.threads ∷ plan.writes ∷ []) ++ 10 ∷ []
 
 -- A session: how many events of all threads it wrote, how many were refused, and why it ended.
 abbrev pub session_line : SessionTold → List ℕ
 session_line session =
-    concat (codes "session" ∷ number_part session.id ∷ number_part (sum_by (λ mark. mark.taken) session.marks)
-    ∷ number_part (sum_by (λ mark. mark.refused) session.marks) ∷ text_part (fate_text session.fate) ∷ (10 ∷ []) ∷ [])
+    begun_line (codes "session") (session.id ∷ sum_by (λ mark. mark.taken) session.marks ∷ sum_by (λ mark. mark.refused) session.marks ∷ [])
+    ++ text_part (fate_text session.fate) ++ 10 ∷ []
 
 -- What the session of this id had of one thread.
 abbrev pub mark_line : ℕ → Marks → List ℕ
-mark_line id mark =
-    concat (codes "mark" ∷ number_part id ∷ number_part mark.thread ∷ number_part mark.from ∷ number_part mark.to ∷ number_part mark.taken
-    ∷ number_part mark.refused ∷ (10 ∷ []) ∷ [])
+mark_line id mark = begun_line (codes "mark") (id ∷ mark.thread ∷ mark.from ∷ mark.to ∷ mark.taken ∷ mark.refused ∷ []) ++ 10 ∷ []
 
 -- A session, and under it what it had of each thread.
 abbrev pub session_lines : SessionTold → List ℕ
@@ -45,7 +47,7 @@ session_lines session = session_line session ++ flat_map (mark_line session.id) 
 
 -- How many connections there were.
 abbrev pub connections_line : ℕ → List ℕ
-connections_line connections = concat (codes "connections" ∷ number_part connections ∷ (10 ∷ []) ∷ [])
+connections_line connections = begun_line (codes "connections") (connections ∷ []) ++ 10 ∷ []
 
 -- The lines of a run.
 abbrev pub run_text : Plan → List SessionTold → ℕ → List ℕ

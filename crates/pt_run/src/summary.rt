@@ -2,7 +2,7 @@
 ghost use Rattle.std.specs.Prelude.{◌≡◌, ◌≤◌, ◌++◌, length, OnOk};
 ghost use Rattle.std.specs.List.{flat_map, sum_by};
 ghost use Rattle.ep_defs.specs.declared.limits.TheConstants.{SESSION_THREADS as MOST_MARKS};
-ghost use Rattle.pt_run.specs.Summary.{connections_line, fate_text, mark_line, plan_line, session_line, session_lines};
+ghost use Rattle.pt_run.specs.Summary.{begun_line, connections_line, fate_text, mark_line, plan_line, session_line, session_lines};
 
 use ep_defs::Marks;
 use ep_stream::Fate;
@@ -14,9 +14,11 @@ use std::alloc::AllocError;
 pub fn put_plan(text: &mut Vec<u8>, plan: &Plan) -> Result<(), AllocError>
     ensures { OnOk result (text.new.items ≡ text.old.items ++ plan_line plan.now) }
 {
-    put_word(text, "run")?;
-    put_number(text, u64::from(plan.threads))?;
-    put_number(text, u64::from(plan.writes))?;
+    put_numbers(
+        text,
+        "run",
+        &[u64::from(plan.threads), u64::from(plan.writes)],
+    )?;
     put_end(text)
 }
 
@@ -45,10 +47,7 @@ fn put_sums(text: &mut Vec<u8>, id: u64, marks: &[Marks], fate: Fate) -> Result<
         ≡ text.old.items ++ session_line (record { id = id; marks = marks.now; fate = fate })) }
 {
     let (written, refused) = sums(marks);
-    put_word(text, "session")?;
-    put_number(text, id)?;
-    put_number(text, written)?;
-    put_number(text, refused)?;
+    put_numbers(text, "session", &[id, written, refused])?;
     put_text(text, word_of(fate).as_bytes())?;
     put_end(text)
 }
@@ -90,13 +89,15 @@ fn word_of(fate: Fate) -> &'static str
 fn put_mark(text: &mut Vec<u8>, id: u64, mark: Marks) -> Result<(), AllocError>
     ensures { OnOk result (text.new.items ≡ text.old.items ++ mark_line id mark) }
 {
-    put_word(text, "mark")?;
-    put_number(text, id)?;
-    put_number(text, mark.thread)?;
-    put_number(text, u64::from(mark.from))?;
-    put_number(text, u64::from(mark.to))?;
-    put_number(text, u64::from(mark.taken))?;
-    put_number(text, u64::from(mark.refused))?;
+    let numbers = [
+        id,
+        mark.thread,
+        u64::from(mark.from),
+        u64::from(mark.to),
+        u64::from(mark.taken),
+        u64::from(mark.refused),
+    ];
+    put_numbers(text, "mark", &numbers)?;
     put_end(text)
 }
 
@@ -104,7 +105,17 @@ fn put_mark(text: &mut Vec<u8>, id: u64, mark: Marks) -> Result<(), AllocError>
 pub fn put_connections(text: &mut Vec<u8>, connections: u64) -> Result<(), AllocError>
     ensures { OnOk result (text.new.items ≡ text.old.items ++ connections_line connections) }
 {
-    put_word(text, "connections")?;
-    put_number(text, connections)?;
+    put_numbers(text, "connections", &[connections])?;
     put_end(text)
+}
+
+// A line's word and its numbers.
+fn put_numbers(text: &mut Vec<u8>, word: &str, numbers: &[u64]) -> Result<(), AllocError>
+    ensures { OnOk result (text.new.items ≡ text.old.items ++ begun_line word.now numbers.now) }
+{
+    put_word(text, word)?;
+    for number in numbers {
+        put_number(text, *number)?;
+    }
+    Ok(())
 }

@@ -10,8 +10,6 @@ use std::env;
 use std::io::ErrorKind;
 use std::random::RandomSource;
 use std::rt::Env;
-use std::thread;
-use std::thread::Threads;
 use uuid::Uuid;
 
 /// The operating system and the processor's architecture, in the words of .NET's runtime.
@@ -26,17 +24,14 @@ const LINE_UNITS: usize = FACTS_UNITS - 2 * WORD_UNITS;
 
 /// What the process with this number says of itself: its command line, cut where it is too long, and a cookie that tells
 /// it from others, drawn at random, or zeros where the system draws none. It fails only where it is out of memory.
-pub fn facts<R: Env + AllocGlobal + RandomSource + Threads>(
+pub fn facts_of<R: Env + AllocGlobal + RandomSource>(
     rt: &R,
     process: u32,
+    processors: u32,
 ) -> Result<Facts, AllocError>
     ensures { IfOk result (λ facts. IsTrue (is_valid_facts facts)) }
 {
     let alloc = rt.alloc();
-    let processors = match thread::available_parallelism(rt) {
-        Ok(count) => u32::try_from(count.get()).unwrap_or(u32::MAX),
-        Err(_) => 1,
-    };
     let cookie = match Uuid::try_new_v4(rt) {
         Ok(cookie) => cookie.into_bytes(),
         Err(_) => [0; 16],
@@ -94,18 +89,18 @@ fn put(line: &mut Vec<u16>, text: &str, most: usize) -> Result<(), AllocError>
 
 #[cfg(test)]
 mod tests {
-    use super::{facts, word};
+    use super::{facts_of, word};
     use std::alloc::AllocError;
 
     #[test]
     fn a_process_says_what_it_is(rt: HostRuntime) -> Result<(), AllocError> {
-        let said = facts(&rt, 7)?;
+        let said = facts_of(&rt, 7, 2)?;
         assert_eq!(rt; said.process_id, 7);
         assert!(rt; !said.command_line.as_slice().is_empty());
         let system = [76, 105, 110, 117, 120];
         assert_eq!(rt; said.system.as_slice(), system.as_slice());
         // Another cookie each time.
-        assert!(rt; facts(&rt, 7)?.cookie != said.cookie);
+        assert!(rt; facts_of(&rt, 7, 2)?.cookie != said.cookie);
         Ok(())
     }
 

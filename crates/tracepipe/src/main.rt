@@ -25,7 +25,7 @@ use arguments::words;
 use clock::SystemClock;
 use dock::SocketDock;
 use ep_defs::Facts;
-use facts::facts;
+use facts::facts_of;
 use name::socket_path;
 use pt_cli::tracepipe;
 use pt_command::status;
@@ -36,16 +36,21 @@ use std::alloc::AllocError;
 use std::io;
 use std::process;
 use std::process::ExitCode;
+use std::thread;
 
 fn main(rt: HostRuntime) -> ExitCode {
     let mut input = StandardInput::new(rt.reader());
     let mut output = StandardOutput::new(io::writer(&rt));
     let process = process::id(rt.process());
+    let processors = match thread::available_parallelism(&rt) {
+        Ok(count) => u32::try_from(count.get()).unwrap_or(u32::MAX),
+        Err(_) => 1,
+    };
     // It listens once it is asked for a peer, so for `run` alone.
     let mut dock = SocketDock::new(rt, socket_path(&rt, process).ok());
     let mut caller = SocketCaller::new(rt);
     let clock = SystemClock::new(rt);
-    let status = match words_and_facts(&rt, process) {
+    let status = match words_and_facts(&rt, process, processors) {
         Ok((words, facts)) => {
             tracepipe(
                 &rt,
@@ -67,8 +72,12 @@ fn main(rt: HostRuntime) -> ExitCode {
 }
 
 // What the program was asked, and what it says of itself.
-fn words_and_facts(rt: &HostRuntime, process: u32) -> Result<(Vec<String>, Facts), AllocError>
+fn words_and_facts(
+    rt: &HostRuntime,
+    process: u32,
+    processors: u32,
+) -> Result<(Vec<String>, Facts), AllocError>
     ensures { IfOk result (λ both. IsTrue (is_valid_facts both.1)) }
 {
-    Ok((words(rt)?, facts(rt, process)?))
+    Ok((words(rt)?, facts_of(rt, process, processors)?))
 }

@@ -6,4 +6,4 @@ use Rattle.pt_run.proofs.summary.put_session.Given as goal
 
 abbrev pub invariant-loop-mark : goal.invariant-loop-mark
 invariant-loop-mark l =
-    l.text.items ≡ l.fn.text.items ++ session_line (record { id = l.id; marks = l.marks; fate = l.fate }) ++ flat_map (mark_line l.id) (take l.mark-index l.marks)
+    l.text.items ≡ l.fn.text.items ++ session_line (record { id = l.id; marks = l.marks; fate = l.fn.fate }) ++ flat_map (mark_line l.id) (take l.mark-index l.marks)
