@@ -1,5 +1,6 @@
 -- What the command `run` comes to (this project's theorem).
-use Rattle.std.specs.Prelude.{◌≡◌, ℕ, ◌+◌, ◌≤◌, Bool, true, false, List, length, map, Option, None, Some, IfSome, All}
+use Rattle.std.specs.Prelude.{◌≡◌, ℕ, ◌+◌, ◌≤◌, Bool, true, false, List, length, map, Option, None, IfSome}
+use Rattle.std.specs.List.{AllByRecursion}
 use Rattle.ep_defs.specs.declared.limits.TheConstants.{SESSION_THREADS as MOST_MARKS}
 use Rattle.ep_defs.specs.declared.session.Facts.{Facts}
 use Rattle.pt_io.specs.declared.dock.Dock.{Ghosts as Dock}
@@ -54,6 +55,6 @@ pub record RunsTo {O D L : Type 0} (sink : Sink O) (dock : Dock D) (source : Sou
 
 -- ---- what is known of each run
 
--- Each session has a countable number of marks.
+-- The marks of each session are as few as the threads on which one can be opened.
 abbrev pub AreFew : {L : Type 0} → LiveEnd L → Type 0
-AreFew live = All (λ session. length session.marks ≤ MOST_MARKS) live.sessions.items
+AreFew live = AllByRecursion (λ session. length session.marks ≤ MOST_MARKS) live.sessions.items

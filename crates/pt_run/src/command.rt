@@ -98,7 +98,12 @@ fn text_of<L>(alloc: Global, plan: &Plan, live: &LiveEnd<L>) -> Result<Vec<u8>, 
     let mut text = Vec::new(alloc);
     put_plan(&mut text, plan)?;
     for session in &live.sessions {
-        put_session(&mut text, session.id, session.marks.as_slice(), session.fate)?;
+        put_session(
+            &mut text,
+            session.id,
+            session.marks.as_slice(),
+            session.fate,
+        )?;
     }
     put_connections(&mut text, (live.sessions.len() + live.conns.len()) as u64)?;
     Ok(text)
