@@ -109,7 +109,7 @@ saying-causes sink old new text false end (inl (inl said)) = let is = said.0 in 
 saying-causes sink old new text failed end (inl (inr broke)) = let is = broke.0 in ((λ read. cc), (λ _. broke.1.fault), (λ other. absurd (other is)))
 saying-causes sink old new text failed end (inr none) = let is = none.0 in ((λ read. cc), (λ fault. absurd (cc)), (λ _. ap sink.write_faults none.1))
 
-runs-causes : {O D L : Type 0} (sink : Sink O) (dock : Dock D) (source : Source L) (takes : Sink L) (gave : L → ReadSide) (took : L → WriteSide) (asked : RunAsked) (facts : Facts)
+runs-causes : {O D L : Type 0} (sink : Sink O) (dock : Dock D L) (source : Source L) (takes : Sink L) (gave : L → ReadSide) (took : L → WriteSide) (asked : RunAsked) (facts : Facts)
     (old new : O) (dock_old dock_new : D) (live : Option (LiveEnd L)) (end : End) → RunsTo sink dock source takes gave took asked facts old new dock_old dock_new live end
     → (end ≢ ends.ReadFault) × (end ≡ ends.WriteFault → HasRisen (sink.write_faults old) (sink.write_faults new)) × (end ≢ ends.WriteFault → sink.write_faults new ≡ sink.write_faults old)
 runs-causes sink dock source takes gave took asked facts old new dock_old dock_new (Some live) end runs =
@@ -119,7 +119,7 @@ runs-causes sink dock source takes gave took asked facts old new dock_old dock_n
     let is = none.0 in
     ((λ read. cc), (λ fault. absurd (cc)), (λ _. ap sink.write_faults none.1))
 
-pub comes-faults : {I O D K L : Type 0} (source : Source I) (sink : Sink O) (dock : Dock D) (caller : Caller K L) (reads : Source L) (takes : Sink L) (gave : L → ReadSide) (took : L → WriteSide)
+pub comes-faults : {I O D K L : Type 0} (source : Source I) (sink : Sink O) (dock : Dock D L) (caller : Caller K L) (reads : Source L) (takes : Sink L) (gave : L → ReadSide) (took : L → WriteSide)
     (facts : Facts) (asked : Option Command) (a : Around I O D K L) (end : End)
     → ComesTo source sink dock caller reads takes gave took facts asked a end → (reads_input asked ≡ false → a.input_new ≡ a.input_old)
     → HasFaults source sink asked a.input_old a.input_new a.output_old a.output_new end

@@ -93,11 +93,11 @@ asks-nothing sink caller source takes asked output call =
       ends = inr (inr (inr (inr (inr refl))));
     }
 
-runs-nothing : {O D L : Type 0} (sink : Sink O) (dock : Dock D) (source : Source L) (takes : Sink L) (gave : L → ReadSide) (took : L → WriteSide) (asked : RunAsked) (facts : Facts) (output : O) (dock_is : D)
+runs-nothing : {O D L : Type 0} (sink : Sink O) (dock : Dock D L) (source : Source L) (takes : Sink L) (gave : L → ReadSide) (took : L → WriteSide) (asked : RunAsked) (facts : Facts) (output : O) (dock_is : D)
     → RunsTo sink dock source takes gave took asked facts output output dock_is dock_is None ends.OutOfMemory
 runs-nothing sink dock source takes gave took asked facts output dock_is = record { ran = tt; unrun = λ _. (refl, refl, refl) }
 
-pub comes-to-nothing : {I O D K L : Type 0} (source : Source I) (sink : Sink O) (dock : Dock D) (caller : Caller K L) (reads : Source L) (takes : Sink L) (gave : L → ReadSide)
+pub comes-to-nothing : {I O D K L : Type 0} (source : Source I) (sink : Sink O) (dock : Dock D L) (caller : Caller K L) (reads : Source L) (takes : Sink L) (gave : L → ReadSide)
     (took : L → WriteSide) (facts : Facts) (asked : Option Command) (input : I) (output : O) (dock_is : D) (call : K)
     → ComesTo source sink dock caller reads takes gave took facts asked
     (record {

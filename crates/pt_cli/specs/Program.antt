@@ -46,7 +46,7 @@ pub record Around (I O D K L : Type 0) : Type 0 where
   pub live : Option (LiveEnd L)
 
 -- What any command comes to, where the program says this of itself.
-abbrev pub ComesTo : {I O D K L : Type 0} → Source I → Sink O → Dock D → Caller K L → Source L → Sink L → (L → ReadSide) → (L → WriteSide) → Facts → Option Command
+abbrev pub ComesTo : {I O D K L : Type 0} → Source I → Sink O → Dock D L → Caller K L → Source L → Sink L → (L → ReadSide) → (L → WriteSide) → Facts → Option Command
     → Around I O D K L → End → Type 0
 ComesTo source sink dock caller reads takes gave took facts (Some (command.Trace asked)) a end = TracesTo sink asked a.output_old a.output_new a.rows a.marks end
 ComesTo source sink dock caller reads takes gave took facts (Some (command.Run asked)) a end =

@@ -141,7 +141,7 @@ HasWaited world IsOver sessions =
 -- ---- the run
 
 -- What a run comes to whose dock was the first and is the second.
-pub record IsRan {D L : Type 0} (dock : Dock D) (source : Source L) (sink : Sink L) (gave : L → ReadSide) (took : L → WriteSide) (world : WorldState) (old new : D) (end : LiveEnd L) : Type 0 where
+pub record IsRan {D L : Type 0} (dock : Dock D L) (source : Source L) (sink : Sink L) (gave : L → ReadSide) (took : L → WriteSide) (world : WorldState) (old new : D) (end : LiveEnd L) : Type 0 where
   -- what was decided, by connection, and what became of the sessions, by id, the failed starts among them: they bear one
   -- another out
   pub decisions : List Decision

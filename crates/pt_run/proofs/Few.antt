@@ -1,6 +1,6 @@
 -- A session of a run has no more marks than the run has threads.
-use Rattle.std.proofs.Common.{◌≡◌, ℕ, ◌+◌, ◌-◌, ◌*◌, ◌<◌, ◌≤◌, List, [], ◌∷◌, length, map, suc, zero, sym, subst, arith}
-use Rattle.std.specs.List.{AllByRecursion, get_or}
+use Rattle.std.proofs.Common.{◌≡◌, ℕ, ◌+◌, ◌-◌, ◌*◌, ◌<◌, ◌≤◌, List, [], ◌∷◌, length, map, get_or, suc, zero, arith}
+use Rattle.std.specs.List.{AllByRecursion}
 use Rattle.std.proofs.lemmas.List.{length-map}
 use Rattle.std.proofs.Math.Nat.{mul-le-mul}
 use Rattle.ep_defs.specs.declared.limits.TheConstants.{SESSION_THREADS as MOST_MARKS}
@@ -16,7 +16,7 @@ use Rattle.pt_roles.specs.World.{WorldState}
 -- Numbers that ascend between two bounds are as few as these leave.
 ascending-few : (least most : ℕ) (ns : List ℕ) → least ≤ most → AreAscending ns → AllByRecursion (λ n. least < n) ns → AllByRecursion (λ n. n ≤ most) ns
     → length ns + least ≤ most
-ascending-few least most [] some ascend above below = some
+ascending-few least most [] some ascend above below = omega (arith, some)
 ascending-few least most (n ∷ ns) some ascend above below =
     let rest = ascending-few n most ns below.0 ascend.1 ascend.0 below.1 in
     omega (arith, rest, above.0)
@@ -27,7 +27,8 @@ unfolding thread_of
 thread-within world thread rows lives is =
     let number = is.number in
     let life = is.life in
-    let product : life * world.plan.threads ≤ 99 * 256 = mul-le-mul (omega (arith, is.lives, lives)) rows in
+    let lasts : life ≤ 99 = omega (arith, is.lives, lives) in
+    let product : life * world.plan.threads ≤ 99 * 256 = mul-le-mul lasts rows in
     (omega (arith, is.is), omega (arith, is.is, is.within, rows, product))
 
 above : (world : WorldState) (marks : List Marks) → world.plan.threads ≤ 256 → world.options.lives ≤ 100 → AllByRecursion (λ mark. IsThread world mark.thread) marks

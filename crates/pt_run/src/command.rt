@@ -2,6 +2,7 @@
 ghost use Rattle.std.specs.Prelude.{◌≡◌, IfOk, IsTrue};
 ghost use Rattle.ep_defs.specs.Session.{is_valid_facts};
 ghost use Rattle.pt_run.specs.Command.{RunsTo, AreFew, end_of, text_of};
+ghost use Rattle.pt_command.specs.Says.{SaysLine};
 ghost use Rattle.pt_run.specs.Words.{Fits};
 
 use crate::summary::{put_connections, put_plan, put_session};

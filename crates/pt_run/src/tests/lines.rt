@@ -1,5 +1,6 @@
 use crate::{put_connections, put_plan, put_session};
 use ep_defs::Marks;
+use ep_defs::limits::SESSION_THREADS;
 use ep_stream::Fate;
 use pt_load::Plan;
 use std::alloc::{AllocError, Global};
@@ -34,7 +35,10 @@ fn lines(
     let mut text = Vec::new(alloc);
     put_plan(&mut text, &plan)?;
     for (id, (marks, fate)) in (1..=64).zip(sessions.iter()) {
-        put_session(&mut text, id, &marks_of(alloc, marks)?, *fate)?;
+        let marks = marks_of(alloc, marks)?;
+        if marks.len() <= SESSION_THREADS {
+            put_session(&mut text, id, &marks, *fate)?;
+        }
     }
     put_connections(&mut text, connections)?;
     Ok(text)
