@@ -64,8 +64,9 @@ pub record HasFaults {I O : Type 0} (source : Source I) (sink : Sink O) (asked :
   pub all_written : runs_threads asked ≡ false → end ≢ ends.WriteFault → sink.write_faults output_new ≡ sink.write_faults output_old
 
 -- What a command has no use for is left alone.
-pub record LeavesAlone {I O D K L : Type 0} (asked : Option Command) (a : Around I O D K L) : Type 0 where
-  pub unread : reads_input asked ≡ false → a.input_new ≡ a.input_old
-  pub nobody : calls_peer asked ≡ false → (a.peer ≡ None) × (a.caller_new ≡ a.caller_old)
-  pub unserved : runs_server asked ≡ false → (a.live ≡ None) × (a.dock_new ≡ a.dock_old)
-  pub untraced : runs_threads asked ≡ false → (a.rows ≡ []) × (a.marks ≡ [])
+pub record LeavesAlone {I D K L : Type 0} (asked : Option Command) (input_old input_new : I) (dock_old dock_new : D) (caller_old caller_new : K) (peer : Option L)
+    (live : Option (LiveEnd L)) (rows : List (ℕ × ℕ)) (marks : List Marks) : Type 0 where
+  pub unread : reads_input asked ≡ false → input_new ≡ input_old
+  pub unserved : runs_server asked ≡ false → (live ≡ None) × (dock_new ≡ dock_old)
+  pub nobody : calls_peer asked ≡ false → (peer ≡ None) × (caller_new ≡ caller_old)
+  pub untraced : runs_threads asked ≡ false → (rows ≡ []) × (marks ≡ [])

@@ -100,20 +100,8 @@ pub fn tracepipe<
         → EndsSo result.status result.code result.at (SaysLine O.Sink output.old output.new words_error ends.Words) }
     ensures faults { EndsSo result.status result.code result.at
         (HasFaults I.Source O.Sink (meant (map string_bytes words.now)) input.old input.new output.old output.new) }
-    ensures alone { LeavesAlone (meant (map string_bytes words.now)) (record {
-      input_old = input.old;
-      input_new = input.new;
-      output_old = output.old;
-      output_new = output.new;
-      dock_old = dock.old;
-      dock_new = dock.new;
-      caller_old = caller.old;
-      caller_new = caller.new;
-      peer = result.peer;
-      rows = result.rows.items;
-      marks = result.marks;
-      live = result.live;
-    }) }
+    ensures alone { LeavesAlone (meant (map string_bytes words.now)) input.old input.new dock.old dock.new
+        caller.old caller.new result.peer result.live result.rows.items result.marks }
 {
     match command_of(alloc, words) {
         Ok(command) => carry_out(
@@ -162,20 +150,8 @@ fn carry_out<
           marks = result.marks;
           live = result.live;
         })) }
-    ensures alone { LeavesAlone command.entry (record {
-      input_old = input.old;
-      input_new = input.new;
-      output_old = output.old;
-      output_new = output.new;
-      dock_old = dock.old;
-      dock_new = dock.new;
-      caller_old = caller.old;
-      caller_new = caller.new;
-      peer = result.peer;
-      rows = result.rows.items;
-      marks = result.marks;
-      live = result.live;
-    }) }
+    ensures alone { LeavesAlone command.entry input.old input.new dock.old dock.new caller.old caller.new
+        result.peer result.live result.rows.items result.marks }
 {
     match command {
         Some(Command::Trace(asked)) => traced(rt, alloc, asked, output, clock, gate),
