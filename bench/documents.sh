@@ -1,24 +1,224 @@
 #!/bin/sh
-# Compares what the documents show with what is. Each run in README.md and docs/*.md (an indented block with lines `$ ..`) is
-# made anew in a folder of its own, and its output compared; a line `...` stands for whatever follows, and of a run of
-# `trace` the numbers of stacks and points, which differ from run to run, are passed over. Then the counts and the snippets
-# of README.md are compared with the crates, and its figures with docs/MEASURED.md. It ends with 1 if anything differs. It
-# needs python3 and xxd.
+# Compares what the documents show with what is. First what needs no program: that links lead somewhere, that each crate
+# stands in the map, that what the documents cite of a crate or a file stands there, and clauses in contracts, that each wrong
+# body can be planted, and README.md's counts, snippets and figures. Then each run in README.md and docs/*.md (an indented
+# block with lines `$ ..`) is made anew in a folder of its own, and its output compared; a line `...` stands for whatever
+# follows, and of a run of `trace` the numbers of stacks and points, which differ from run to run, are passed over. It ends
+# with 1 if anything differs. It needs python3 and xxd.
+#
+#   bench/documents.sh [PROGRAM]      runs this program, by default the proved one
 here=$(cd "$(dirname "$0")/.." && pwd) || exit 1
-"$here/tracepipe" gen 0 16 >/dev/null || exit 1
-exec python3 - "$here" <<'COMPARE'
-import glob, os, re, subprocess, sys, tempfile
+exec python3 - "$here" "${1:-$here/tracepipe}" <<'COMPARE'
+import functools, glob, os, re, subprocess, sys, tempfile
 
-here = sys.argv[1]
+here, program = sys.argv[1], os.path.abspath(sys.argv[2])
+README = f"{here}/README.md"
+DOCUMENTS = [README, f"{here}/CONTRIBUTING.md", *sorted(glob.glob(f"{here}/docs/*.md"))]
+CRATES = {os.path.basename(it) for it in glob.glob(f"{here}/crates/*")}
 OURS = re.compile(r"\./tracepipe|xxd ")
 # The first two numbers of the line `items` are events and definitions.
 VARYING = re.compile(r"^(items\s+\d+\s+\d+)\s+\d+\s+\d+$")
 
 
-def runs_of(text):
+@functools.cache
+def read(path):
+    with open(path) as it:
+        return it.read()
+
+
+@functools.cache
+def text_of(crate):
+    """The sources and the definitions of a crate."""
+    names = [it for part in ("src", "specs") for it in glob.glob(f"{here}/crates/{crate}/{part}/**/*", recursive=True)]
+    return "\n".join(read(name) for name in sorted(names) if name.endswith((".rt", ".antt")))
+
+
+def tell(path, what):
+    print(f"{os.path.relpath(path, here)}: {what}")
+
+
+def quoted_in(text):
+    return re.findall(r"`([^`]+)`", text)
+
+
+def has_word(text, word):
+    """Whether the name stands in the text, and those before its `::` too; a `*` stands for the rest of a name."""
+    return all(re.search(rf"\b{re.escape(it)}\b".replace(r"\*", r"\w+"), text) for it in word.split("::") if it != "laws")
+
+
+def rows_of(path):
+    """The rows of a document's tables: the words at the head of the first column, and the row's cells."""
+    rows, head = [], None
+    for line in read(path).splitlines():
+        if not line.startswith("|"):
+            head = None
+            continue
+        cells = [it.strip() for it in line.strip("|").split(" | ")]
+        if head is None:
+            head = cells[0].strip()
+        elif not cells[0].startswith("---"):
+            rows.append((head, cells))
+    return rows
+
+
+def lead_somewhere(path):
+    """Whether each link within the repository has its file."""
+    wrong = 0
+    for link in re.findall(r"\]\((?!https?:|#)([^)#]+)", read(path)):
+        if not os.path.exists(os.path.join(os.path.dirname(path), link)):
+            wrong += 1
+            tell(path, f"a link to {link}, which is not there")
+    return wrong
+
+
+def are_named(path):
+    """Whether the crates that the text names are there, and in them the names and files that stand behind theirs."""
+    wrong = 0
+    for name in quoted_in(read(path)):
+        crate, between, rest = re.match(r"((?:ep|ipc|nt|pt)_[a-z_]+|tracepipe)?(::|/)?(.*)", name).groups()
+        if crate is None or (between is None and (rest or crate in CRATES)):
+            continue
+        if between is None:
+            is_there = any(has_word(text_of(it), crate) for it in CRATES)
+        elif between == "/":
+            is_there = glob.glob(f"{here}/crates/{name}*")
+        else:
+            is_there = crate in CRATES and has_word(text_of(crate), re.match(r"[\w:]+", rest)[0])
+        if not is_there:
+            wrong += 1
+            tell(path, f"`{name}` is not there")
+    return wrong
+
+
+def are_mapped():
+    """Whether the map has exactly the crates of crates.txt, in their order."""
+    path = f"{here}/docs/ARCHITECTURE.md"
+    mapped = [quoted_in(cells[0])[0] for head, cells in rows_of(path) if head == "Crate" and len(cells) == 2]
+    listed = re.findall(r"^([a-z_]+)[ :]", read(f"{here}/crates.txt"), re.M)
+    if mapped != listed:
+        odd = [it for it in listed if it not in mapped] + [it for it in mapped if it not in listed]
+        tell(path, f"the map is not that of crates.txt: {', '.join(odd) or 'another order'}")
+    return int(mapped != listed)
+
+
+def are_defined(path):
+    """Whether each definition of a table stands in one of the files that its row links to."""
+    wrong = 0
+    for head, cells in rows_of(path):
+        files = re.findall(r"\]\(([^)#]+)\)", cells[-1])
+        if head != "Definition" or not files:
+            continue
+        text = "\n".join(read(os.path.join(os.path.dirname(path), it)) for it in files)
+        for name in quoted_in(cells[0]):
+            if not has_word(text, name):
+                wrong += 1
+                tell(path, f"`{name}` does not stand in {', '.join(files)}")
+    return wrong
+
+
+def is_clause(name, kind, text):
+    return re.search(rf"ensures\*? {name}\b" if kind == "clause" else rf"\b{name}\s*:", text)
+
+
+def are_claimed():
+    """Whether what a row of CLAIMS.md cites stands in its crates, and the clauses and fields as such."""
+    path, wrong = f"{here}/docs/CLAIMS.md", 0
+    for head, cells in rows_of(path):
+        crates = [it for it in quoted_in(cells[1]) if it in CRATES] if len(cells) == 3 else []
+        text = "\n".join(text_of(it) for it in crates)
+        missing = [name for name in quoted_in(cells[2]) if not has_word(text, name)] if crates else []
+        for group in cells[2].split(";") if crates else []:
+            kind = re.search(r"\b(clause|field)s?\b(.*)", re.sub(r"\([^)]*\)", "", group))
+            if kind:
+                missing += [name for name in quoted_in(kind[2]) if not is_clause(name, kind[1], text)]
+        for name in missing:
+            wrong += 1
+            tell(path, f"`{name}` is not in {', '.join(crates)} as is said")
+    return wrong
+
+
+def are_promised():
+    """Whether the clauses that README.md names are those of the top call."""
+    promised = {name for head, cells in rows_of(README) if head == "Of" for name in quoted_in(cells[-1])}
+    missing = [it for it in sorted(promised) if not is_clause(it, "clause", read(f"{here}/crates/pt_cli/src/top.rt"))]
+    for name in missing:
+        tell(README, f"`{name}` is no clause of tracepipe")
+    return len(missing)
+
+
+def are_counted():
+    """Whether the numbers of crates and of wrong bodies are those of the repository."""
+    wrong = 0
+    for what, count in [
+        ("wrong bodies", len(glob.glob(f"{here}/crates/*/must-fail/*.edit"))),
+        ("crates", len(CRATES)),
+    ]:
+        for least, said in re.findall(rf"(more than )?([\d,]+) {what}", read(README)):
+            number = int(said.replace(",", ""))
+            if number != count and not (least and number < count):
+                wrong += 1
+                tell(README, f"{least}{said} {what}: there are {count}")
+    return wrong
+
+
+def fault_of(edit):
+    """What is wrong with a wrong body: each old text stands exactly once in its file, as the lines before have left it."""
+    texts, at, old = {}, None, None
+    for line in read(edit).splitlines():
+        word, _, text = line.partition(": ")
+        if word == "file":
+            at = f"{os.path.dirname(os.path.dirname(edit))}/{text.strip()}"
+            if not os.path.exists(at):
+                return f"no file {text}"
+            texts.setdefault(at, read(at))
+        elif word == "old":
+            old = text
+            if at is None or texts[at].count(old) != 1:
+                return f"does not stand exactly once: {old.strip()}"
+        elif word.rstrip(":") == "new":
+            texts[at] = texts[at].replace(old, text)
+    return None if old else "changes nothing"
+
+
+def are_planted():
+    """Whether each wrong body can be planted in the sources as they are."""
+    wrong = 0
+    for edit in sorted(glob.glob(f"{here}/crates/*/must-fail/*.edit")):
+        fault = fault_of(edit)
+        if fault:
+            wrong += 1
+            tell(edit, fault)
+    return wrong
+
+
+def are_tested():
+    """Whether each line of a snippet of README.md stands in a test that runs."""
+    tests = "".join(read(name) for name in glob.glob(f"{here}/crates/*/src/**/tests*.rt", recursive=True))
+    lines = [line.strip() for block in re.findall(r"```rust\n(.*?)```", read(README), re.S) for line in block.splitlines()]
+    missing = [line for line in lines if line and line not in tests]
+    for line in missing:
+        tell(README, f"a snippet has what no test has: {line}")
+    return len(missing)
+
+
+def are_measured():
+    """Whether each figure of README.md is one of docs/MEASURED.md."""
+    figures = read(README).split("## Figures")[1].split("\n## ")[0]
+    missing = [
+        number
+        for row in re.findall(r"^\| (?!What|---)(.*) \|$", figures, re.M)
+        for number in re.findall(r"\d[\d,.]*(?: million)?(?: [a-z]+)?", row.split("|", 1)[1])
+        if number.split()[0] not in read(f"{here}/docs/MEASURED.md")
+    ]
+    for number in missing:
+        tell(README, f"a figure that docs/MEASURED.md has not: {number}")
+    return len(missing)
+
+
+def runs_of(path):
     """The runs in a document: the command, and the lines that it is shown to print."""
     runs, is_open = [], False
-    for line in text.splitlines():
+    for line in read(path).splitlines():
         told = re.match(r"(?: {4}| {7})(.*)", line)
         if told and told[1].startswith("$ "):
             runs.append((told[1][2:].split(" #")[0].strip(), []))
@@ -40,70 +240,40 @@ def is_shown(shown, printed):
     return len(shown) == len(printed)
 
 
-def run_all(documents):
-    wrong = tried = 0
+def differ(path, room):
+    """How many runs of a document print something else, of how many."""
+    runs = [(command, shown) for command, shown in runs_of(path) if OURS.match(command)]
+    wrong = 0
+    for command, shown in runs:
+        ran = subprocess.run(command, shell=True, cwd=room, capture_output=True, text=True)
+        printed = (ran.stdout + ran.stderr).splitlines()
+        if not is_shown(shown, printed):
+            wrong += 1
+            tell(path, command)
+            print("  shown:  ", *shown, sep="\n    ")
+            print("  printed:", *printed[:20], sep="\n    ")
+    return wrong, len(runs)
+
+
+def run_all():
+    """Makes the runs of all documents, in one folder, where `./tracepipe` is the program."""
+    if subprocess.run([program, "gen", "0", "16"], stdout=subprocess.DEVNULL).returncode:
+        print("there is no program to run")
+        return 1
     with tempfile.TemporaryDirectory() as room:
         with open(f"{room}/tracepipe", "w") as script:
-            script.write(f'#!/bin/sh\nexec "{here}/tracepipe" "$@"\n')
+            script.write(f'#!/bin/sh\nexec "{program}" "$@"\n')
         os.chmod(f"{room}/tracepipe", 0o755)
         os.symlink(f"{here}/examples", f"{room}/examples")
-        for name in documents:
-            for command, shown in runs_of(open(name).read()):
-                if not OURS.match(command):
-                    continue
-                tried += 1
-                ran = subprocess.run(command, shell=True, cwd=room, capture_output=True, text=True)
-                printed = (ran.stdout + ran.stderr).splitlines()
-                if not is_shown(shown, printed):
-                    wrong += 1
-                    print(f"{os.path.relpath(name, here)}: {command}")
-                    print("  shown:  ", *shown, sep="\n    ")
-                    print("  printed:", *printed[:20], sep="\n    ")
-    print(f"{tried} runs, {wrong} differ")
+        ran = [differ(path, room) for path in DOCUMENTS]
+    wrong = sum(it[0] for it in ran)
+    print(f"{sum(it[1] for it in ran)} runs, {wrong} differ")
     return wrong
 
 
-def counted(readme):
-    """Whether the numbers of crates and of wrong bodies are those of the repository."""
-    wrong = 0
-    for what, words, count in [
-        ("wrong bodies", r"([\d,]+) wrong bodies", len(glob.glob(f"{here}/crates/*/must-fail/*.edit"))),
-        ("crates", r"([\d,]+) crates", len(glob.glob(f"{here}/crates/*/src"))),
-    ]:
-        for said in re.findall(words, readme):
-            if int(said.replace(",", "")) != count:
-                wrong += 1
-                print(f"README.md says {said} {what}: there are {count}")
-    return wrong
-
-
-def quoted(readme):
-    """Whether each line of a snippet stands in a test that runs."""
-    tests = "".join(open(name).read() for name in glob.glob(f"{here}/crates/*/src/**/tests*.rt", recursive=True))
-    lines = [line.strip() for block in re.findall(r"```rust\n(.*?)```", readme, re.S) for line in block.splitlines()]
-    missing = [line for line in lines if line and line not in tests]
-    for line in missing:
-        print(f"README.md quotes what no test has: {line}")
-    return len(missing)
-
-
-def measured(readme):
-    """Whether each figure of README.md is one of docs/MEASURED.md."""
-    figures = readme.split("## Figures")[1].split("\n## ")[0]
-    told = open(f"{here}/docs/MEASURED.md").read()
-    missing = [
-        number
-        for row in re.findall(r"^\| (?!What|---)(.*) \|$", figures, re.M)
-        for number in re.findall(r"\d[\d,.]*(?: million)?(?: [a-z]+)?", row.split("|", 1)[1])
-        if number.split()[0] not in told
-    ]
-    for number in missing:
-        print(f"README.md has a figure that docs/MEASURED.md has not: {number}")
-    return len(missing)
-
-
-readme = open(f"{here}/README.md").read()
-wrong = run_all([f"{here}/README.md", *sorted(glob.glob(f"{here}/docs/*.md"))])
-wrong += counted(readme) + quoted(readme) + measured(readme)
+wrong = sum(lead_somewhere(path) + are_named(path) + are_defined(path) for path in DOCUMENTS)
+wrong += are_mapped() + are_claimed() + are_promised() + are_counted() + are_planted() + are_tested() + are_measured()
+print(f"words, counts and figures: {wrong} differ")
+wrong += run_all()
 sys.exit(1 if wrong else 0)
 COMPARE

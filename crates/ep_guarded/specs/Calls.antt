@@ -16,7 +16,7 @@ use Rattle.ep_guarded.specs.declared.agreed.Agreed.{Agreed}
 use Rattle.ep_guarded.specs.declared.agreed.Agreed.TheVariants as agreed
 use Rattle.ep_slot.specs.declared.shown.Shown.{Shown}
 use Rattle.ep_slot.specs.Slot.{with_steal}
-use Rattle.ep_guarded.specs.Tied.{hand_after, AreTaken, IsAnswered}
+use Rattle.ep_guarded.specs.Tied.{hand_after, AreTaken, Answers}
 use Rattle.ep_guarded.specs.declared.grant.Grant.{Grant}
 use Rattle.ep_guarded.specs.declared.kept.Kept.{Kept}
 use Rattle.ep_guarded.specs.Resting.{KeptRests, RowOver, held_as, state_of}
@@ -57,7 +57,7 @@ pub record IsShown (events : List EventDef) (writes : ℕ → List Write) (slot 
   pub held : held_as (Some new_kept) ≡ held_as (Some kept)
   pub rests : KeptRests events writes new_kept
   pub row_is : ShowsRow slot new_kept.told.opening row new_row
-  pub answered : IsAnswered row.stamp write shown (state_of kept) (state_of new_kept)
+  pub answers : Answers slot write shown row new_row (state_of kept) (state_of new_kept)
 
 -- What is open, if something is, was shown the row's write.
 pub record ShownIn (events : List EventDef) (writes : ℕ → List Write) (slot : ℕ) (write : Write) (shown : Shown) (row new_row : RowState) (kept new_kept : Option Kept) : Type 0 where

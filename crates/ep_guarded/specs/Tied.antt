@@ -1,5 +1,5 @@
 -- What contracts see of rows and buffers with their halves of ties. All of it is this project's own.
-use Rattle.std.specs.Prelude.{ℕ, ◌+◌, ◌*◌, ◌≤◌, List, length, take, Option, None, Some}
+use Rattle.std.specs.Prelude.{ℕ, ◌+◌, ◌*◌, ◌≤◌, List, length, take, Option, None, Some, slice_set}
 use Rattle.std.specs.List.{All}
 use Rattle.std.specs.Prelude.{◌≡◌, ◌≢◌, ◌⊎◌, ◌↔◌, true, IsTrue}
 use Rattle.ep_defs.specs.declared.limits.TheConstants.{SESSIONS}
@@ -17,7 +17,7 @@ use Rattle.ep_slot.specs.Slot.{SlotState, AreRising, shown_slot, with_steal, num
 use Rattle.ep_slot.specs.Hand.{HandState}
 use Rattle.ep_row.specs.AtRest.{write_of}
 use Rattle.ep_row.specs.Bits.{one_if}
-use Rattle.ep_row.specs.Row.{RowState}
+use Rattle.ep_row.specs.Row.{RowState, slot_of, opening_of}
 use Rattle.ep_guarded.specs.declared.agreed.Told.{Told}
 use Rattle.ep_guarded.specs.declared.agreed.Stand.{Stand}
 use Rattle.ep_guarded.specs.declared.agreed.Agreed.{Agreed}
@@ -106,13 +106,20 @@ pub record IsAnswered (stamp : ℕ) (write : Write) (shown : Shown) (old new : K
   pub slot : new.slot ≡ shown_slot (is_refused shown) old.slot stamp write
   pub seat : new.seat ≡ record old.seat { taken = new.seat.taken; dry = old.seat.dry + one_if (is_refused shown) }
 
+-- A row's write was shown in this slot to what is open there, which the row knew as it was and knows as it is now. So the
+-- number is the one behind those of which the row knew.
+pub record Answers (slot : ℕ) (write : Write) (shown : Shown) (row new_row : RowState) (old new : KeptState) : Type 0 where
+  pub knew : slot_of row slot ≡ Some (opening_of old.slot)
+  pub answered : IsAnswered row.stamp write shown old new
+  pub knows : new_row.slots ≡ slice_set row.slots slot (Some (opening_of new.slot))
+
 -- The same of what is open in a buffer.
-pub record AnswersShow (stamp : ℕ) (write : Write) (shown : Shown) (old new : Option KeptState) : Type 0 where
+pub record AnswersShow (slot : ℕ) (write : Write) (shown : Shown) (row new_row : RowState) (old new : Option KeptState) : Type 0 where
   pub one : KeptState
   pub was : old ≡ Some one
   pub next : KeptState
   pub now : new ≡ Some next
-  pub answered : IsAnswered stamp write shown one next
+  pub is : Answers slot write shown row new_row one next
 
 -- ---- what is stolen
 

@@ -99,7 +99,7 @@ impl<'a, P: Program> TiedBuffer<'a, P> {
         requires due { TellsDue P.events (P.writes row.old.thread) slot write.now row.old half.old.value }
         requires fits { IsTrue (valid.fits write.now) }
         ensures shown { ShownBy slot row.old row.new half.old.value half.new.value }
-        ensures answer { AnswersShow row.old.stamp write.now result self.old.kept self.new.kept }
+        ensures answer { AnswersShow slot write.now result row.old row.new self.old.kept self.new.kept }
         ensures places { (self.new.place ≡ self.old.place) × (half.new.place ≡ half.old.place) }
     {
         let next = next_told(&self.kept);

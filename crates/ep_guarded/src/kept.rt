@@ -8,6 +8,7 @@ ghost use Rattle.ep_slot.specs.Hand.{Agrees};
 ghost use Rattle.ep_guarded.specs.Resting.{KeptRests, told_as, held_as};
 ghost use Rattle.ep_guarded.specs.Calls.{raised, IsDueFor, IsShown, ShownIn, IsStolen, StolenIn, IsOpened, ClosesRow};
 ghost use Rattle.ep_guarded.specs.Tied.{AreTaken, AreMarks};
+ghost use Rattle.ep_guarded.specs.Granted.{IsGrantFor};
 ghost use Rattle.ep_row.specs.Row.{slot_of, HasOpen};
 ghost use Rattle.ep_row.specs.AtRest.{IsNumbered};
 ghost use Rattle.ep_pool.specs.Shared.{IsSeatOf};
@@ -17,7 +18,7 @@ use crate::agreed::{Agreed, HandNumbers, Held, Told};
 use crate::grant::Grant;
 use crate::program::Program;
 use ep_defs::limits::{SESSIONS, WRITES};
-use ep_defs::{EventDef, Marks, Write};
+use ep_defs::{Marks, Write};
 use ep_pool::{PoolSeat, Seated};
 use ep_row::{Opening, Row};
 use ep_slot::{Batch, Hand, Shown, Slot};
@@ -158,27 +159,28 @@ pub(crate) fn open<'a, P: Program>(
     slot: u32,
     session: u64,
     grant: &'a Grant,
-    events: &[EventDef],
     seat: &mut PoolSeat,
 ) -> Result<(Kept<'a>, Hand), AllocError>
     requires within { slot < SESSIONS }
     requires off { IsNone (slot_of row.old slot) }
     requires quiet { row.old.in_write ≡ false }
     requires stays { row.old.left ≡ false }
-    requires events { length events.now ≡ length row.old.masks }
+    requires events { length P.events ≡ length row.old.masks }
+    requires admitted { IsGrantFor P.events grant.now }
     requires seat { IsSeatOf grant.now.pool seat.old }
     requires share { 1 < seat.old.share }
-    ensures opened { IfOk result (λ made. IsOpened events.now P.writes slot session grant.now row.old row.new made.0 made.1) }
+    ensures opened { IfOk result (λ made. IsOpened P.events P.writes slot session grant.now row.old row.new made.0 made.1) }
     ensures seat { OnOk result (seat.new ≡ record seat.old { share = seat.old.share - 1 }) }
     ensures same { OnErr result (row.new ≡ row.old) }
     ensures seat_same { OnErr result (seat.new ≡ seat.old) }
 {
-    let (made, hand) = row.open_on(alloc, slot, session, &grant.config, events)?;
+    let chunks = grant.config.chunks;
+    let (made, hand) = row.open_admitted(alloc, slot, session, chunks, grant.admitted.as_slice())?;
     let told = Told {
         opening: Opening {
             session,
             from: hand.from(),
-            chunks: grant.config.chunks,
+            chunks,
             shown: 0,
         },
         thread: hand.thread(),

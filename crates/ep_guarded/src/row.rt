@@ -4,7 +4,7 @@ ghost use Rattle.std.specs.Int.{bit_at};
 ghost use Rattle.std.specs.Option.{ForSome};
 ghost use Rattle.ep_defs.specs.Session as valid;
 ghost use Rattle.ep_row.specs.Bits.{ClearsBit};
-ghost use Rattle.ep_row.specs.Row.{new_row, with_begin};
+ghost use Rattle.ep_row.specs.Row.{mask_of, new_row, with_begin};
 ghost use Rattle.ep_pool.specs.Shared.{IsSeatOf};
 ghost use Rattle.ep_pool.specs.declared.limits.TheConstants.{SEAT_COUNTS};
 ghost use Rattle.ep_tie.specs.Tied.{Tied};
@@ -12,6 +12,7 @@ ghost use Rattle.ep_guarded.specs.declared.agreed.Agreed.{Agreed as AgreedValue}
 ghost use Rattle.ep_guarded.specs.declared.agreed.Agreed.TheVariants as agreed;
 ghost use Rattle.ep_guarded.specs.declared.row.NotOpened.TheVariants as not_opened;
 ghost use Rattle.ep_guarded.specs.Tied.{stand_in, left_in, hand_in, grant_in, next_stand, thread_of, buffer_number, buffer_place, AnswersShow, IsAway, IsDone};
+ghost use Rattle.ep_guarded.specs.Granted.{IsGrantFor};
 ghost use Rattle.ep_guarded.specs.Sessions.{Opens, Closes};
 
 use crate::agreed::{Agreed, Stand};
@@ -20,7 +21,7 @@ use crate::grant::Grant;
 use crate::kept::{close, open};
 use crate::program::Program;
 use ep_defs::limits::{SESSIONS, WRITES};
-use ep_defs::{EventDef, Marks, Write};
+use ep_defs::{Marks, Write};
 use ep_pool::PoolSeat;
 use ep_row::Row;
 use ep_slot::{Batch, Hand, Shown};
@@ -86,14 +87,15 @@ impl<'a, P: Program> TiedRow<'a, P> {
         })
     }
 
-    /// Begins the next write of the row's thread, which has its half of the tie. It takes no memory.
+    /// Begins the next write of the row's thread, which has its half of the tie, and answers a bit for each slot whose session
+    /// gets it. It takes no memory.
     pub fn begin(
         &mut self,
         ties: &Ties<P, Agreed<'a>>,
         half: &mut Right<P, Agreed<'a>>,
         stamp: u64,
         write: &Write,
-    )
+    ) -> u64
         requires place { half.old.place ≡ self.old.number }
         requires here { IsSome (stand_in half.old.value) }
         requires quiet { self.old.row.in_write ≡ false }
@@ -102,6 +104,7 @@ impl<'a, P: Program> TiedRow<'a, P> {
         requires some { 0 < write.now.event }
         requires event { write.now.event ≤ length P.events }
         requires fits { IsTrue (valid.fits write.now) }
+        ensures due { result ≡ mask_of self.old.row write.now.event }
         ensures row { self.new.row ≡ with_begin self.old.row stamp write.now }
         ensures number { (self.new.number ≡ self.old.number) × (self.new.life ≡ self.old.life) }
         ensures write { slice_get (P.writes self.old.row.thread) self.old.row.index ≡ Some write.now }
@@ -114,7 +117,7 @@ impl<'a, P: Program> TiedRow<'a, P> {
             index: self.row.index() + 1,
         });
         self.writer.set(ties, half, &next);
-        self.row.begin(stamp, write);
+        self.row.begin(stamp, write)
     }
 
     /// How far the row's thread has come, by the thread's half of the tie. It changes nothing, takes no memory and waits
@@ -160,7 +163,7 @@ impl<'a, P: Program> TiedRow<'a, P> {
         requires last { slice_get (P.writes self.old.row.thread) (self.old.row.index - 1) ≡ Some write.now }
         requires place { buffer.old.place ≡ buffer_place P.rows (buffer_number self.old.number slot) }
         requires fits { IsTrue (valid.fits write.now) }
-        ensures answer { AnswersShow self.old.row.stamp write.now result buffer.old.kept buffer.new.kept }
+        ensures answer { AnswersShow slot write.now result self.old.row self.new.row buffer.old.kept buffer.new.kept }
         ensures due { ClearsBit slot self.old.row.due self.new.row.due }
         ensures bounded { self.new.row.due < 2 ^ 64 }
         ensures others { self.new.row ≡ record self.old.row { due = self.new.row.due; slots = self.new.row.slots } }
@@ -185,6 +188,13 @@ impl<'a, P: Program> TiedRow<'a, P> {
         ensures number { (self.new.number ≡ self.old.number) × (self.new.life ≡ self.old.life) }
     {
         self.row.end();
+    }
+
+    /// How many writes the row's thread has begun.
+    pub fn index(&self) -> u32
+        ensures { result ≡ self.now.row.index }
+    {
+        self.row.index()
     }
 
     /// The row's life, from 0.
@@ -276,7 +286,6 @@ impl<'a, P: Program> TiedRow<'a, P> {
         half: &mut Right<P, Agreed<'a>>,
         session: u64,
         grant: &'a Grant,
-        events: &[EventDef],
         seat: &mut PoolSeat,
     ) -> Result<Hand, NotOpened>
         requires within { slot < SESSIONS }
@@ -284,7 +293,7 @@ impl<'a, P: Program> TiedRow<'a, P> {
         requires place { buffer.old.place ≡ buffer_place P.rows (buffer_number self.old.number slot) }
         requires hand_place { half.old.place ≡ buffer.old.place + 1 }
         requires off { hand_in half.old.value ≡ None }
-        requires events { events.now ≡ P.events }
+        requires admitted { IsGrantFor P.events grant.now }
         requires seat { IsSeatOf grant.now.pool seat.old }
         requires share { 1 < seat.old.share }
         ensures away { (result ≡ Err not_opened.Away) ↔ IsAway life self.old }
@@ -302,9 +311,7 @@ impl<'a, P: Program> TiedRow<'a, P> {
         if self.row.left() || self.life != life {
             return Err(NotOpened::Away);
         }
-        match self.open_here(
-            alloc, ties, slot, buffer, half, session, grant, events, seat,
-        ) {
+        match self.open_here(alloc, ties, slot, buffer, half, session, grant, seat) {
             Ok(hand) => Ok(hand),
             Err(AllocError) => Err(NotOpened::OutOfMemory),
         }
@@ -320,7 +327,6 @@ impl<'a, P: Program> TiedRow<'a, P> {
         half: &mut Right<P, Agreed<'a>>,
         session: u64,
         grant: &'a Grant,
-        events: &[EventDef],
         seat: &mut PoolSeat,
     ) -> Result<Hand, AllocError>
         requires within { slot < SESSIONS }
@@ -329,7 +335,7 @@ impl<'a, P: Program> TiedRow<'a, P> {
         requires place { buffer.old.place ≡ buffer_place P.rows (buffer_number self.old.number slot) }
         requires hand_place { half.old.place ≡ buffer.old.place + 1 }
         requires off { hand_in half.old.value ≡ None }
-        requires events { events.now ≡ P.events }
+        requires admitted { IsGrantFor P.events grant.now }
         requires seat { IsSeatOf grant.now.pool seat.old }
         requires share { 1 < seat.old.share }
         ensures opens { IfOk result (λ hand. Opens session self.old.row.thread
@@ -344,7 +350,7 @@ impl<'a, P: Program> TiedRow<'a, P> {
         ensures places { (buffer.new.place ≡ buffer.old.place) × (half.new.place ≡ half.old.place) }
     {
         buffer.meet(ties, &mut self.buffers[slot as usize], half);
-        let (kept, hand) = open::<P>(alloc, &mut self.row, slot, session, grant, events, seat)?;
+        let (kept, hand) = open::<P>(alloc, &mut self.row, slot, session, grant, seat)?;
         buffer.put(ties, &mut self.buffers[slot as usize], half, kept, &hand);
         Ok(hand)
     }

@@ -1,20 +1,21 @@
 -- What one session's rows are after one of their halves changes.
-use Rattle.std.proofs.Common.{◌≡◌, ℕ, zero, suc, ◌+◌, ◌-◌, ◌*◌, ◌<◌, ◌≤◌, true, false, List, [], ◌∷◌, Option, None, Some, length, refl, ap, sym, ◌∙◌, arith}
+use Rattle.std.proofs.Common.{◌≡◌, ℕ, zero, suc, ◌+◌, ◌-◌, ◌*◌, ◌<◌, ◌≤◌, true, false, List, [], ◌∷◌, Option, None, Some, length, refl, ap, sym, ◌∙◌, subst, arith}
 use Rattle.std.specs.Prelude.{◌==◌, ◌&&◌, if◌then◌else◌, slice_get, slice_set, slice_index_or}
 use Rattle.std.specs.List.{sum_by}
 use Rattle.std.specs.Option.{option_map_or}
-use Rattle.std.proofs.lemmas.Bool.{eqb-true, eqb-false, eq-eqb, ne_eqb}
-use Rattle.std.proofs.lemmas.List.{get_or-set_same, get_or-set_other, length-set}
+use Rattle.std.proofs.lemmas.Bool.{eqb-true, eq-eqb}
+use Rattle.std.proofs.lemmas.List.{length-set}
 use Rattle.std.proofs.lemmas.List.Sums.{sum_by-cons, sum_by-set}
 use Rattle.std.proofs.lemmas.Option.{slice_get_within, get_or_from_slice_get}
+use Rattle.ep_defs.specs.declared.event.EventDef.{EventDef}
 use Rattle.ep_pool.specs.Shared.{SeatState}
 use Rattle.ep_slot.specs.Hand.{HandState}
-use Rattle.ep_stream.specs.Rows.{IsSetAt}
 use Rattle.ep_tie.specs.Tied.{Tied}
 use Rattle.ep_guarded.specs.declared.agreed.Agreed.{Agreed}
 use Rattle.ep_guarded.specs.declared.agreed.Agreed.TheVariants as agreed
 use Rattle.ep_guarded.specs.declared.grant.Grant.{Grant}
 use Rattle.ep_guarded.specs.declared.agreed.Stand.{Stand}
+use Rattle.ep_guarded.specs.Granted.{IsGrantFor}
 use Rattle.ep_guarded.specs.Tied.{hand_in, grant_in, stand_in}
 use Rattle.ep_guarded.proofs.Resting.{each-set}
 use Rattle.ep_live.specs.Free.{IsFree, HasEnded}
@@ -44,49 +45,6 @@ said-there says halves own row slot y is =
       | false ↦ λ e is. absurd (none-some y is)
     ]
     refl is
-
-half-set : (halves : List (Tied Agreed)) (row : ℕ) (now : Tied Agreed) (r : ℕ) → 0 < row → row ≤ length halves → half_at (slice_set halves (row - 1) now) r ≡ (if r == row then now else half_at halves r)
-half-set halves zero now r some within = absurd (omega (arith, some))
-half-set halves (suc place) now r some within =
-    let before : suc place - 1 ≡ place = omega arith in
-    ap (λ (k : ℕ). half_at (slice_set halves k now) r) before ∙ at r
-  where
-    at : (r : ℕ) → half_at (slice_set halves place now) r ≡ (if r == suc place then now else half_at halves r)
-    at zero = ap (λ v. if v then now else half_at halves 0) (sym (ne_eqb 0 (suc place) (λ (e : 0 ≡ suc place). omega (arith, e))))
-    at (suc k) =
-        elim (suc k == suc place) as (λ v. (suc k == suc place) ≡ v → slice_index_or (slice_set halves place now) k (record { place = 0; value = None }) ≡ (if v then now else slice_index_or halves k (record { place = 0; value = None }))) [
-          | true ↦ λ e. let is = eqb-true (suc k) (suc place) e in
-              let here : k ≡ place = omega (arith, is) in
-              ap (λ (n : ℕ). slice_index_or (slice_set halves place now) n (record { place = 0; value = None })) here ∙ get_or-set_same halves place now (record { place = 0; value = None }) (omega (arith, within))
-          | false ↦ λ e. let not = eqb-false (suc k) (suc place) e in
-              get_or-set_other halves place k now (record { place = 0; value = None }) (λ (is : k ≡ place). not (ap suc is))
-        ]
-        refl
-
--- One half says something else.
-pub said-set : {A : Type 0} (says : Option Agreed → Option A) (halves : List (Tied Agreed)) (own row slot : ℕ) (now : Tied Agreed) (value : Option A) → slot ≡ own → 0 < row → row ≤ length halves → says now.value ≡ value
-    → IsSetAt row slot value (said_by says halves own) (said_by says (slice_set halves (row - 1) now) own)
-said-set {A = A} says halves own row slot now value own_is some within is r s =
-    ap (λ (half : Tied Agreed). if s == own then says half.value else None) (half-set halves row now r some within)
-    ∙ ap (λ (n : ℕ). if s == n then says (if r == row then now else half_at halves r).value else None) (sym own_is)
-    ∙ cases
-    ∙ ap (λ (n : ℕ). if (r == row) && (s == slot) then value else (if s == n then says (half_at halves r).value else None)) own_is
-  where
-    nothing : Option A
-    nothing = None
-
-    cases : (if s == slot then says (if r == row then now else half_at halves r).value else None) ≡ (if (r == row) && (s == slot) then value else (if s == slot then says (half_at halves r).value else None))
-    cases =
-        elim (s == slot) as (λ v. (if v then says (if r == row then now else half_at halves r).value else None) ≡ (if (r == row) && v then value else (if v then says (half_at halves r).value else None))) [
-          | true ↦ elim (r == row) as (λ w. says (if w then now else half_at halves r).value ≡ (if w && true then value else says (half_at halves r).value)) [
-            | true ↦ is
-            | false ↦ refl
-          ]
-          | false ↦ elim (r == row) as (λ w. nothing ≡ (if w && false then value else None)) [
-            | true ↦ refl
-            | false ↦ refl
-          ]
-        ]
 
 -- A half that stays leaves the list as it was.
 pub set-same : {A : Type 0} (xs : List A) (k : ℕ) (x : A) → slice_get xs k ≡ Some x → slice_set xs k x ≡ xs
@@ -162,8 +120,8 @@ few-stolen (half ∷ halves) each =
     omega (arith, stolen, hands, one, rest)
 
 -- What was taken in all.
-pub few-given : (rows slot : ℕ) (grant : Grant) (halves : List (Tied Agreed)) (seat : SeatState) (openings : ℕ) (lives : List ℕ) → AreRowsOfOne rows slot grant halves seat openings lives → sum_by stolen_in halves + seat.taken ≤ 4000000000000000
-few-given rows slot grant halves seat openings lives rests =
+pub few-given : (rows : ℕ) (events : List EventDef) (slot : ℕ) (grant : Grant) (halves : List (Tied Agreed)) (seat : SeatState) (openings : ℕ) (lives : List ℕ) → AreRowsOfOne rows events slot grant halves seat openings lives → sum_by stolen_in halves + seat.taken ≤ 4000000000000000
+few-given rows events slot grant halves seat openings lives rests =
     let stolen = few-stolen halves (λ k half is. (rests.halves_are k half is).few) in
     let taken : seat.taken + 4000000000 * sum_by hands_in halves ≤ 4000000000 * openings = rests.taken in
     let few : openings ≤ 1000000 = rests.few in
@@ -185,16 +143,16 @@ sum-set f halves k half now is =
 -- ---- the rows after each step
 
 -- One half and the seat change, each half as it must be.
-pub rows-changed : (rows slot : ℕ) (grant : Grant) (halves : List (Tied Agreed)) (seat new_seat : SeatState) (openings new_openings k : ℕ) (lives : List ℕ) (half now : Tied Agreed)
-    → AreRowsOfOne rows slot grant halves seat openings lives → slice_get halves k ≡ Some half
+pub rows-changed : (rows : ℕ) (events : List EventDef) (slot : ℕ) (grant : Grant) (halves : List (Tied Agreed)) (seat new_seat : SeatState) (openings new_openings k : ℕ) (lives : List ℕ) (half now : Tied Agreed)
+    → AreRowsOfOne rows events slot grant halves seat openings lives → slice_get halves k ≡ Some half
     → now.place ≡ half.place → ((g : Grant) → grant_in now.value ≡ Some g → g ≡ grant) → stolen_in now ≤ 4000000000 * hands_in now
     → new_seat.pool ≡ seat.pool → new_seat.total ≡ seat.total → new_seat.seats ≡ seat.seats
     → new_seat.share + hands_in now ≡ seat.share + hands_in half
     → new_seat.given ≡ seat.given → stolen_in half + seat.taken ≤ stolen_in now + new_seat.taken
     → new_seat.taken + 4000000000 * hands_in now + 4000000000 * openings ≤ seat.taken + 4000000000 * hands_in half + 4000000000 * new_openings
     → new_openings ≤ 1000000
-    → AreRowsOfOne rows slot grant (slice_set halves k now) new_seat new_openings lives
-rows-changed rows slot grant halves seat new_seat openings new_openings k lives half now rests at place granted few pool total seats share given stolen taken most =
+    → AreRowsOfOne rows events slot grant (slice_set halves k now) new_seat new_openings lives
+rows-changed rows events slot grant halves seat new_seat openings new_openings k lives half now rests at place granted few pool total seats share given stolen taken most =
     let hands = sum-set hands_in halves k half now at in
     let chunks = sum-set stolen_in halves k half now at in
     let was_taken : seat.taken + 4000000000 * sum_by hands_in halves ≤ 4000000000 * openings = rests.taken in
@@ -204,6 +162,7 @@ rows-changed rows slot grant halves seat new_seat openings new_openings k lives 
       count = length-set halves k now ∙ rests.count;
       lives_are = rests.lives_are;
       within = rests.within;
+      admitted = rests.admitted;
       halves_are = each-set (IsHandHalf rows slot grant) halves k now (λ n x is _. rests.halves_are n x is)
           (record { place = place ∙ (rests.halves_are k half at).place; granted = granted; few = few });
       seat_is = (pool ∙ rests.seat_is.0, total ∙ rests.seat_is.1);
@@ -213,6 +172,12 @@ rows-changed rows slot grant halves seat new_seat openings new_openings k lives 
       taken = omega (arith, hands, was_taken, taken);
       few = most;
     }
+
+-- What is out after so many chunks more were taken with a hand of the session's own slot.
+pub out-more : (own slot s all now more : ℕ) → slot ≡ own → now ≡ all + more → (if s == own then now else 0) ≡ (if s == slot then (if s == own then all else 0) + more else (if s == own then all else 0))
+out-more own slot s all now more is sum =
+    subst (λ (k : ℕ). (if s == own then now else 0) ≡ (if s == k then (if s == own then all else 0) + more else (if s == own then all else 0))) (sym is)
+    (elim (s == own) as (λ v. (if v then now else 0) ≡ (if v then (if v then all else 0) + more else (if v then all else 0))) [ true ↦ sum | false ↦ refl ])
 
 -- ---- the rows at first
 
@@ -225,11 +190,11 @@ no_hands f (half ∷ halves) none =
     omega (arith, all, zero_is, rest)
 
 -- The rows of a session that is open nowhere.
-pub rows-fresh : (rows slot : ℕ) (grant : Grant) (halves : List (Tied Agreed)) (seat : SeatState) (lives : List ℕ)
-    → IsFree rows slot halves → length lives ≡ rows
+pub rows-fresh : (rows : ℕ) (events : List EventDef) (slot : ℕ) (grant : Grant) (halves : List (Tied Agreed)) (seat : SeatState) (lives : List ℕ)
+    → IsFree rows slot halves → length lives ≡ rows → IsGrantFor events grant
     → seat ≡ record { pool = grant.pool.pool; total = grant.pool.total; seats = rows + 1; share = rows + 1; taken = 0; given = 0; dry = 0 }
-    → AreRowsOfOne rows slot grant halves seat 0 lives
-rows-fresh rows slot grant halves seat lives free lives_are seat_is =
+    → AreRowsOfOne rows events slot grant halves seat 0 lives
+rows-fresh rows events slot grant halves seat lives free lives_are admitted seat_is =
     let off : (k : ℕ) (half : Tied Agreed) → slice_get halves k ≡ Some half → hand_in half.value ≡ None = λ k half is. (free.halves_are k half is).off in
     let hands = no_hands hands_in halves (λ k half is. (counts-none half (off k half is)).0) in
     let stolen = no_hands stolen_in halves (λ k half is. (counts-none half (off k half is)).1) in
@@ -240,6 +205,7 @@ rows-fresh rows slot grant halves seat lives free lives_are seat_is =
       count = free.count;
       lives_are = lives_are;
       within = free.within;
+      admitted = admitted;
       halves_are = λ k half is.
           record {
             place = (free.halves_are k half is).place;
@@ -291,11 +257,11 @@ are-fresh rows set free taken =
 -- ---- the rows at last
 
 -- What the rows of a session leave that is closed everywhere, where nothing is out.
-pub rows-ended : (set now : LiveRowsState) (rows openings : ℕ) → set ≡ now
-    → AreRowsOfOne rows set.slot set.grant set.halves set.seat openings set.lives
+pub rows-ended : (set now : LiveRowsState) (rows : ℕ) (events : List EventDef) (openings : ℕ) → set ≡ now
+    → AreRowsOfOne rows events set.slot set.grant set.halves set.seat openings set.lives
     → ((row slot : ℕ) → expected_in now row slot ≡ None) → ((slot : ℕ) → out_in now slot ≡ 0)
     → IsFree rows set.slot set.halves × HasEnded rows (record { slot = set.slot; grant = set.grant; seat = set.seat })
-rows-ended set now rows openings is rests all_closed all_given =
+rows-ended set now rows events openings is rests all_closed all_given =
     let closed : (row : ℕ) → expected_in set row set.slot ≡ None = λ row. ap (λ (v : LiveRowsState). expected_in v row set.slot) is ∙ all_closed row set.slot in
     let given : out_in set set.slot ≡ 0 = ap (λ (v : LiveRowsState). out_in v set.slot) is ∙ all_given set.slot in
     let off : (k : ℕ) (half : Tied Agreed) → slice_get set.halves k ≡ Some half → hand_in half.value ≡ None =
@@ -311,7 +277,7 @@ rows-ended set now rows openings is rests all_closed all_given =
     in
     let was_share = rests.share in
     let was_given = rests.given in
-    let most = few-given rows set.slot set.grant set.halves set.seat openings set.lives rests in (
+    let most = few-given rows events set.slot set.grant set.halves set.seat openings set.lives rests in (
       record {
         within = rests.within;
         count = rests.count;

@@ -3,5 +3,5 @@ pub mod Pushing
 pub mod Halves
 pub mod Columns
 pub mod Batches
-pub mod Configs
 pub mod Standing
+pub mod Answering

@@ -5,3 +5,4 @@ pub mod Stands
 pub mod RowSet
 pub mod Outside
 pub mod Tests
+pub mod Written

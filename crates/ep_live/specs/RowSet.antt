@@ -12,6 +12,7 @@ use Rattle.ep_slot.specs.Hand.{HandState}
 use Rattle.ep_tie.specs.Tied.{Tied}
 use Rattle.ep_guarded.specs.declared.agreed.Agreed.{Agreed}
 use Rattle.ep_guarded.specs.declared.grant.Grant.{Grant}
+use Rattle.ep_guarded.specs.Granted.{IsGrantFor}
 use Rattle.ep_guarded.specs.Tied.{hand_in, grant_in, thread_of, buffer_number, AreCounted}
 use Rattle.ep_live.specs.Live.{hand_place}
 
@@ -86,10 +87,11 @@ pub record IsHandHalf (rows slot : ℕ) (grant : Grant) (row : ℕ) (half : Tied
   pub granted : ForSome (grant_in half.value) (λ g. g ≡ grant)
   pub few : stolen_in half ≤ WRITES * hands_in half
 
-pub record AreRowsOfOne (rows slot : ℕ) (grant : Grant) (halves : List (Tied Agreed)) (seat : SeatState) (openings : ℕ) (lives : List ℕ) : Type 0 where
+pub record AreRowsOfOne (rows : ℕ) (events : List EventDef) (slot : ℕ) (grant : Grant) (halves : List (Tied Agreed)) (seat : SeatState) (openings : ℕ) (lives : List ℕ) : Type 0 where
   pub count : length halves ≡ rows
   pub lives_are : length lives ≡ rows
   pub within : slot + 1 ≤ SESSIONS
+  pub admitted : IsGrantFor events grant
   pub halves_are : (k : ℕ) (half : Tied Agreed) → slice_get halves k ≡ Some half → IsHandHalf rows slot grant k half
   pub seat_is : IsSeatOf grant.pool seat
   pub seats : seat.seats ≡ rows + 1

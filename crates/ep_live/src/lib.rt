@@ -16,20 +16,24 @@
 
 mod ended;
 mod free;
+mod grants;
 mod limits;
 mod live;
 mod live_rows;
 mod made;
 mod parked;
 mod stands;
+mod written;
 
 pub use ended::Ended;
 pub use free::{Free, free_slots};
+pub use grants::place;
 pub use limits::ROW_TIES;
 pub use live::{BuffersByNumber, Live, RowsByNumber};
 pub use live_rows::{LiveRows, same_tests_have_the_same_lives, same_tests_have_the_same_stands};
 pub use parked::Parked;
 pub use stands::Stands;
+pub use written::Written;
 
 #[cfg(test)]
 mod tests;

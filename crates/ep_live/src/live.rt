@@ -1,28 +1,33 @@
 //! Rows and buffers behind locks.
-ghost use Rattle.std.specs.Prelude.{◌≡◌, ◌+◌, ◌-◌, ◌*◌, ◌^◌, ◌<◌, ◌≤◌, ℕ, true, false, length, vec_len, option_map, slice_get, All, Some, None, IfOk, IfErr, OnOk, OnErr, IsSome, IsTrue};
+ghost use Rattle.std.specs.Prelude.{◌≡◌, ◌+◌, ◌-◌, ◌*◌, ◌^◌, ◌<◌, ◌≤◌, ℕ, true, false, length, vec_len, option_map, slice_get, All, Some, None, IfOk, IfErr, OnOk, OnErr, IsSome, IsTrue, ◌==◌, if◌then◌else◌};
 ghost use Rattle.std.specs.Int.{bit_at};
 ghost use Rattle.std.specs.Option.{ForSome};
-ghost use Rattle.ep_row.specs.Bits.{ClearsBit};
+ghost use Rattle.ep_row.specs.Bits.{one_if, ClearsBit};
+ghost use Rattle.ep_row.specs.Row.{with_begin};
 ghost use Rattle.ep_defs.specs.Session as valid;
 ghost use Rattle.ep_pool.specs.Shared.{IsSeatOf};
 ghost use Rattle.ep_pool.specs.declared.limits.TheConstants.{SEAT_COUNTS};
 ghost use Rattle.ep_slot.specs.Chain.{records_of, HasRecords};
+ghost use Rattle.ep_slot.specs.Slot.{is_refused};
 ghost use Rattle.ep_row.specs.AtRest.{IsNumbered};
 ghost use Rattle.ep_guarded.specs.declared.agreed.Agreed.TheVariants as agreed;
 ghost use Rattle.ep_guarded.specs.Tied.{stand_in, left_in, hand_in, grant_in, next_stand, thread_of, buffer_number, buffer_place, hand_after, AreTaken};
+ghost use Rattle.ep_guarded.specs.Granted.{IsGrantFor};
 ghost use Rattle.ep_guarded.specs.Sessions.{Opens, Closes};
 ghost use Rattle.ep_live.specs.Live.{hand_place, with_one};
+ghost use Rattle.ep_live.specs.Written.{AnswersBehind, AreAnswered, IsWritten, IsWrittenBehind};
 ghost use Rattle.ep_live.specs.Made.{AreStands, AreHandTies};
 
 use crate::limits::ROW_TIES;
 use crate::made::{make_rows, make_stands};
 use crate::stands::Stands;
+use crate::written::Written;
 use ep_defs::limits::{EVENTS, SESSIONS, WRITES};
 use ep_defs::{EventDef, Marks, Write};
 use ep_guarded::{Agreed, Grant, NotOpened, Program, Stand, TiedBuffer, TiedRow};
 use ep_locks::{Guards, Locks};
 use ep_pool::PoolSeat;
-use ep_slot::{Batch, Hand};
+use ep_slot::{Batch, Hand, Shown};
 use ep_tie::{Blank, Right, Ties};
 use pt_io::{Gate, Moment};
 use std::alloc::{AllocError, Global};
@@ -143,7 +148,8 @@ impl<'a, P: Program> Live<'a, P> {
 
     /// The next write of the thread of the row with this number, which has its half of the tie: it is shown to each session
     /// that gets it. The thread passes the gate at this moment, between the begin and the first show. It waits for the row,
-    /// for each buffer that is due and for the pools of their sessions, and takes no memory.
+    /// for each buffer that is due and for the pools of their sessions, and takes no memory. It answers the write's number,
+    /// and which sessions it was shown to and which of them refused it.
     pub fn write<R: Wait, G: Gate>(
         &self,
         rt: &R,
@@ -153,7 +159,7 @@ impl<'a, P: Program> Live<'a, P> {
         half: &mut Right<P, Agreed<'a>>,
         stamp: u64,
         write: &Write,
-    )
+    ) -> Written
         requires row { number < P.rows }
         requires place { half.old.place ≡ number }
         requires here { IsSome (stand_in half.old.value) }
@@ -162,31 +168,81 @@ impl<'a, P: Program> Live<'a, P> {
         requires some { 0 < write.now.event }
         requires event { write.now.event ≤ length P.events }
         requires fits { IsTrue (valid.fits write.now) }
+        ensures answer { IsWrittenBehind stamp write.now half.old.value result }
         ensures stands { stand_in half.new.value ≡ option_map with_one (stand_in half.old.value) }
         ensures place { half.new.place ≡ half.old.place }
     {
         let (mut row, held) = self.rows.take(rt, number);
-        row.begin(&self.ties, half, stamp, write);
-        gate.pass(at);
-        self.show_all(rt, number, &mut row, write);
-        row.end();
+        let written = self.write_on(rt, gate, at, number, &mut row, half, stamp, write);
         self.rows.put(held, row);
+        written
     }
 
-    // Shows the write that was begun to each session that is due.
-    fn show_all<R: Wait>(&self, rt: &R, number: usize, row: &mut TiedRow<'a, P>, write: &Write)
+    // The next write of the thread of this row, which was taken.
+    fn write_on<R: Wait, G: Gate>(
+        &self,
+        rt: &R,
+        gate: &G,
+        at: Moment,
+        number: usize,
+        row: &mut TiedRow<'a, P>,
+        half: &mut Right<P, Agreed<'a>>,
+        stamp: u64,
+        write: &Write,
+    ) -> Written
+        requires within { number < P.rows }
+        requires number { row.old.number ≡ number }
+        requires quiet { row.old.row.in_write ≡ false }
+        requires place { half.old.place ≡ number }
+        requires here { IsSome (stand_in half.old.value) }
+        requires few { ForSome (stand_in half.old.value) (λ s. s.index < WRITES) }
+        requires next { ForSome (stand_in half.old.value) (λ s. slice_get (P.writes s.thread) s.index ≡ Some write.now) }
+        requires some { 0 < write.now.event }
+        requires event { write.now.event ≤ length P.events }
+        requires fits { IsTrue (valid.fits write.now) }
+        ensures answer { IsWritten stamp write.now row.old.row row.new.row result }
+        ensures row { row.new.row ≡ record (with_begin row.old.row stamp write.now)
+            { in_write = false; due = 0; slots = row.new.row.slots } }
+        ensures number { row.new.number ≡ row.old.number }
+        ensures stood { stand_in half.old.value ≡ Some (record { thread = row.old.row.thread; index = row.old.row.index }) }
+        ensures stands { stand_in half.new.value ≡ option_map with_one (stand_in half.old.value) }
+        ensures place { half.new.place ≡ half.old.place }
+    {
+        let shown = row.begin(&self.ties, half, stamp, write);
+        gate.pass(at);
+        let refused = self.show_all(rt, number, row, write);
+        row.end();
+        Written {
+            number: row.index(),
+            shown,
+            refused,
+        }
+    }
+
+    // Shows the write that was begun to each session that is due. Answers a bit for each slot in which it was refused.
+    fn show_all<R: Wait>(
+        &self,
+        rt: &R,
+        number: usize,
+        row: &mut TiedRow<'a, P>,
+        write: &Write,
+    ) -> u64
         requires within { number < P.rows }
         requires number { row.old.number ≡ number }
         requires begun { 0 < row.old.row.index }
         requires last { slice_get (P.writes row.old.row.thread) (row.old.row.index - 1) ≡ Some write.now }
         requires fits { IsTrue (valid.fits write.now) }
         ensures none { row.new.row.due ≡ 0 }
+        ensures answers { AreAnswered write.now result row.old.row row.new.row }
         ensures others { row.new.row ≡ record row.old.row { due = row.new.row.due; slots = row.new.row.slots } }
         ensures number { row.new.number ≡ row.old.number }
     {
+        let mut refused = 0;
         while let Some(slot) = row.next_due() {
-            self.show_one(rt, number, slot, row, write);
+            let shown = self.show_one(rt, number, slot, row, write);
+            refused = with_answer(refused, slot, shown);
         }
+        refused
     }
 
     // Shows it to one of them, under its buffer's lock.
@@ -197,7 +253,7 @@ impl<'a, P: Program> Live<'a, P> {
         slot: u32,
         row: &mut TiedRow<'a, P>,
         write: &Write,
-    )
+    ) -> Shown
         requires within { number < P.rows }
         requires slot { slot < SESSIONS }
         requires number { row.old.number ≡ number }
@@ -205,13 +261,15 @@ impl<'a, P: Program> Live<'a, P> {
         requires begun { 0 < row.old.row.index }
         requires last { slice_get (P.writes row.old.row.thread) (row.old.row.index - 1) ≡ Some write.now }
         requires fits { IsTrue (valid.fits write.now) }
+        ensures answer { AnswersBehind slot write.now result row.old.row row.new.row }
         ensures due { ClearsBit slot row.old.row.due row.new.row.due }
         ensures others { row.new.row ≡ record row.old.row { due = row.new.row.due; slots = row.new.row.slots } }
         ensures number { row.new.number ≡ row.old.number }
     {
         let (mut buffer, held) = self.buffers.take(rt, buffer_at(number, slot));
-        row.show(rt, &self.ties, slot, &mut buffer, write);
+        let shown = row.show(rt, &self.ties, slot, &mut buffer, write);
         self.buffers.put(held, buffer);
+        shown
     }
 
     /// The thread of the row with this number, which has made all its writes and has its half of the tie, leaves the row. A
@@ -286,6 +344,7 @@ impl<'a, P: Program> Live<'a, P> {
         requires slot { slot < SESSIONS }
         requires place { half.old.place ≡ hand_place P.rows (buffer_number number slot) }
         requires off { hand_in half.old.value ≡ None }
+        requires admitted { IsGrantFor P.events grant.now }
         requires seat { IsSeatOf grant.now.pool seat.old }
         requires share { 1 < seat.old.share }
         ensures opens { IfOk result (λ hand. Opens session (thread_of P.rows number life) grant.now hand
@@ -307,7 +366,6 @@ impl<'a, P: Program> Live<'a, P> {
             half,
             session,
             grant,
-            self.events.as_slice(),
             seat,
         );
         self.buffers.put(buffer_held, buffer);
@@ -425,6 +483,18 @@ impl<'a, P: Program> Live<'a, P> {
         let batch = buffer.steal(&self.ties, half, hand);
         self.buffers.put(held, buffer);
         batch
+    }
+}
+
+// With the slot's bit where its session refused the write.
+fn with_answer(refused: u64, slot: u32, shown: Shown) -> u64
+    requires within { slot < SESSIONS }
+    requires unset { bit_at refused slot ≡ 0 }
+    ensures { (s : ℕ) → s < SESSIONS → bit_at result s ≡ (if s == slot then one_if (is_refused shown) else bit_at refused s) }
+{
+    match shown {
+        Shown::Written { .. } => refused,
+        Shown::Refused { .. } => refused | (1 << slot),
     }
 }
 

@@ -1,7 +1,8 @@
 //! The rows of one session's stream, behind locks.
-ghost use Rattle.std.specs.Prelude.{◌≡◌, ℕ, ◌+◌, ◌-◌, ◌<◌, ◌≤◌, None, Some, IsSome, IsTrue, slice_set, vec_len};
+ghost use Rattle.std.specs.Prelude.{◌≡◌, ℕ, ◌+◌, ◌-◌, ◌<◌, ◌≤◌, None, Some, IsSome, slice_set, vec_len};
 ghost use Rattle.std.specs.Option.{ForSome};
 ghost use Rattle.ep_pool.specs.Shared.{IsSeatOf};
+ghost use Rattle.ep_guarded.specs.Granted.{IsGrantFor};
 ghost use Rattle.ep_live.specs.Made.{AreStands};
 ghost use Rattle.ep_stream.specs.Rows.{TestsHandsAs};
 ghost use Rattle.ep_live.specs.RowSet.{LiveRowsState, AreFresh, expected_in, life_at, out_in, tests_hand_in};
@@ -50,7 +51,7 @@ impl<'r, 'a, P: Program, R: Wait> Model for LiveRows<'r, 'a, P, R> {
 
     ghost view = { λ s. record { slot = s.slot; grant = s.grant.now; halves = s.halves.items; seat = s.seat; stands = s.stands; lives = s.lives.items } };
 
-    ghost invariant = { λ s. AreRowsOfOne P.rows s.slot s.grant.now s.halves.items s.seat s.openings s.lives.items };
+    ghost invariant = { λ s. AreRowsOfOne P.rows P.events s.slot s.grant.now s.halves.items s.seat s.openings s.lives.items };
 }
 
 impl<'r, 'a, P: Program, R: Wait> LiveRows<'r, 'a, P, R> {
@@ -67,6 +68,7 @@ impl<'r, 'a, P: Program, R: Wait> LiveRows<'r, 'a, P, R> {
         lives: Vec<u32>,
     ) -> LiveRows<'r, 'a, P, R>
         requires seat { seat ≡ record { pool = grant.now.pool.pool; total = grant.now.pool.total; seats = P.rows + 1; share = P.rows + 1; taken = 0; given = 0; dry = 0 } }
+        requires admitted { IsGrantFor P.events grant.now }
         requires lives { vec_len lives ≡ P.rows }
         ensures { AreFresh P.rows free.entry grant.now seat stands.entry lives.items result }
     {
@@ -176,6 +178,8 @@ impl<P: Program, R: Wait> RowSet for LiveRows<'_, '_, P, R> {
 
     ghost definitions = { λ _. P.events };
 
+    ghost can_attach = { λ set slot config. (slot ≡ set.slot) × (config ≡ set.grant.config) };
+
     ghost configured = { configured_in };
 
     ghost expected = { expected_in };
@@ -194,20 +198,17 @@ impl<P: Program, R: Wait> RowSet for LiveRows<'_, '_, P, R> {
         self.live.threads()
     }
 
-    /// It has the memory of its own session alone: it opens none in another slot or of another configuration, and none
-    /// where its session was opened on as many threads as one can be. It opens none on a row that has left or that serves
-    /// another life than the one in which it is expected, which `missed` tells.
+    /// It has the memory of its own session alone, and opens none where that was opened on as many threads as one can be.
+    /// It opens none on a row that has left or that serves another life than the one in which it is expected, which `missed`
+    /// tells.
     fn attach(
         &mut self,
         alloc: Global,
         row: u32,
         slot: u32,
         session: u64,
-        config: &Config,
+        _config: &Config,
     ) -> Result<Hand, AllocError> {
-        if slot != self.slot || !is_same(config, &self.grant.config) {
-            return Err(AllocError);
-        }
         if self.openings as usize == SESSION_THREADS {
             return Err(AllocError);
         }
@@ -274,10 +275,3 @@ pub fn same_tests_have_the_same_lives()
     ensures { (rows : ℕ) (old new : LiveRowsState) → 0 < rows → TestsHandsAs (tests_hand_in rows old) (tests_hand_in rows new)
         → (row : ℕ) → life_at new row ≡ life_at old row }
 {}
-
-// Says that two configurations are equal where they compare so.
-fn is_same(one: &Config, other: &Config) -> bool
-    ensures { IsTrue result → one.now ≡ other.now }
-{
-    one == other
-}

@@ -30,7 +30,7 @@ impl<'a, P: Program> Model for Parked<'a, P> {
 
     ghost view = { λ s. record { slot = s.slot; grant = s.grant.now; halves = s.halves.items; seat = s.seat; stands = s.stands; lives = s.lives.items } };
 
-    ghost invariant = { λ s. AreRowsOfOne P.rows s.slot s.grant.now s.halves.items s.seat s.openings s.lives.items };
+    ghost invariant = { λ s. AreRowsOfOne P.rows P.events s.slot s.grant.now s.halves.items s.seat s.openings s.lives.items };
 }
 
 impl<'a, P: Program> Parked<'a, P> {

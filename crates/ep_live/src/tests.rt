@@ -306,6 +306,7 @@ fn open_both<P: Program, R: Wait>(
     config: &Config,
 ) -> Result<(Hand, Hand), AllocError>
     requires closed { AreClosed rows.old }
+    requires granted { (rows.old.slot ≡ 3) × (config.now ≡ rows.old.grant.config) }
     ensures open { IfOk result (λ hands. AreOpen hands.0 hands.1 rows.new) }
     ensures stands { rows.new.stands ≡ rows.old.stands }
 {
@@ -383,6 +384,7 @@ fn beside<'r, 'a, P: Program + Send + Sync, R: Threads + Wait + Sync>(
 ) -> Result<(Marks, Marks, bool, u32), AllocError>
     requires two { P.rows ≡ 2 }
     requires closed { AreClosed rows }
+    requires granted { (rows.slot ≡ 3) × (config.now ≡ rows.grant.config) }
     requires stands { rows.stands ≡ Some 0 }
     requires some { 0 < length P.events }
     requires writes { (t : ℕ) → P.writes t ≡ replicate TURNS write.now }

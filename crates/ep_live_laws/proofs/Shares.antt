@@ -3,6 +3,7 @@ use Rattle.std.proofs.Common.{◌≡◌, ℕ, zero, suc, ◌+◌, ◌-◌, ◌<�
 use Rattle.std.specs.Prelude.{not, ◌||◌, slice_get, ◌==◌, if◌then◌else◌}
 use Rattle.std.specs.List.{list_any, range_with_len, AllByRecursion}
 use Rattle.std.proofs.lemmas.Bool.{cases_eq, eq-eqb, ne_eqb}
+use Rattle.std.proofs.Math.Bool.{not-not}
 use Rattle.ep_model.specs.Faithful.{Contents, is_kept}
 use Rattle.ep_live_laws.specs.Traced.{AreRising, AreInPlace, has_number, unseen}
 
@@ -153,10 +154,6 @@ any-range p m first (suc count) low high =
           | true ↦ ap (λ v. v || list_any (λ n. n == m) (filter p (range_with_len next count))) (eq-eqb m m refl)
           | false ↦ any-above p m next count above
         ]
-
-not-not : (b : Bool) → not (not b) ≡ b
-not-not true = refl
-not-not false = refl
 
 -- Of all contents, numbered from 1, those are kept whose numbers are seen.
 pub unseen-kept : (all contents : List Contents) → AreFrom 1 all → AreRising 0 (length all) contents → AreInPlace all contents → filter (is_kept (unseen (length all) contents)) all ≡ contents

@@ -1,3 +1,4 @@
 pub mod Masks
 pub mod Resting
 pub mod Numbered
+pub mod Admitted

@@ -14,7 +14,7 @@ use Rattle.ep_chunk.specs.Record.{Record}
 use Rattle.ep_slot.specs.Slot.{SlotState}
 use Rattle.ep_row.specs.declared.row.Opening.{Opening}
 use Rattle.ep_row.specs.Bits.{one_if}
-use Rattle.ep_row.specs.Row.{RowState, slot_of, gets}
+use Rattle.ep_row.specs.Row.{RowState, slot_of, gets, admitted_of}
 
 -- The last write of the list is one that the session gets.
 abbrev pub gets_last : List EventDef → Config → List Write → Bool
@@ -55,6 +55,11 @@ with_config configs slot config s = if s == slot then config else configs s
 abbrev pub KeepsRestOpened : List EventDef → ℕ → Config → RowState → RowState → Type 0
 KeepsRestOpened events slot config old new =
     (configs : ℕ → Config) (writes : List Write) → RowAtRest events configs writes old → RowAtRest events (with_config configs slot config) writes new
+
+-- The same by a list of what the session gets, whatever configuration and events it was made of.
+abbrev pub KeepsRestAdmitted : List Bool → ℕ → RowState → RowState → Type 0
+KeepsRestAdmitted admitted slot old new =
+    (events : List EventDef) (config : Config) → admitted ≡ admitted_of events config → KeepsRestOpened events slot config old new
 
 -- The row of a thread that has made no write is at rest.
 abbrev pub RestsAnew : RowState → Type 0

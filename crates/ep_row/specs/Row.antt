@@ -1,5 +1,5 @@
 -- What a thread's row is, and what each call makes of it (this project's profile).
-use Rattle.std.specs.Prelude.{◌≡◌, ℕ, zero, suc, ◌+◌, Bool, true, false, List, Option, None, Some, slice_index, slice_index_or, replicate}
+use Rattle.std.specs.Prelude.{◌≡◌, ℕ, zero, suc, ◌+◌, Bool, true, false, List, Option, None, Some, map, slice_index, slice_index_or, replicate}
 use Rattle.std.specs.Option.{option_map_or}
 use Rattle.ep_defs.specs.declared.event.EventDef.{EventDef}
 use Rattle.ep_defs.specs.declared.session.Config.{Config}
@@ -70,3 +70,11 @@ shown_once (Some opening) = Some (record opening { shown = opening.shown + 1 })
 -- A session gets an event of the list.
 abbrev pub gets : List EventDef → Config → ℕ → Bool
 gets events config place = option_map_or (λ def. session_admits config def) (event_at events (suc place)) false
+
+-- For each event of the list whether the session gets it.
+abbrev pub admitted_of : List EventDef → Config → List Bool
+admitted_of events config = map (λ def. session_admits config def) events
+
+-- Such a list says that the session gets the event at this place.
+abbrev pub is_admitted : List Bool → ℕ → Bool
+is_admitted admitted place = slice_index_or admitted place false

@@ -8,7 +8,7 @@ ghost use Rattle.ep_slot.specs.Asked.{IsAsked};
 ghost use Rattle.ep_slot.specs.Slot.{IsKept, opened, shown_slot, with_steal, marks_of, number_of, is_refused};
 ghost use Rattle.ep_slot.specs.Hand.{Agrees};
 ghost use Rattle.ep_row.specs.Bits.{SetsBits, ClearsBit};
-ghost use Rattle.ep_row.specs.Row.{shown_once, gets};
+ghost use Rattle.ep_row.specs.Row.{shown_once, gets, is_admitted};
 
 use crate::bits::with_bit;
 use ep_defs::limits::{SESSIONS, WRITES};
@@ -56,7 +56,7 @@ impl Model for Row {
 
 impl Row {
     ghost use Rattle.ep_row.specs.Row.{new_row, slot_of, mask_of, opening_of, HasOpen, with_begin};
-    ghost use Rattle.ep_row.specs.AtRest.{KeepsRest, KeepsRestWith, KeepsRestOpened, KeepsRestAnew, KeepsSlotRest, KeepsStolenRest, RestsAnew};
+    ghost use Rattle.ep_row.specs.AtRest.{KeepsRest, KeepsRestWith, KeepsRestOpened, KeepsRestAdmitted, KeepsRestAnew, KeepsSlotRest, KeepsStolenRest, RestsAnew};
 
     /// The row of a thread that has made no write, in a program of this many events.
     pub fn new(alloc: Global, thread: u64, events: u32) -> Result<Row, AllocError>
@@ -165,6 +165,42 @@ impl Row {
             session,
             from: self.index,
             chunks: config.chunks,
+            shown: 0,
+        });
+        Ok(made)
+    }
+
+    /// The same where what the session gets was found before: for each event whether it does. So no rule is read, and the
+    /// row's lock is held for a look at each event alone.
+    pub fn open_admitted(
+        &mut self,
+        alloc: Global,
+        slot: u32,
+        session: u64,
+        chunks: u32,
+        admitted: &[bool],
+    ) -> Result<(Slot, Hand), AllocError>
+        requires within { slot < SESSIONS }
+        requires off { IsNone (slot_of self.old slot) }
+        requires quiet { self.old.in_write ≡ false }
+        requires stays { self.old.left ≡ false }
+        requires events { length admitted.now ≡ length self.old.masks }
+        ensures made { IfOk result (λ made. made.0 ≡ opened session self.old.thread self.old.index chunks) }
+        ensures agree { IfOk result (λ made. Agrees made.0 made.1) }
+        ensures open { IfOk result (λ made. HasOpen self.new slot made.0) }
+        ensures slots { IfOk result (λ made. self.new.slots
+            ≡ slice_set self.old.slots slot (Some (opening_of made.0))) }
+        ensures masks { OnOk result (SetsBits slot (is_admitted admitted.now) self.old.masks self.new.masks) }
+        ensures others { OnOk result (self.new ≡ record self.old { masks = self.new.masks; slots = self.new.slots }) }
+        ensures rest { OnOk result (KeepsRestAdmitted admitted.now slot self.old self.new) }
+        ensures err { OnErr result (self.new ≡ self.old) }
+    {
+        let made = pair(alloc, session, self.thread, self.index, chunks)?;
+        set_admitted(self.masks.as_mut_slice(), slot, admitted);
+        self.slots[slot as usize] = Some(Opening {
+            session,
+            from: self.index,
+            chunks,
             shown: 0,
         });
         Ok(made)
@@ -323,6 +359,17 @@ fn set_masks(masks: &mut [u64], slot: u32, config: &Config, events: &[EventDef])
 {
     for (place, def) in events.iter().enumerate() {
         masks[place] = with_bit(masks[place], slot, admits(config, def));
+    }
+}
+
+// The same where it is known of each event whether the session gets it.
+fn set_admitted(masks: &mut [u64], slot: u32, admitted: &[bool])
+    requires within { slot < SESSIONS }
+    requires events { length admitted.now ≡ length masks.old }
+    ensures { SetsBits slot (is_admitted admitted.now) masks.old masks.new }
+{
+    for (place, gets) in admitted.iter().enumerate() {
+        masks[place] = with_bit(masks[place], slot, *gets);
     }
 }
 

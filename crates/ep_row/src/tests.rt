@@ -100,6 +100,17 @@ fn sixty_four_sessions_are_open_on_one_row(rt: HostRuntime) -> Result<(), Fail> 
     Ok(())
 }
 
+#[test]
+fn a_session_gets_what_the_list_says(rt: HostRuntime) -> Result<(), Fail> {
+    let mut row = Row::new(rt.alloc(), 9, 1)?;
+    assert!(rt; !row.is_on(3) && !row.in_write() && !row.left());
+    let (_slot, hand) = row.open_admitted(rt.alloc(), 3, 7, 1, &[true])?;
+    assert!(rt; hand.from() == 0 && row.is_on(3));
+    let write = write(rt.alloc())?;
+    assert_eq!(rt; begin(&rt, &mut row, &write), 8);
+    Ok(())
+}
+
 // Shows the first write to the session in a slot.
 fn show(
     rt: &(impl Abort + AllocGlobal),

@@ -21,6 +21,8 @@ impl RowSet for Rows {
 
     ghost definitions = { definitions_of };
 
+    ghost can_attach = { λ _ _ _. Unit {0} };
+
     ghost configured = { configured_in };
 
     ghost expected = { expected_in };

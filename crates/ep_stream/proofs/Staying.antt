@@ -11,21 +11,23 @@ use Rattle.ep_stream.specs.Rows.{KeepsSet, KeepsSlots}
 both : {A B C : Type 0} → A ↔ B → B ↔ C → A ↔ C
 both f g = (λ x. g.0 (f.0 x), λ x. f.1 (g.1 x))
 
-pub set_stays : {R : Type 0} (count : R → ℕ) (definitions : R → List EventDef) (tests_record : R → Config → ℕ → ℕ → ℕ → Write → Type 0) (tests_hand : R → ℕ → HandState → Type 0) (tests_marks : R → Config → Marks → Type 0) (rows : R) → KeepsSet count definitions tests_record tests_hand tests_marks rows rows
-set_stays count definitions tests_record tests_hand tests_marks rows =
+pub set_stays : {R : Type 0} (count : R → ℕ) (definitions : R → List EventDef) (can_attach : R → ℕ → Config → Type 0) (tests_record : R → Config → ℕ → ℕ → ℕ → Write → Type 0) (tests_hand : R → ℕ → HandState → Type 0) (tests_marks : R → Config → Marks → Type 0) (rows : R) → KeepsSet count definitions can_attach tests_record tests_hand tests_marks rows rows
+set_stays count definitions can_attach tests_record tests_hand tests_marks rows =
     record {
       count_is = refl;
       definitions_are = refl;
+      attaches = λ slot config can. can;
       records = λ config thread from number write. (λ x. x, λ x. x);
       hands = λ row hand. (λ x. x, λ x. x);
       marks = λ config marks. (λ x. x, λ x. x);
     }
 
-pub set_more : {R : Type 0} (count : R → ℕ) (definitions : R → List EventDef) (tests_record : R → Config → ℕ → ℕ → ℕ → Write → Type 0) (tests_hand : R → ℕ → HandState → Type 0) (tests_marks : R → Config → Marks → Type 0) (old mid new : R) → KeepsSet count definitions tests_record tests_hand tests_marks old mid → KeepsSet count definitions tests_record tests_hand tests_marks mid new → KeepsSet count definitions tests_record tests_hand tests_marks old new
-set_more count definitions tests_record tests_hand tests_marks old mid new a b =
+pub set_more : {R : Type 0} (count : R → ℕ) (definitions : R → List EventDef) (can_attach : R → ℕ → Config → Type 0) (tests_record : R → Config → ℕ → ℕ → ℕ → Write → Type 0) (tests_hand : R → ℕ → HandState → Type 0) (tests_marks : R → Config → Marks → Type 0) (old mid new : R) → KeepsSet count definitions can_attach tests_record tests_hand tests_marks old mid → KeepsSet count definitions can_attach tests_record tests_hand tests_marks mid new → KeepsSet count definitions can_attach tests_record tests_hand tests_marks old new
+set_more count definitions can_attach tests_record tests_hand tests_marks old mid new a b =
     record {
       count_is = b.count_is ∙ a.count_is;
       definitions_are = b.definitions_are ∙ a.definitions_are;
+      attaches = λ slot config can. b.attaches slot config (a.attaches slot config can);
       records = λ config thread from number write. both (b.records config thread from number write) (a.records config thread from number write);
       hands = λ row hand. both (b.hands row hand) (a.hands row hand);
       marks = λ config marks. both (b.marks config marks) (a.marks config marks);

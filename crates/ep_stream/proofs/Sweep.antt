@@ -28,7 +28,7 @@ use Rattle.ep_stream.specs.Session.{Rest, AreRowsOf, Batched, SameHands, hand_on
 use Rattle.ep_stream.specs.Steps.{ToldRows, TellsStep, GivesBack}
 use Rattle.ep_stream.specs.Telling.{IsFaulty, Tells, entries_of}
 use Rattle.ep_stream.proofs.Taking.{tells_fault}
-use Rattle.ep_stream.proofs.Telling.{risen_later, on_err, tells_after}
+use Rattle.ep_stream.proofs.Telling.{ok_is_no_fault, risen_later, on_err, tells_after}
 use Rattle.ep_stream.specs.Sweep.{Taking, Taken, TellsGive, TellsTakings, MayFail, rows_of, records_in, open_rows, with_taking, hands_after, named_after, entries_in, point_after}
 
 -- ---- hands
@@ -162,26 +162,28 @@ risen_from : {S : Type 0} (faults : S → ℕ) (old mid new : TraceWriter S) →
 risen_from faults old mid new same later (inl some) = inl (sym same ∙ some)
 risen_from faults old mid new same later (inr rose) = inr (risen_later (faults (sink_of old)) (faults (sink_of mid)) (faults (sink_of new)) later rose)
 
--- A call after others that left the writer as failed as it was.
-pub faulty_after : {S A : Type 0} (faults : S → ℕ) (old mid new : TraceWriter S) (result : Result A Fault) → fault_of mid ≡ fault_of old → faults (sink_of old) ≤ faults (sink_of mid) → IsFaulty faults mid new result → IsFaulty faults old new result
-faulty_after faults old mid new result same later f =
+-- A call after others in which nothing failed.
+pub faulty_after : {S A : Type 0} (faults : S → ℕ) (old mid new : TraceWriter S) (result : Result A Fault) → fault_of mid ≡ fault_of old → faults (sink_of mid) ≡ faults (sink_of old) → IsFaulty faults mid new result → IsFaulty faults old new result
+faulty_after faults old mid new result same wrote f =
     record {
       fails = f.fails;
       sound = f.sound;
       stays = λ fault is. f.stays fault (same ∙ is);
-      write_fault = λ is. risen_from faults old mid new same later (f.write_fault is);
-      later = (let more = f.later in omega (arith, later, more));
+      write_fault = λ is. risen_from faults old mid new same (omega (arith, wrote)) (f.write_fault is);
+      wrote = λ not. f.wrote not ∙ wrote;
+      later = (let more = f.later in omega (arith, wrote, more));
     }
 
 -- The same where the last call answered a fault.
-pub failed_after : {S A : Type 0} (faults : S → ℕ) (old mid new : TraceWriter S) (fault : Fault) → fault_of mid ≡ fault_of old → faults (sink_of old) ≤ faults (sink_of mid) → MayFail {A = A} faults mid new (Err fault) → IsFaulty {A = A} faults old new (Err fault)
-failed_after faults old mid new fault same later f =
+pub failed_after : {S A : Type 0} (faults : S → ℕ) (old mid new : TraceWriter S) (fault : Fault) → fault_of mid ≡ fault_of old → faults (sink_of mid) ≡ faults (sink_of old) → MayFail {A = A} faults mid new (Err fault) → IsFaulty {A = A} faults old new (Err fault)
+failed_after faults old mid new fault same wrote f =
     record {
       fails = f.fails;
       sound = tt;
       stays = λ other is. f.stays other (same ∙ is);
-      write_fault = λ is. risen_from faults old mid new same later (f.write_fault is);
-      later = (let more = f.later in omega (arith, later, more));
+      write_fault = λ is. risen_from faults old mid new same (omega (arith, wrote)) (f.write_fault is);
+      wrote = λ not. f.wrote not ∙ wrote;
+      later = (let more = f.later in omega (arith, wrote, more));
     }
 
 -- A call of the writer fails where it must.
@@ -192,6 +194,7 @@ may_fail {S} {A} faults old new result f =
       same = same result (fault_of old) refl f;
       stays = λ fault is. on_err result (f.stays fault is);
       write_fault = f.write_fault;
+      wrote = f.wrote;
       later = f.later;
     }
   where
@@ -290,6 +293,7 @@ faulty_ok faults old new a b f =
       sound = f.sound;
       stays = λ fault is. unlike a fault (f.stays fault is);
       write_fault = λ e. unlike b WriteFault e;
+      wrote = λ not. f.wrote (ok_is_no_fault a WriteFault);
       later = f.later;
     }
 
@@ -303,6 +307,7 @@ faulty_err faults old new answer result fault was is f =
       sound = ok_none (fault_of new ≡ None) result is;
       stays = λ other e. is ∙ ap Err (err_same answer fault other was (f.stays other e));
       write_fault = λ e. f.write_fault (was ∙ ap Err (err_same result fault WriteFault is e));
+      wrote = λ not. f.wrote (λ e. not (is ∙ ap Err (err_same answer fault WriteFault was e)));
       later = f.later;
     }
   where

@@ -1,5 +1,5 @@
 -- What is told of one entry, and of several one after another.
-use Rattle.std.proofs.Common.{◌≡◌, ℕ, zero, suc, ◌+◌, ◌-◌, ◌<◌, ◌≤◌, Bool, false, List, [], ◌∷◌, ◌++◌, Option, None, Some, map, length, refl, ap, sym, ◌∙◌, subst, arith, append_assoc, ◌⊎◌, inl, inr}
+use Rattle.std.proofs.Common.{◌≡◌, ◌≢◌, ℕ, zero, suc, ◌+◌, ◌-◌, ◌<◌, ◌≤◌, Bool, false, List, [], ◌∷◌, ◌++◌, Option, None, Some, map, length, refl, ap, sym, ◌∙◌, subst, arith, append_assoc, ◌⊎◌, inl, inr}
 use Rattle.std.specs.Prelude.{Result, Ok, Err, OnOk, OnErr, IfErr, slice_get, slice_index_or, ◌==◌, if◌then◌else◌}
 use Rattle.std.specs.Result.{IsErrAnd}
 use Rattle.std.proofs.lemmas.Bool.{ne_eqb}
@@ -181,6 +181,15 @@ ends_faulty {S} faults old writer sink last answer faulty write_fault later is =
     from : (fault_of writer ≡ Some WriteFault) ⊎ HasRisen (faults (sink_of writer)) (faults sink) → (fault_of old ≡ Some WriteFault) ⊎ HasRisen (faults (sink_of old)) (faults sink)
     from (inl some) = here last faulty some
     from (inr rose) = inr (risen_later (faults (sink_of old)) (faults (sink_of writer)) (faults sink) faulty.later rose)
+
+-- Without a fault of the sink at the end there was none at the last call.
+pub ends_wrote : {S : Type 0} (faults : S → ℕ) (old writer : TraceWriter S) (sink : S) (last answer : Result (Unit {0}) Fault) → IsFaulty faults old writer last → (fault_of writer ≡ Some WriteFault → answer ≡ Err WriteFault) → (answer ≢ Err WriteFault → faults sink ≡ faults (sink_of writer)) → answer ≢ Err WriteFault → faults sink ≡ faults (sink_of old)
+ends_wrote faults old writer sink last answer faulty stays wrote not =
+    wrote not ∙ faulty.wrote (λ is. not (stays (faulty.fails WriteFault is)))
+
+-- A call that was made answered no fault.
+pub ok_is_no_fault : {A : Type 0} (a : A) (fault : Fault) → Ok a ≢ Err fault
+ok_is_no_fault a fault e = cc
 
 -- What holds of the error that a `?` answers.
 pub err_holds : {A E : Type 0} (result : Result A E) (error : E) (P : E → Type 0) → IsErrAnd result (λ other. other ≡ error) → P error → IfErr result P

@@ -54,6 +54,10 @@ TestsHandsAs old new = (row : ℕ) (hand : HandState) → new row hand ↔ old r
 abbrev pub TestsMarksAs : (Config → Marks → Type 0) → (Config → Marks → Type 0) → Type 0
 TestsMarksAs old new = (config : Config) (marks : Marks) → new config marks ↔ old config marks
 
+-- What can be opened in a slot with a configuration still can.
+abbrev pub StillAttaches : (ℕ → Config → Type 0) → (ℕ → Config → Type 0) → Type 0
+StillAttaches old new = (slot : ℕ) (config : Config) → old slot config → new slot config
+
 -- ---- what was refused
 
 -- The row set counts, if it does, what these marks tell as refused.
@@ -62,10 +66,11 @@ CountsRefused refused marks = ForSome refused (λ count. count ≡ sum_by (λ m.
 
 -- ---- what stays
 
--- What a row set has of no session stays: how many rows there are, the definitions and the tests.
-pub record KeepsSet {R : Type 0} (count : R → ℕ) (definitions : R → List EventDef) (tests_record : R → Config → ℕ → ℕ → ℕ → Write → Type 0) (tests_hand : R → ℕ → HandState → Type 0) (tests_marks : R → Config → Marks → Type 0) (old new : R) : Type 0 where
+-- What a row set has of no session stays: how many rows there are, the definitions, what can be opened there, and the tests.
+pub record KeepsSet {R : Type 0} (count : R → ℕ) (definitions : R → List EventDef) (can_attach : R → ℕ → Config → Type 0) (tests_record : R → Config → ℕ → ℕ → ℕ → Write → Type 0) (tests_hand : R → ℕ → HandState → Type 0) (tests_marks : R → Config → Marks → Type 0) (old new : R) : Type 0 where
   pub count_is : count new ≡ count old
   pub definitions_are : definitions new ≡ definitions old
+  pub attaches : StillAttaches (can_attach old) (can_attach new)
   pub records : TestsRecordsAs (tests_record old) (tests_record new)
   pub hands : TestsHandsAs (tests_hand old) (tests_hand new)
   pub marks : TestsMarksAs (tests_marks old) (tests_marks new)

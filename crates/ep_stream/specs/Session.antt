@@ -1,5 +1,5 @@
 -- What a session keeps between calls, and what each call makes of it (this project's profile).
-use Rattle.std.specs.Prelude.{◌≡◌, ℕ, ◌⊎◌, Bool, true, false, ◌==◌, if◌then◌else◌, List, [], ◌∷◌, ◌++◌, length, Option, Some, None, Result, Err, IfOk, slice_get, IsTrue}
+use Rattle.std.specs.Prelude.{◌≡◌, ◌≢◌, ℕ, ◌⊎◌, Bool, true, false, ◌==◌, if◌then◌else◌, List, [], ◌∷◌, ◌++◌, length, Option, Some, None, Result, Err, IfOk, slice_get, IsTrue}
 use Rattle.std.specs.List.{All}
 use Rattle.std.specs.Option.{option_map_or}
 use Rattle.ep_defs.specs.Definitions.{definition_at}
@@ -161,7 +161,8 @@ Writes tells taken events entries old new result =
 
 -- ---- the end
 
--- The session's stream was ended with a last point, or the session has failed; its fate says which.
+-- The session's stream was ended with a last point, or the session has failed; its fate says which. A fault of the sink is
+-- this call's or was there before, and without one the sink's count of faults is as before.
 pub record Ended {S : Type 0} (tells : S → Bool) (taken : S → List ℕ) (faults : S → ℕ) (stamp : ℕ) (handed : Fate) (session : Session S) (fate : Fate) (sink : S) : Type 0 where
   pub answer : Result (Unit {0}) Fault
   pub fate_is : fate ≡ fate_after answer handed
@@ -170,3 +171,4 @@ pub record Ended {S : Type 0} (tells : S → Bool) (taken : S → List ℕ) (fau
       → Ends tells taken before info told (Point (point_of stamp (numbers_of (rest_of session).named)) ∷ []) answer sink
   pub stays : (fault : Fault) → fault_of session ≡ Some fault → answer ≡ Err fault
   pub write_fault : answer ≡ Err WriteFault → (fault_of session ≡ Some WriteFault) ⊎ HasRisen (faults (sink_of session)) (faults sink)
+  pub wrote : answer ≢ Err WriteFault → faults sink ≡ faults (sink_of session)

@@ -1,5 +1,5 @@
 -- A sweep: what a session takes of the rows on which it is open, one after another (this project's profile).
-use Rattle.std.specs.Prelude.{◌≡◌, ℕ, zero, suc, ◌==◌, ◌≤◌, ◌⊎◌, ◌++◌, if◌then◌else◌, Bool, true, List, [], ◌∷◌, map, length, Option, Some, Result, Err, IfOk, OnOk, OnErr, is_some}
+use Rattle.std.specs.Prelude.{◌≡◌, ◌≢◌, ℕ, zero, suc, ◌==◌, ◌≤◌, ◌⊎◌, ◌++◌, if◌then◌else◌, Bool, true, List, [], ◌∷◌, map, length, Option, Some, Result, Err, IfOk, OnOk, OnErr, is_some}
 use Rattle.std.specs.List.{All, fold, flat_map, sum_by}
 use Rattle.ep_defs.specs.declared.event.EventDef.{EventDef}
 use Rattle.ep_defs.specs.declared.session.Write.{Write}
@@ -128,10 +128,11 @@ pub record SweptRow {S : Type 0} (Tested : ℕ → ℕ → ℕ → Write → Typ
   pub counted : IfOk result (λ count. count ≡ records_in takings)
 
 -- A fault comes from the writer, and one of the sink only where the sink's count of faults rose or the writer had failed
--- with it. Where there is none the writer has failed if it had failed before.
+-- with it. With any other answer that count is as before. Where there is none the writer has failed if it had failed before.
 pub record MayFail {S A : Type 0} (faults : S → ℕ) (old new : TraceWriter S) (result : Result A Fault) : Type 0 where
   pub fails : (fault : Fault) → result ≡ Err fault → fault_of new ≡ Some fault
   pub same : OnOk result (fault_of new ≡ fault_of old)
   pub stays : (fault : Fault) → fault_of old ≡ Some fault → OnErr result (result ≡ Err fault)
   pub write_fault : result ≡ Err WriteFault → (fault_of old ≡ Some WriteFault) ⊎ HasRisen (faults (sink_of old)) (faults (sink_of new))
+  pub wrote : result ≢ Err WriteFault → faults (sink_of new) ≡ faults (sink_of old)
   pub later : faults (sink_of old) ≤ faults (sink_of new)

@@ -1,5 +1,5 @@
 -- What a session's writer has told so far.
-use Rattle.std.specs.Prelude.{◌≡◌, ℕ, ◌%◌, ◌<◌, ◌≤◌, ◌⊎◌, Bool, List, ◌++◌, length, map, Option, Some, None, Result, Err, OnOk, OnErr, IsTrue}
+use Rattle.std.specs.Prelude.{◌≡◌, ◌≢◌, ℕ, ◌%◌, ◌<◌, ◌≤◌, ◌⊎◌, Bool, List, ◌++◌, length, map, Option, Some, None, Result, Err, OnOk, OnErr, IsTrue}
 use Rattle.std.specs.List.{flat_map}
 use Rattle.ep_defs.specs.declared.event.EventDef.{EventDef}
 use Rattle.ep_defs.specs.declared.session.TraceInfo.{TraceInfo}
@@ -65,12 +65,14 @@ pub record Ends {S A : Type 0} (tells : S → Bool) (taken : S → List ℕ) (be
   pub part : OnErr answer (TookPart tells taken before info (told ++ done) sink)
   pub spent : answer ≡ Err TooLong → FRAMED_EVENTS < framed (told ++ done)
 
--- A fault stays, and one of the sink comes only where the sink's count of faults rose or the writer had failed with it.
+-- A fault stays, and one of the sink comes only where the sink's count of faults rose or the writer had failed with it. With
+-- any other answer that count is as before.
 pub record IsFaulty {S A : Type 0} (faults : S → ℕ) (old new : TraceWriter S) (result : Result A Fault) : Type 0 where
   pub fails : (fault : Fault) → result ≡ Err fault → fault_of new ≡ Some fault
   pub sound : OnOk result (fault_of new ≡ None)
   pub stays : (fault : Fault) → fault_of old ≡ Some fault → result ≡ Err fault
   pub write_fault : result ≡ Err WriteFault → (fault_of old ≡ Some WriteFault) ⊎ HasRisen (faults (sink_of old)) (faults (sink_of new))
+  pub wrote : result ≢ Err WriteFault → faults (sink_of new) ≡ faults (sink_of old)
   pub later : faults (sink_of old) ≤ faults (sink_of new)
 
 -- ---- records that can be told

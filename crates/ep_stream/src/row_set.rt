@@ -8,7 +8,7 @@ ghost use Rattle.ep_defs.specs.declared.session.Write.{Write};
 ghost use Rattle.ep_slot.specs.Chain.{records_of, HasRecords};
 ghost use Rattle.ep_slot.specs.Hand.{HandState};
 ghost use Rattle.ep_row.specs.AtRest.{write_of};
-ghost use Rattle.ep_stream.specs.Rows.{IsRow, IsSetAt, IsSame, first_hand, hand_after, IsBatch, IsMarked, TestsRecordsAs, TestsHandsAs, TestsMarksAs};
+ghost use Rattle.ep_stream.specs.Rows.{IsRow, IsSetAt, IsSame, first_hand, hand_after, IsBatch, IsMarked, StillAttaches, TestsRecordsAs, TestsHandsAs, TestsMarksAs};
 ghost use Rattle.ep_stream.specs.Steps.{ToldRows, TellsStep, CanOpen, CanClose, Opens, Steals, Closes, GivesBack, Stays};
 
 use ep_defs::limits::SESSIONS;
@@ -29,6 +29,9 @@ pub trait RowSet {
 
     // The definitions of the events that threads write.
     ghost definitions: { Self → List EventDef };
+
+    // Whether a session can be opened in a slot with this configuration.
+    ghost can_attach: { Self → ℕ → ConfigValue → Type 0 };
 
     // By row and slot, the configuration that was handed to `attach`, until `detach`.
     ghost configured: { Self → ℕ → ℕ → Option ConfigValue };
@@ -70,6 +73,7 @@ pub trait RowSet {
         requires slot { slot < SESSIONS }
         requires off { expected self.old row slot ≡ None }
         requires can_open { ForSome (rows self.old) (CanOpen row) }
+        requires can_attach { can_attach self.old slot config.now }
         ensures hand { IfOk result (λ hand. hand ≡ first_hand session hand.thread hand.from) }
         ensures tested { IfOk result (tests_hand self.old row) }
         ensures told { OnOk result (TellsStep (Opens (definitions self.old) row slot session config.now) (rows self.old) (rows self.new)) }
@@ -82,6 +86,7 @@ pub trait RowSet {
         ensures refused { refused self.new ≡ refused self.old }
         ensures count { count self.new ≡ count self.old }
         ensures definitions { definitions self.new ≡ definitions self.old }
+        ensures attaches { StillAttaches (can_attach self.old) (can_attach self.new) }
         ensures tests_record { TestsRecordsAs (tests_record self.old) (tests_record self.new) }
         ensures tests_hand { TestsHandsAs (tests_hand self.old) (tests_hand self.new) }
         ensures tests_marks { TestsMarksAs (tests_marks self.old) (tests_marks self.new) };
@@ -102,6 +107,7 @@ pub trait RowSet {
         ensures refused { refused self.new ≡ refused self.old }
         ensures count { count self.new ≡ count self.old }
         ensures definitions { definitions self.new ≡ definitions self.old }
+        ensures attaches { StillAttaches (can_attach self.old) (can_attach self.new) }
         ensures tests_record { TestsRecordsAs (tests_record self.old) (tests_record self.new) }
         ensures tests_hand { TestsHandsAs (tests_hand self.old) (tests_hand self.new) }
         ensures tests_marks { TestsMarksAs (tests_marks self.old) (tests_marks self.new) };
@@ -125,6 +131,7 @@ pub trait RowSet {
         ensures refused { refused self.new ≡ option_map (λ n. n + result.1.refused) (refused self.old) }
         ensures count { count self.new ≡ count self.old }
         ensures definitions { definitions self.new ≡ definitions self.old }
+        ensures attaches { StillAttaches (can_attach self.old) (can_attach self.new) }
         ensures tests_record { TestsRecordsAs (tests_record self.old) (tests_record self.new) }
         ensures tests_hand { TestsHandsAs (tests_hand self.old) (tests_hand self.new) }
         ensures tests_marks { TestsMarksAs (tests_marks self.old) (tests_marks self.new) };
@@ -140,6 +147,7 @@ pub trait RowSet {
         ensures refused { refused self.new ≡ refused self.old }
         ensures count { count self.new ≡ count self.old }
         ensures definitions { definitions self.new ≡ definitions self.old }
+        ensures attaches { StillAttaches (can_attach self.old) (can_attach self.new) }
         ensures tests_record { TestsRecordsAs (tests_record self.old) (tests_record self.new) }
         ensures tests_hand { TestsHandsAs (tests_hand self.old) (tests_hand self.new) }
         ensures tests_marks { TestsMarksAs (tests_marks self.old) (tests_marks self.new) };

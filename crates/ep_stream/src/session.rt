@@ -112,6 +112,8 @@ impl<S: Sink> Session<S> {
         ensures memory { IfErr result (λ failed. failed.1 ≡ OutOfMemory → S.write_faults failed.0 ≡ S.write_faults sink) }
         ensures wrote { IfOk result (λ session. S.write_faults (sink_of session) ≡ S.write_faults sink) }
         ensures later { IfErr result (λ failed. S.write_faults sink ≤ S.write_faults failed.0) }
+        ensures told { IfOk result (λ session. S.tells_taken (sink_of session) ≡ S.tells_taken sink) }
+        ensures told_back { IfErr result (λ failed. S.tells_taken failed.0 ≡ S.tells_taken sink) }
         ensures hands { IfOk result (λ session. (row : ℕ) → hand_on session row ≡ None) }
         ensures rest { IfOk result (λ session. rest_of session ≡ new_rest seat config) }
         ensures count { IfOk result (λ session. opened_count session ≡ 0) }
@@ -147,6 +149,7 @@ impl<S: Sink> Session<S> {
         requires few { opened_count self.old < SESSION_THREADS }
         requires new { (hand : HandState) → R.tests_hand rows.old row hand → WasOpened self.old hand.thread → ⊥ }
         requires can_open { ForSome (R.rows rows.old) (CanOpen row) }
+        requires can_attach { R.can_attach rows.old (rest_of self.old).seat.slot (rest_of self.old).config }
         requires rows { AreRowsOf R.expected R.configured R.out rows.old self.old }
         ensures attached { OnOk result (Attached (R.tests_hand rows.old row) row self.old self.new) }
         ensures told { OnOk result (TellsStep (Opens (R.definitions rows.old) row (rest_of self.old).seat.slot (rest_of self.old).seat.id (rest_of self.old).config) (R.rows rows.old) (R.rows rows.new)) }
@@ -158,7 +161,7 @@ impl<S: Sink> Session<S> {
         ensures writer { writer_of self.new ≡ writer_of self.old }
         ensures rows { AreRowsOf R.expected R.configured R.out rows.new self.new }
         ensures refused { R.refused rows.new ≡ R.refused rows.old }
-        ensures set { KeepsSet R.count R.definitions R.tests_record R.tests_hand R.tests_marks rows.old rows.new }
+        ensures set { KeepsSet R.count R.definitions R.can_attach R.tests_record R.tests_hand R.tests_marks rows.old rows.new }
         ensures slots { KeepsSlots R.expected R.configured R.out (rest_of self.old).seat.slot rows.old rows.new }
     {
         self.opened.reserve(row)?;
@@ -198,7 +201,7 @@ impl<S: Sink> Session<S> {
         ensures count { opened_count self.new ≡ opened_count self.old }
         ensures rows { AreRowsOf R.expected R.configured R.out rows.new self.new }
         ensures refused { R.refused rows.new ≡ R.refused rows.old }
-        ensures set { KeepsSet R.count R.definitions R.tests_record R.tests_hand R.tests_marks rows.old rows.new }
+        ensures set { KeepsSet R.count R.definitions R.can_attach R.tests_record R.tests_hand R.tests_marks rows.old rows.new }
         ensures slots { KeepsSlots R.expected R.configured R.out (rest_of self.old).seat.slot rows.old rows.new }
     {
         let mut hand = self.opened.lift(row);
@@ -231,7 +234,7 @@ impl<S: Sink> Session<S> {
         ensures told { 0 < (rest_of self.old).in_hand → TellsStep (GivesBack (rest_of self.old).seat.slot (rest_of self.old).in_hand) (R.rows rows.old) (R.rows rows.new) }
         ensures rows { AreRowsOf R.expected R.configured R.out rows.new self.new }
         ensures refused { R.refused rows.new ≡ R.refused rows.old }
-        ensures set { KeepsSet R.count R.definitions R.tests_record R.tests_hand R.tests_marks rows.old rows.new }
+        ensures set { KeepsSet R.count R.definitions R.can_attach R.tests_record R.tests_hand R.tests_marks rows.old rows.new }
         ensures slots { KeepsSlots R.expected R.configured R.out (rest_of self.old).seat.slot rows.old rows.new }
     {
         if let Some(batch) = self.batch.take() {
@@ -292,7 +295,7 @@ impl<S: Sink> Session<S> {
         ensures count { opened_count self.new ≡ opened_count self.old }
         ensures rows { AreRowsOf R.expected R.configured R.out rows.new self.new }
         ensures refused { R.refused rows.new ≡ R.refused rows.old }
-        ensures set { KeepsSet R.count R.definitions R.tests_record R.tests_hand R.tests_marks rows.old rows.new }
+        ensures set { KeepsSet R.count R.definitions R.can_attach R.tests_record R.tests_hand R.tests_marks rows.old rows.new }
         ensures slots { KeepsSlots R.expected R.configured R.out (rest_of self.old).seat.slot rows.old rows.new }
     {
         let mut count = 0;
@@ -328,7 +331,7 @@ impl<S: Sink> Session<S> {
         ensures count { opened_count self.new ≡ opened_count self.old }
         ensures rows { AreRowsOf R.expected R.configured R.out rows.new self.new }
         ensures refused { R.refused rows.new ≡ R.refused rows.old }
-        ensures set { KeepsSet R.count R.definitions R.tests_record R.tests_hand R.tests_marks rows.old rows.new }
+        ensures set { KeepsSet R.count R.definitions R.can_attach R.tests_record R.tests_hand R.tests_marks rows.old rows.new }
         ensures slots { KeepsSlots R.expected R.configured R.out (rest_of self.old).seat.slot rows.old rows.new }
     {
         if !self.opened.is_open(row) {
@@ -385,7 +388,7 @@ impl<S: Sink> Session<S> {
         ensures count { opened_count self.new ≡ opened_count self.old }
         ensures rows { AreRowsOf R.expected R.configured R.out rows.new self.new }
         ensures refused { CountsRefused (R.refused rows.old) (rest_of self.old).marks → CountsRefused (R.refused rows.new) (rest_of self.new).marks }
-        ensures set { KeepsSet R.count R.definitions R.tests_record R.tests_hand R.tests_marks rows.old rows.new }
+        ensures set { KeepsSet R.count R.definitions R.can_attach R.tests_record R.tests_hand R.tests_marks rows.old rows.new }
         ensures slots { KeepsSlots R.expected R.configured R.out (rest_of self.old).seat.slot rows.old rows.new }
     {
         let hand = self.opened.lift(row);
@@ -447,6 +450,7 @@ fn write_reply<S: Sink>(sink: &mut S, reply: &[u8]) -> Result<(), Fault>
     ensures write_fault { OnErr result (HasRisen (S.write_faults sink.old) (S.write_faults sink.new)) }
     ensures fault { IfErr result (λ fault. fault ≡ WriteFault) }
     ensures later { S.write_faults sink.old ≤ S.write_faults sink.new }
+    ensures told { S.tells_taken sink.new ≡ S.tells_taken sink.old }
 {
     if !reply.is_empty() {
         sink.write(reply)?;

@@ -133,10 +133,6 @@ there_found past tables thread row h =
     let R = (told_of tables.rows).row row in
     ap not h.follows.gone ∙ ap (λ b. b && not (has_left R.thread past)) (sym h.follows.came) ∙ ap (λ t. is_there t past) h.thread_is
 
-pub none_there_is : (past : Past) (thread : ℕ) → (was_there thread past ≡ false) ⊎ IsGone thread past → is_there thread past ≡ false
-none_there_is past thread (inl never) = and_left (was_there thread past) _ never
-none_there_is past thread (inr gone) = and_right (was_there thread past) _ (ap not gone.gone)
-
 pub in_write_found : (past : Past) (tables : Tables) (thread row : ℕ) → RowFound past tables thread row → ((told_of tables.rows).row row).in_write ≡ in_write thread past
 in_write_found past tables thread row h = h.follows.writing ∙ ap (λ t. in_write t past) h.thread_is
 

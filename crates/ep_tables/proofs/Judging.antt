@@ -2,6 +2,7 @@
 use Rattle.std.proofs.Common.{◌≡◌, ℕ, ◌≤◌, ◌<◌, Bool, true, false, Option, Some, None, Result, Ok, Err, IfOk, refl, ap, sym, ◌∙◌, subst, arith, if◌then◌else◌}
 use Rattle.std.specs.Prelude.{◌&&◌, not, is_some, nat_lt, nat_le}
 use Rattle.std.proofs.lemmas.Bool.{le-leb, leb-true, lt-ltb, ltb-false, false_from_ne_true}
+use Rattle.std.proofs.Math.Bool.{not-not}
 use Rattle.ep_model.specs.declared.step.Kind.{Kind}
 use Rattle.ep_model.specs.History.{Past, was_there}
 use Rattle.ep_stream.specs.Steps.{ToldRows}
@@ -46,15 +47,11 @@ found_as (Err kind) P answer same holds = tt
 
 -- ---- numbers and threads that come
 
-not_twice : (b : Bool) → not (not b) ≡ b
-not_twice true = refl
-not_twice false = refl
-
 -- A number that is not above the last one is not the next.
 pub not_next : (low n last : ℕ) (some : Bool) → (nat_lt low n ≡ true → some ≡ nat_le n last) → low ≤ last → nat_le n last ≡ not (nat_lt low n && not some)
 not_next low n last some same least =
     elim (nat_lt low n) as (λ v. nat_lt low n ≡ v → nat_le n last ≡ not (v && not some)) [
-      | true ↦ λ above. sym (not_twice some ∙ same above)
+      | true ↦ λ above. sym (not-not some ∙ same above)
       | false ↦ λ below. let most = ltb-false low n below in le-leb n last (omega (arith, most, least))
     ] refl
 

@@ -15,5 +15,6 @@ pub mod Names
 pub mod Placing
 pub mod Prefixes
 pub mod Sameness
+pub mod Sinks
 pub mod Told
 pub mod WrittenIsCanonical

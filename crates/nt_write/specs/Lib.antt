@@ -5,6 +5,7 @@ pub mod Words
 pub mod Trace
 pub mod Writable
 pub mod Writer
+pub mod Sinks
 pub mod Value
 pub mod Vectors
 -- what private fields stand for, and what private functions make of them

@@ -8,6 +8,7 @@ use nt_blocks::BlobBlock;
 use nt_object::{BlockKind, put_block};
 use pt_io::Sink;
 use std::alloc::Global;
+use std::mem;
 
 // The null reference, which ends a stream.
 const END: u8 = 1;
@@ -55,6 +56,7 @@ impl<S: Sink> Output<S> {
             → HasWritten S.tells_taken S.taken start blocks self.old
             → OnErr result (TookSome S.tells_taken S.taken start (blocks_bytes (with_block kind body.now blocks)) (output_sink self.new)) }
         ensures counted { IsCounted S.write_faults (output_sink self.old) (output_sink self.new) result }
+        ensures other_side { S.read_side (output_sink self.new) ≡ S.read_side (output_sink self.old) }
     {
         self.object.clear();
         put_block(&mut self.object, u64::from(self.alignment), kind, body)?;
@@ -75,6 +77,7 @@ impl<S: Sink> Output<S> {
             → HasWritten S.tells_taken S.taken start blocks self.old → IsMaking drafts block.old
             → OnErr result (TookSome S.tells_taken S.taken start (blocks_bytes (with_block_of block.old.kind drafts (blob_body drafts) blocks)) (output_sink self.new)) }
         ensures counted { IsCounted S.write_faults (output_sink self.old) (output_sink self.new) result }
+        ensures other_side { S.read_side (output_sink self.new) ≡ S.read_side (output_sink self.old) }
     {
         self.write_body(alloc, block)?;
         block.clear();
@@ -90,6 +93,7 @@ impl<S: Sink> Output<S> {
             → HasWritten S.tells_taken S.taken start blocks self.old → IsMaking drafts block.now
             → OnErr result (TookSome S.tells_taken S.taken start (blocks_bytes (with_block_of block.now.kind drafts (blob_body drafts) blocks)) (output_sink self.new)) }
         ensures counted { IsCounted S.write_faults (output_sink self.old) (output_sink self.new) result }
+        ensures other_side { S.read_side (output_sink self.new) ≡ S.read_side (output_sink self.old) }
     {
         if block.is_empty() {
             return Ok(());
@@ -109,6 +113,7 @@ impl<S: Sink> Output<S> {
             → HasWritten S.tells_taken S.taken start blocks self.old
             → OnErr result (TookSome S.tells_taken S.taken start (blocks_bytes (with_block_of block.Stack stacks.old.fresh (stack_body stacks.old.first stacks.old.fresh) blocks)) (output_sink self.new)) }
         ensures counted { IsCounted S.write_faults (output_sink self.old) (output_sink self.new) result }
+        ensures other_side { S.read_side (output_sink self.new) ≡ S.read_side (output_sink self.old) }
     {
         if stacks.is_empty() {
             return Ok(());
@@ -133,6 +138,7 @@ impl<S: Sink> Output<S> {
         ensures empty { OnOk result (IsEmptied pending.new) }
         ensures keeps { OnOk result (KeepsStacks pending.old pending.new) }
         ensures counted { IsCounted S.write_faults (output_sink self.old) (output_sink self.new) result }
+        ensures other_side { S.read_side (output_sink self.new) ≡ S.read_side (output_sink self.old) }
     {
         self.write_blobs(alloc, &mut pending.metadata)?;
         self.write_stacks(alloc, &mut pending.stacks)?;
@@ -159,6 +165,7 @@ impl<S: Sink> Output<S> {
         ensures room { OnOk result (HasRoom arrival.now pending.new) }
         ensures keeps { OnOk result (KeepsStacks pending.old pending.new) }
         ensures counted { IsCounted S.write_faults (output_sink self.old) (output_sink self.new) result }
+        ensures other_side { S.read_side (output_sink self.new) ≡ S.read_side (output_sink self.old) }
     {
         if pending.lacks_room(arrival) {
             return self.flush(alloc, pending);
@@ -176,9 +183,18 @@ impl<S: Sink> Output<S> {
             → OnErr result (TookSome S.tells_taken S.taken start (blocks_bytes blocks
             ++ 1 ∷ []) (output_sink self.new)) }
         ensures counted { IsCounted S.write_faults (output_sink self.old) (output_sink self.new) result }
+        ensures other_side { S.read_side (output_sink self.new) ≡ S.read_side (output_sink self.old) }
     {
         self.sink.write(&[END])?;
         Ok(())
+    }
+
+    /// Puts another sink in the place of this one, which it gives back.
+    pub fn replace_sink(&mut self, sink: S) -> S
+        ensures given { result ≡ output_sink self.old }
+        ensures placed { self.new ≡ record self.old { sink = sink } }
+    {
+        mem::replace(&mut self.sink, sink)
     }
 
     /// The sink.

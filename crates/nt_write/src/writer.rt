@@ -67,6 +67,7 @@ impl<S: Sink> TraceWriter<S> {
     ghost use Rattle.nt_write.specs.Arriving.{HasRoomFor, IsInterned, roomy, with_definition};
     ghost use Rattle.nt_write.specs.Writing.{IsAt, IsKept, HasRoom, ids_of, pending_of};
     ghost use Rattle.nt_write.specs.Writer.{fault_of, sink_of, IsWriting, TookPart, TookStream};
+    ghost use Rattle.nt_write.specs.Sinks.{with_sink};
 
     /// Writes the stream's start, 102 bytes in one write. The sink comes back where that fails.
     pub fn begin(alloc: Global, sink: S, info: &TraceInfo) -> Result<TraceWriter<S>, (S, Fault)>
@@ -80,6 +81,9 @@ impl<S: Sink> TraceWriter<S> {
             → S.write_faults failed.0 ≡ S.write_faults sink) }
         ensures wrote { IfOk result (λ writer. S.write_faults (sink_of writer) ≡ S.write_faults sink) }
         ensures later { IfErr result (λ failed. S.write_faults sink ≤ S.write_faults failed.0) }
+        ensures told { IfOk result (λ writer. S.tells_taken (sink_of writer) ≡ S.tells_taken sink) }
+        ensures told_back { IfErr result (λ failed. S.tells_taken failed.0 ≡ S.tells_taken sink) }
+        ensures other_side { IfOk result (λ writer. S.read_side (sink_of writer) ≡ S.read_side sink) }
     {
         info_fits(info);
         let mut sink = sink;
@@ -128,10 +132,10 @@ impl<S: Sink> TraceWriter<S> {
             (entries : List Entry)
             → IsWriting S.tells_taken S.taken before defs info entries self.old
             → (result ≡ Err TooLong) ↔ ((0 < length out.now.frames.now) × (framed entries ≡ FRAMED_EVENTS)) }
-        ensures memory { result ≡ Err OutOfMemory
+        ensures wrote { result ≢ Err WriteFault
             → S.write_faults (sink_of self.new) ≡ S.write_faults (sink_of self.old) }
-        ensures wrote { OnOk result (S.write_faults (sink_of self.new) ≡ S.write_faults (sink_of self.old)) }
         ensures later { S.write_faults (sink_of self.old) ≤ S.write_faults (sink_of self.new) }
+        ensures other_side { S.read_side (sink_of self.new) ≡ S.read_side (sink_of self.old) }
     {
         if let Some(fault) = self.fault {
             return Err(fault);
@@ -162,10 +166,10 @@ impl<S: Sink> TraceWriter<S> {
         ensures write_fault { result ≡ Err WriteFault → (fault_of self.old ≡ Some WriteFault)
             ⊎ HasRisen (S.write_faults (sink_of self.old)) (S.write_faults (sink_of self.new)) }
         ensures too_long { result ≡ Err TooLong → fault_of self.old ≡ Some TooLong }
-        ensures memory { result ≡ Err OutOfMemory
+        ensures wrote { result ≢ Err WriteFault
             → S.write_faults (sink_of self.new) ≡ S.write_faults (sink_of self.old) }
-        ensures wrote { OnOk result (S.write_faults (sink_of self.new) ≡ S.write_faults (sink_of self.old)) }
         ensures later { S.write_faults (sink_of self.old) ≤ S.write_faults (sink_of self.new) }
+        ensures other_side { S.read_side (sink_of self.new) ≡ S.read_side (sink_of self.old) }
     {
         if let Some(fault) = self.fault {
             return Err(fault);
@@ -190,10 +194,9 @@ impl<S: Sink> TraceWriter<S> {
         ensures write_fault { result.1 ≡ Err WriteFault → (fault_of self ≡ Some WriteFault)
             ⊎ HasRisen (S.write_faults (sink_of self)) (S.write_faults result.0) }
         ensures too_long { result.1 ≡ Err TooLong → fault_of self ≡ Some TooLong }
-        ensures memory { result.1 ≡ Err OutOfMemory
-            → S.write_faults result.0 ≡ S.write_faults (sink_of self) }
-        ensures wrote { OnOk result.1 (S.write_faults result.0 ≡ S.write_faults (sink_of self)) }
+        ensures wrote { result.1 ≢ Err WriteFault → S.write_faults result.0 ≡ S.write_faults (sink_of self) }
         ensures later { S.write_faults (sink_of self) ≤ S.write_faults result.0 }
+        ensures other_side { S.read_side result.0 ≡ S.read_side (sink_of self) }
     {
         let mut writer = self;
         let result = match writer.fault {
@@ -207,6 +210,25 @@ impl<S: Sink> TraceWriter<S> {
             pending: _,
         } = writer;
         (output.into_sink(), result)
+    }
+
+    /// Puts another sink in the place of the writer's, which it gives back. So a caller moves on what a sink keeps: the
+    /// stream goes on where the sink that comes in has taken the same.
+    pub fn replace_sink(&mut self, sink: S) -> S
+        ensures given { result ≡ sink_of self.old }
+        ensures placed { self.new ≡ with_sink self.old sink }
+        ensures goes_on { (before : List ℕ) (defs : ℕ → Option EventDef) (info : TraceInfo)
+            (entries : List Entry) (other : S)
+            → IsWriting S.tells_taken S.taken before defs info entries self.old
+            → S.tells_taken other ≡ S.tells_taken (sink_of self.old)
+            → S.taken other ≡ S.taken (sink_of self.old)
+            → IsWriting S.tells_taken S.taken before defs info entries (with_sink self.old other) }
+        ensures part { (before : List ℕ) (defs : ℕ → Option EventDef) (info : TraceInfo)
+            (entries : List Entry)
+            → IsWriting S.tells_taken S.taken before defs info entries self.old
+            → TookPart S.tells_taken S.taken before info entries result }
+    {
+        self.output.replace_sink(sink)
     }
 
     /// The fault that the writer answered, if it did.
@@ -235,12 +257,12 @@ impl<S: Sink> TraceWriter<S> {
             → OnErr result (TookSome S.tells_taken S.taken start (blocks_bytes (roomy layout (entry_of def.now out.now)).blocks) (sink_of self.new)) }
         ensures too_long { (result ≡ Err TooLong) ↔ ((0 < length out.now.frames.now)
             × ((pending_of self.old).stacks.framed ≡ FRAMED_EVENTS)) }
-        ensures wrote { OnOk result (S.write_faults (sink_of self.new) ≡ S.write_faults (sink_of self.old)) }
+        ensures wrote { result ≢ Err WriteFault
+            → S.write_faults (sink_of self.new) ≡ S.write_faults (sink_of self.old) }
         ensures write_fault { result ≡ Err WriteFault
             → HasRisen (S.write_faults (sink_of self.old)) (S.write_faults (sink_of self.new)) }
-        ensures memory { result ≡ Err OutOfMemory
-            → S.write_faults (sink_of self.new) ≡ S.write_faults (sink_of self.old) }
         ensures later { S.write_faults (sink_of self.old) ≤ S.write_faults (sink_of self.new) }
+        ensures other_side { S.read_side (sink_of self.new) ≡ S.read_side (sink_of self.old) }
     {
         if !out.frames.is_empty() && self.pending.stacks.are_spent() {
             return Err(Fault::TooLong);
@@ -268,6 +290,7 @@ impl<S: Sink> TraceWriter<S> {
             → defs out.now.event ≡ Some def.now
             → OnErr result (TookSome S.tells_taken S.taken start (blocks_bytes (roomy layout (entry_of def.now out.now)).blocks) (sink_of self.new)) }
         ensures counted { IsCounted S.write_faults (sink_of self.old) (sink_of self.new) result }
+        ensures other_side { S.read_side (sink_of self.new) ≡ S.read_side (sink_of self.old) }
     {
         let stack = self.pending.stacks.id_of(alloc, out.frames)?;
         let meta = new_meta(alloc, &self.ids, def, out.event)?;
@@ -359,6 +382,7 @@ impl<S: Sink> TraceWriter<S> {
             → IsAt S.tells_taken S.taken start defs layout self.old
             → OnErr result (TookSome S.tells_taken S.taken start (blocks_bytes (with_point layout (point_of stamp threads.now)).blocks) (sink_of self.new)) }
         ensures counted { IsCounted S.write_faults (sink_of self.old) (sink_of self.new) result }
+        ensures other_side { S.read_side (sink_of self.new) ≡ S.read_side (sink_of self.old) }
     {
         self.output.flush(alloc, &mut self.pending)?;
         let mut body = Vec::new(alloc);
@@ -378,6 +402,7 @@ impl<S: Sink> TraceWriter<S> {
             → OnErr result (TookSome S.tells_taken S.taken start (blocks_bytes (flushed layout).blocks
             ++ 1 ∷ []) (sink_of self.new)) }
         ensures counted { IsCounted S.write_faults (sink_of self.old) (sink_of self.new) result }
+        ensures other_side { S.read_side (sink_of self.new) ≡ S.read_side (sink_of self.old) }
     {
         let output = &mut self.output;
         output.flush(alloc, &mut self.pending)?;
@@ -391,6 +416,8 @@ fn write_start<S: Sink>(alloc: Global, sink: &mut S, info: &TraceInfo) -> Result
     ensures ok { OnOk result (TookAll S.tells_taken S.taken (S.taken sink.old) (stream_start info.now) sink.new) }
     ensures part { OnErr result (TookSome S.tells_taken S.taken (S.taken sink.old) (stream_start info.now) sink.new) }
     ensures counted { IsCounted S.write_faults sink.old sink.new result }
+    ensures told { S.tells_taken sink.new ≡ S.tells_taken sink.old }
+    ensures other_side { S.read_side sink.new ≡ S.read_side sink.old }
 {
     let ids = IdTable::new(alloc)?;
     let mut bytes = Vec::new(alloc);

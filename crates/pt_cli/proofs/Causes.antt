@@ -86,6 +86,15 @@ trace-unread end (inr (inl is)) other = cc
 trace-unread end (inr (inr (inl is))) other = cc
 trace-unread end (inr (inr (inr is))) other = cc
 
+-- A run that did not end for want of memory, nor with a fault of the output.
+trace-written : {X : Type 0} (end : End) → (end ≡ ends.Done) ⊎ (end ≡ ends.WriteFault) ⊎ (end ≡ ends.OutOfMemory) ⊎ (end ≡ ends.TooLong)
+    → ((end ≡ ends.Done) ⊎ (end ≡ ends.TooLong) → X) → (true ≡ false) ⊎ (end ≢ ends.OutOfMemory) → end ≢ ends.WriteFault → X
+trace-written end comes wrote (inl runs) written = absurd (cc)
+trace-written end (inl is) wrote (inr memory) written = wrote (inl is)
+trace-written end (inr (inl is)) wrote (inr memory) written = absurd (written is)
+trace-written end (inr (inr (inl is))) wrote (inr memory) written = absurd (memory is)
+trace-written end (inr (inr (inr is))) wrote (inr memory) written = wrote (inr is)
+
 client-unread : (end : End) → (end ≡ ends.Done) ⊎ (end ≡ ends.WriteFault) ⊎ (end ≡ ends.LinkFault)
     ⊎ ((code : ℕ) × (end ≡ ends.PeerError code)) ⊎ ((at : ℕ) × (end ≡ ends.BadReply at)) ⊎ (end ≡ ends.OutOfMemory) → end ≢ ends.ReadFault
 client-unread end (inl is) other = cc
@@ -138,7 +147,7 @@ comes-faults source sink dock caller reads takes gave took facts (Some (command.
       read_fault = λ is. absurd (read is);
       all_read = λ _. ap source.read_faults (alone refl);
       write_fault = comes.write_fault;
-      all_written = λ runs other. absurd (cc);
+      all_written = λ memory written. trace-written end comes.ends comes.all_written memory written;
     }
 comes-faults source sink dock caller reads takes gave took facts (Some (command.Run asked)) a end comes alone =
     let of_run = runs-causes sink dock reads takes gave took asked facts a.output_old a.output_new a.dock_old a.dock_new a.live end comes in

@@ -32,6 +32,7 @@ traces-to sink asked old new run fates.ProgramEnd end fate_is is traced =
       too_long = λ other. absurd (cc);
       short = λ few other. cc;
       write_fault = λ other. absurd (cc);
+      all_written = λ _. traced.wrote (λ other. cc);
       ends = inl is;
     }
 traces-to sink asked old new run fates.LinkFault end fate_is is traced =
@@ -51,6 +52,10 @@ traces-to sink asked old new run fates.LinkFault end fate_is is traced =
       too_long = λ other. absurd (cc);
       short = λ few other. cc;
       write_fault = λ _. traced.link_fault fate_is;
+      all_written = λ either. elim either [
+        | inl other ↦ absurd (cc)
+        | inr other ↦ absurd (cc)
+      ];
       ends = inr (inl is);
     }
 traces-to sink asked old new run fates.TooLong end fate_is is traced =
@@ -71,6 +76,7 @@ traces-to sink asked old new run fates.TooLong end fate_is is traced =
       too_long = λ _. long;
       short = λ few _. omega (arith, few, long.taken, long.admitted, long.written);
       write_fault = λ other. absurd (cc);
+      all_written = λ _. traced.wrote (λ other. cc);
       ends = inr (inr (inr is));
     }
 traces-to sink asked old new run fates.OutOfMemory end fate_is is traced =
@@ -93,6 +99,10 @@ traces-to sink asked old new run fates.OutOfMemory end fate_is is traced =
       too_long = λ other. absurd (cc);
       short = λ few other. cc;
       write_fault = λ other. absurd (cc);
+      all_written = λ either. elim either [
+        | inl other ↦ absurd (cc)
+        | inr other ↦ absurd (cc)
+      ];
       ends = inr (inr (inl is));
     }
 traces-to sink asked old new run (fates.Requested conn) end fate_is is traced = absurd is

@@ -1,5 +1,5 @@
 -- What the program comes to, and what holds of it whatever the command is.
-use Rattle.std.specs.Prelude.{◌≡◌, ◌≢◌, ℕ, true, false, List, [], Option, Some, None}
+use Rattle.std.specs.Prelude.{◌≡◌, ◌≢◌, ℕ, ◌⊎◌, true, false, List, [], Option, Some, None}
 use Rattle.ep_defs.specs.declared.session.Marks.{Marks}
 use Rattle.pt_io.specs.declared.caller.Caller.{Ghosts as Caller}
 use Rattle.pt_io.specs.declared.sink.Sink.{Ghosts as Sink}
@@ -55,13 +55,14 @@ ComesTo source sink dock caller reads takes gave took facts (Some (command.Clien
     Asks sink caller reads takes asked a.output_old a.output_new a.caller_old a.caller_new a.peer end
 ComesTo source sink dock caller reads takes gave took facts asked a end = PlainComesTo source sink asked a.input_old a.input_new a.output_old a.output_new end
 
--- A fault of the input or the output comes only from the object that was handed in, in this call.
+-- A fault of the input or the output comes only from the object that was handed in, in this call, and is answered. But a run
+-- of threads that finds no memory says so, whether or not the end of its stream could be written.
 pub record HasFaults {I O : Type 0} (source : Source I) (sink : Sink O) (asked : Option Command) (input_old input_new : I) (output_old output_new : O) (end : End) : Type 0 where
   pub reads : end ≡ ends.ReadFault → reads_input asked ≡ true
   pub read_fault : end ≡ ends.ReadFault → HasRisen (source.read_faults input_old) (source.read_faults input_new)
   pub all_read : end ≢ ends.ReadFault → source.read_faults input_new ≡ source.read_faults input_old
   pub write_fault : end ≡ ends.WriteFault → HasRisen (sink.write_faults output_old) (sink.write_faults output_new)
-  pub all_written : runs_threads asked ≡ false → end ≢ ends.WriteFault → sink.write_faults output_new ≡ sink.write_faults output_old
+  pub all_written : (runs_threads asked ≡ false) ⊎ (end ≢ ends.OutOfMemory) → end ≢ ends.WriteFault → sink.write_faults output_new ≡ sink.write_faults output_old
 
 -- What a command has no use for is left alone.
 pub record LeavesAlone {I D K L : Type 0} (asked : Option Command) (input_old input_new : I) (dock_old dock_new : D) (caller_old caller_new : K) (peer : Option L)

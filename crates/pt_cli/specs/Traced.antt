@@ -39,6 +39,7 @@ pub record TracesTo {O : Type 0} (sink : Sink O) (asked : Asked) (old new : O) (
   -- a stream is too long only for more events than it has ids for stacks
   pub too_long : end ≡ ends.TooLong → IsLong asked.plan asked.config marks
   pub short : asked.plan.threads * asked.plan.writes ≤ FRAMED_EVENTS → end ≢ ends.TooLong
-  -- a fault comes only from the output, in this call
+  -- a fault comes only from the output, in this call, and no write of it failed where the run ended otherwise
   pub write_fault : end ≡ ends.WriteFault → HasRisen (sink.write_faults old) (sink.write_faults new)
+  pub all_written : (end ≡ ends.Done) ⊎ (end ≡ ends.TooLong) → sink.write_faults new ≡ sink.write_faults old
   pub ends : (end ≡ ends.Done) ⊎ (end ≡ ends.WriteFault) ⊎ (end ≡ ends.OutOfMemory) ⊎ (end ≡ ends.TooLong)

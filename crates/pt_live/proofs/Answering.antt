@@ -44,7 +44,7 @@ of-sample side run events writes opened to marks end sink events_are writes_are 
     (subst (λ (es : List EventDef). HasEnded side run es writes opened to marks end sink) events_are e)
 
 pub sound-says : {S : Type 0} (faults : S → ℕ) (was : ℕ) (session : Session S) → fault_of session ≡ None → faults (sink_of session) ≡ was → SaysFaults faults was session
-sound-says faults was session sound wrote = record { fault = λ is. absurd (no-fault (sym sound ∙ is)); later = omega (arith, wrote) }
+sound-says faults was session sound wrote = record { fault = λ is. absurd (no-fault (sym sound ∙ is)); wrote = λ not. wrote; later = omega (arith, wrote) }
   where
     no-fault : None ≡ Some WriteFault → ⊥
     no-fault e = cc
@@ -111,6 +111,7 @@ module _ {O L : Type 0} (side : Sink L) (output : Sink O) (out : L → O) (run :
           link_fault = λ is.
               subst (λ (n : ℕ). HasRisen n (output.write_faults (out l))) (sym lent.faults_are)
               (subst (HasRisen run.faults) (faults_are l) (e.well.link_fault is));
+          wrote = λ not. sym (faults_are l) ∙ e.well.wrote not ∙ sym lent.faults_are;
           too_long = λ is. is-long run.plan run.config end.marks whole (e.outcome.too_long not-long is);
         }
       where
@@ -189,6 +190,7 @@ module _ {O : Type 0} (run : RunState) (laws : Laws run.plan run.config) (output
         part = λ is told. subst (λ (ms : List Marks). TookSome run.info run.plan run.config ms (output.taken old) (output.taken new)) (sym none) (start-some start told);
         not_asked = λ conn is. not-asked conn (sym link ∙ is);
         link_fault = λ is. risen;
+        wrote = λ not. absurd (not link);
         too_long = λ is. absurd (not-long (sym link ∙ is));
       }
     where

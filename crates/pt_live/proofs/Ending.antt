@@ -1,5 +1,5 @@
 -- What a run's session is once it is closed on all rows, and how it ends.
-use Rattle.std.proofs.Common.{◌≡◌, ◌≢◌, ℕ, ◌≤◌, ⊎_elim, true, false, List, None, refl, sym, ap, ◌∙◌}
+use Rattle.std.proofs.Common.{◌≡◌, ◌≢◌, ℕ, ◌≤◌, ⊎_elim, true, false, List, None, Some, refl, sym, ap, ◌∙◌}
 use Rattle.std.specs.Prelude.{Bool, ◌==◌, Result, Ok, Err}
 use Rattle.std.proofs.lemmas.Bool.{cases_lt, eqb-true, eqb-false}
 use Rattle.nt_write.specs.declared.fault.Fault.{Fault}
@@ -62,5 +62,8 @@ ends-well tells taken faults was stamp session end sink e up says =
           (λ before. later_risen was (faults (sink_of session)) (faults sink) up (says.fault before))
           (λ rose. risen_later was (faults (sink_of session)) (faults sink) says.later rose)
           (e.write_fault (link-answer e.answer (sym e.fate_is ∙ is)));
+      wrote = λ not.
+          let sound : e.answer ≢ Err WriteFault = λ is. not (e.fate_is ∙ ap (λ (a : Result (Unit {0}) Fault). fate_after a fate.ProgramEnd) is) in
+          e.wrote sound ∙ says.wrote (λ is. sound (e.stays WriteFault is));
       not_asked = λ conn is. never-asked e.answer conn (sym e.fate_is ∙ is);
     }

@@ -45,18 +45,21 @@ pub faults-said : {S A : Type 0} (faults : S → ℕ) (was : ℕ) (old new : Ses
 faults-said faults was old new result f s =
     record {
       fault = faulty-fault faults was old new result f s;
+      wrote = λ not.
+          f.wrote (λ is. not (f.fails WriteFault is))
+          ∙ s.wrote (λ is. not (f.fails WriteFault (f.stays WriteFault is)));
       later = let up = f.later in let low = s.later in omega (arith, up, low);
     }
 
 -- The same writer says the same.
 pub faults-kept : {S : Type 0} (faults : S → ℕ) (was : ℕ) (old new : Session S) → writer_of new ≡ writer_of old → SaysFaults faults was old → SaysFaults faults was new
 faults-kept {S = S} faults was old new is s =
-    let both = subst
-    (λ (w : TraceWriter S). (writer_fault w ≡ Some WriteFault → HasRisen was (faults (writer_sink w))) × (was ≤ faults (writer_sink w)))
+    let all = subst
+    (λ (w : TraceWriter S). (writer_fault w ≡ Some WriteFault → HasRisen was (faults (writer_sink w))) × (writer_fault w ≢ Some WriteFault → faults (writer_sink w) ≡ was) × (was ≤ faults (writer_sink w)))
     (sym is)
-    (s.fault, s.later)
+    (s.fault, s.wrote, s.later)
     in
-    record { fault = both.0; later = both.1 }
+    record { fault = all.0; wrote = all.1; later = all.2 }
 
 -- ---- marks
 

@@ -109,8 +109,9 @@ pub record Traced {O : Type 0} (sink : Sink O) (info : TraceInfo) (plan : Plan) 
   pub part : is_fault end.fate ≡ true → IsTrue (sink.tells_taken old) → TookSome info plan config end.marks (sink.taken old) (sink.taken new)
   -- nobody asks for the end
   pub not_asked : (conn : ℕ) → end.fate ≢ fate.Requested conn
-  -- a fault comes only from the output, in this run
+  -- a fault comes only from the output, in this run, and without one no write of it has failed
   pub link_fault : end.fate ≡ fate.LinkFault → HasRisen (sink.write_faults old) (sink.write_faults new)
+  pub wrote : end.fate ≢ fate.LinkFault → sink.write_faults new ≡ sink.write_faults old
   pub too_long : end.fate ≡ fate.TooLong → IsLong plan config end.marks
 
 -- What a run answers. Where it found no memory it ended before a thread made a write.

@@ -4,7 +4,7 @@ ghost use Rattle.ep_live.specs.RowSet.{life_at};
 ghost use Rattle.ep_stream.specs.Session.{opened_count, rest_of};
 ghost use Rattle.pt_live.specs.Trace.{rows_of};
 ghost use Rattle.pt_live.specs.state.Ended.{HasEnded, HasEndedUnwritten};
-ghost use Rattle.pt_live.specs.state.Open.{HasTold, IsOpen};
+ghost use Rattle.pt_live.specs.state.Open.{AreGranted, HasTold, IsOpen};
 
 use crate::kit::Kit;
 use crate::run::{Around, Run};
@@ -65,6 +65,7 @@ pub(crate) fn streamed<
     requires lives { (row : ℕ) → life_at rows row ≡ 0 }
     requires none { opened_count session ≡ 0 }
     requires marks { (rest_of session).marks ≡ [] }
+    requires granted { AreGranted rows session }
     requires is_open { IsOpen P.rows 0 0 rows session }
     requires told { HasTold S.Sink P.run P.events P.writes 0 session }
     ensures rows { IfOk result.1 (λ end. end.rows.items ≡ rows_of P.run.plan) }

@@ -4,7 +4,7 @@ ghost use Rattle.std.specs.List.{AllByRecursion};
 ghost use Rattle.ep_live.specs.RowSet.{life_at};
 ghost use Rattle.ep_stream.specs.Session.{opened_count, rest_of};
 ghost use Rattle.pt_live.specs.Trace.{IsWhole};
-ghost use Rattle.pt_live.specs.state.Open.{HasTold, IsOpen};
+ghost use Rattle.pt_live.specs.state.Open.{AreGranted, HasTold, IsOpen};
 
 use crate::run::{Around, Run};
 use ep_live::{LiveRows, same_tests_have_the_same_lives, same_tests_have_the_same_stands};
@@ -38,6 +38,7 @@ pub(crate) fn open_all<P: Run, R: Wait, S: Sink, C: Clock, G: Gate>(
     requires none { opened_count session.old ≡ 0 }
     requires stands { rows.old.stands ≡ Some 0 }
     requires lives { (row : ℕ) → life_at rows.old row ≡ 0 }
+    requires granted { AreGranted rows.old session.old }
     requires is_open { IsOpen P.rows 0 0 rows.old session.old }
     requires told { HasTold S.Sink P.run P.events P.writes 0 session.old }
     ensures within { result ≤ P.rows }

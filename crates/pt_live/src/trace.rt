@@ -2,6 +2,7 @@
 ghost use Rattle.std.specs.Prelude.{◌≡◌, ◌+◌, ◌*◌, ◌<◌, ◌≤◌, Some, IfOk, IsTrue, replicate, vec_len};
 ghost use Rattle.ep_defs.specs.declared.limits.TheConstants.{SESSIONS, THREADS as MOST_THREADS, WRITES};
 ghost use Rattle.ep_defs.specs.Session.{is_valid_config};
+ghost use Rattle.ep_guarded.specs.Granted.{IsGrantFor};
 ghost use Rattle.ep_live.specs.Made.{AreHandTies};
 ghost use Rattle.pt_live.specs.Trace.{Traces, writes_of};
 ghost use Rattle.pt_live.specs.state.Open.{AreFirst};
@@ -78,11 +79,9 @@ pub fn run_trace<'r, R: Threads + Wait + Timer + Sync, O: Sink, C: Clock, G: Gat
     requires config { IsTrue (is_valid_config config) }
     ensures { Traces O.Sink info.now plan.now config output.old output.new result }
 {
+    let events = sample_events(alloc)?;
     let (pool, seat) = Pool::new(rt, alloc, config.chunks, plan.threads + 1)?;
-    let grant = Grant {
-        config: config.copy(alloc)?,
-        pool,
-    };
+    let grant = Grant::new(alloc, config.copy(alloc)?, pool, events.as_slice())?;
     let parts = Parts {
         plan,
         rt,
@@ -91,7 +90,7 @@ pub fn run_trace<'r, R: Threads + Wait + Timer + Sync, O: Sink, C: Clock, G: Gat
         config,
         seat,
         blank: Blank::new(alloc, plan.threads * (ROW_TIES as u32 + 1))?,
-        events: sample_events(alloc)?,
+        events,
     };
     let lent = Lent::new(output);
     let mut answer = Err(AllocError);
@@ -123,7 +122,9 @@ fn run_named<
     requires asked { (info.now ≡ P.run.info) × (parts.config ≡ P.run.config) }
     requires ties { (parts.blank.ties ≡ P.ties) × (parts.blank.places ≡ P.rows + 128 * P.rows) }
     requires events { parts.events.items ≡ P.events }
+    requires admitted { IsGrantFor P.events grant.now }
     requires seat { parts.seat ≡ first_seat grant.now.pool (P.rows + 1) }
+    requires granted { grant.now.config ≡ parts.config }
     ensures same { result.output.ghost_name ≡ lent.entry.output.ghost_name }
     ensures traces { TracesOver O.Sink P.run lent.entry.output.now result.output.now answer.new }
 {
@@ -191,11 +192,13 @@ fn first_rows<'r, 'g, P: Run, R: Wait, C, G>(
     stands: Stands<'g, P>,
     hands: Vec<Right<P, Agreed<'g>>>,
 ) -> Result<LiveRows<'r, 'g, P, R>, AllocError>
+    requires admitted { IsGrantFor P.events grant.now }
     requires seat { seat ≡ first_seat grant.now.pool (P.rows + 1) }
     requires stands { stands ≡ Some 0 }
     requires count { vec_len hands ≡ P.rows * SESSIONS }
     requires hands { AreHandTies P.rows hands.items }
-    ensures { IfOk result (AreFirst P.rows) }
+    ensures first { IfOk result (AreFirst P.rows) }
+    ensures own { IfOk result (λ rows. (rows.slot ≡ 0) × (rows.grant ≡ grant.now)) }
 {
     let mut slots = free_slots(alloc, hands)?;
     let free = slots.swap_remove(SEAT.slot as usize);
@@ -226,6 +229,7 @@ fn run_over<
     requires lent { IsLentTo O.Sink P.run lent.output.ghost_name lent.output.now }
     requires asked { (info.now ≡ P.run.info) × (config ≡ P.run.config) }
     requires first { AreFirst P.rows rows }
+    requires granted { (rows.slot ≡ 0) × (rows.grant.config ≡ config) }
     ensures same { result.0.output.ghost_name ≡ lent.entry.output.ghost_name }
     ensures traces { TracesOver O.Sink P.run lent.entry.output.now result.0.output.now result.1 }
 {

@@ -8,6 +8,10 @@ use pt_io::MemSink;
 use std::process::Abort;
 use std::test::Fail;
 
+mod rows;
+mod scene;
+mod streams;
+
 // Starts a session of connection 7 in slot 3, which answers who asked for it. Its sink fails at this write, the first being
 // 1, and takes then two bytes.
 fn start(

@@ -13,9 +13,11 @@ use Rattle.pt_live.specs.Trace.{IsWhole}
 use Rattle.pt_live.specs.state.Open.{watch_of}
 use Rattle.pt_live.specs.state.Run.{RunState}
 
--- Why it ended: nobody asked for it, and it says a fault of its sink only where the sink's count of faults has risen above this one.
+-- Why it ended: nobody asked for it, and it says a fault of its sink where the sink's count of faults has risen above this one,
+-- and where the count is another than this.
 pub record EndsWell {S : Type 0} (faults : S → ℕ) (was : ℕ) (end : Fate) (sink : S) : Type 0 where
   pub link_fault : end ≡ fate.LinkFault → HasRisen was (faults sink)
+  pub wrote : end ≢ fate.LinkFault → faults sink ≡ was
   pub not_asked : (conn : ℕ) → end ≢ fate.Requested conn
 
 -- A session of a run, which was open on so many rows up to the time at which each of their threads had made so many writes,

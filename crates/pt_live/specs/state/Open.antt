@@ -34,6 +34,10 @@ pub record IsOpen {S : Type 0} (rows low high : ℕ) (set : LiveRowsState) (sess
   pub no_hands : (row slot : ℕ) → slot ≢ 0 → expected_in set row slot ≡ None
   pub none_out : (slot : ℕ) → slot ≢ 0 → out_in set slot ≡ 0
 
+-- The rows are those of the session's slot, and were granted what it asks for.
+abbrev pub AreGranted : {S : Type 0} → LiveRowsState → Session S → Type 0
+AreGranted set session = ((rest_of session).seat.slot ≡ set.slot) × ((rest_of session).config ≡ set.grant.config)
+
 -- No session was open on these rows, no thread has made a write, and each row is expected in its first life.
 pub record AreFirst (rows : ℕ) (set : LiveRowsState) : Type 0 where
   pub count : length set.halves ≡ rows
@@ -44,9 +48,10 @@ pub record AreFirst (rows : ℕ) (set : LiveRowsState) : Type 0 where
 
 -- ---- what it has told
 
--- Where the writer has failed with a fault of the sink, the sink's count of faults has risen above this one, and it is not below it.
+-- Where the writer has failed with a fault of the sink, the sink's count of faults has risen above this one; else it is this one.
 pub record SaysFaults {S : Type 0} (faults : S → ℕ) (was : ℕ) (session : Session S) : Type 0 where
   pub fault : fault_of session ≡ Some WriteFault → HasRisen was (faults (sink_of session))
+  pub wrote : fault_of session ≢ Some WriteFault → faults (sink_of session) ≡ was
   pub later : was ≤ faults (sink_of session)
 
 -- What the run's session is a session of, behind these bytes: the row with a number serves the thread with this number.

@@ -1,4 +1,4 @@
-use Rattle.std.proofs.Common.{◌≡◌, ◌+◌, List, ◌++◌, take, drop, ap, sym, ◌∙◌, subst, arith, rules}
+use Rattle.std.proofs.Common.{◌≡◌, ◌+◌, List, refl, ◌++◌, take, drop, ap, sym, ◌∙◌, subst, arith, rules}
 use Rattle.std.proofs.lemmas.List.{append-nil}
 use Rattle.ep_defs.specs.Definitions.{definition_at}
 use Rattle.ep_defs.specs.Entry.{Entry}
@@ -9,8 +9,9 @@ use Rattle.ep_stream.proofs.Telling.{told_after}
 use Rattle.ep_stream.proofs.Reading.{split_chain, take_chain, all_between, entries_of-append}
 use Rattle.std.specs.Prelude.{Result, Ok, Err}
 use Rattle.nt_write.specs.declared.fault.Fault.{Fault}
+use Rattle.nt_write.specs.declared.fault.Fault.TheVariants.{WriteFault}
 use Rattle.ep_stream.specs.Telling.{Tells}
-use Rattle.ep_stream.proofs.Telling.{tells_after, tells_all, err_is}
+use Rattle.ep_stream.proofs.Telling.{tells_after, tells_all, err_is, ok_is_no_fault}
 use Rattle.std.proofs.lemmas.List.{take_all}
 use Rattle.ep_stream.proofs.write.write_chain.Goals as goal
 
@@ -18,7 +19,7 @@ pub loop-place-init : goal.loop-place-init
 loop-place-init g c =
     record {
       sound = search rules;
-      later = omega arith;
+      wrote = refl;
       telling = λ before info told now. subst (λ (es : List Entry). IsTelling g.S.Sink.tells_taken g.S.Sink.taken before (definition_at c.args.events.now) info es c.args.writer.now) (sym (append-nil told)) now;
     }
 
@@ -41,7 +42,7 @@ loop-place-preserved g c =
     let first : List Record = records_of (take place chain) in
     record {
       sound = c.in_ok-write_chunk.ensures.faulty.sound;
-      later = omega (arith, inv.later, c.write_chunk.ensures.faulty.later);
+      wrote = c.in_ok-write_chunk.ensures.faulty.wrote (ok_is_no_fault c.in_ok-write_chunk.field-0 WriteFault) ∙ inv.wrote;
       telling = λ before info told now.
           subst (λ (es : List Entry). IsTelling g.S.Sink.tells_taken g.S.Sink.taken before (definition_at events) info (told ++ es) c.write_chunk.new.writer)
           (sym (entries_of-append events stacks first chunk) ∙ ap (λ (rs : List Record). entries_of events stacks rs) (sym (take_chain chain place chunk (sym c.in-Some-chunk.ensures))))

@@ -11,6 +11,6 @@ abbrev pub invariant-loop-place : goal.invariant-loop-place
 invariant-loop-place g l =
     record {
       sound : fault_of l.writer ≡ None;
-      later : g.S.Sink.write_faults (sink_of l.fn.writer) ≤ g.S.Sink.write_faults (sink_of l.writer);
+      wrote : g.S.Sink.write_faults (sink_of l.writer) ≡ g.S.Sink.write_faults (sink_of l.fn.writer);
       telling : (before : List ℕ) (info : TraceInfo) (told : List Entry) → IsTelling g.S.Sink.tells_taken g.S.Sink.taken before (definition_at l.events) info told l.fn.writer → IsTelling g.S.Sink.tells_taken g.S.Sink.taken before (definition_at l.events) info (told ++ entries_of l.events l.stacks (records_of (take l.place l.chain))) l.writer;
     }

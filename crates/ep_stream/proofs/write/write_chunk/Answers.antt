@@ -9,7 +9,8 @@ use Rattle.std.specs.Prelude.{Result, Ok, Err}
 use Rattle.std.proofs.lemmas.List.Concat.{flat_map-cons}
 use Rattle.std.proofs.lemmas.Option.{same_Some}
 use Rattle.nt_write.specs.declared.fault.Fault.{Fault}
-use Rattle.ep_stream.proofs.Telling.{told_after, tells_after, tells_all, err_is}
+use Rattle.nt_write.specs.declared.fault.Fault.TheVariants.{WriteFault}
+use Rattle.ep_stream.proofs.Telling.{told_after, tells_after, tells_all, err_is, ok_is_no_fault}
 use Rattle.ep_stream.proofs.Reading.{writable_here, readable, entries_of-append, one_entry}
 use Rattle.ep_stream.proofs.write.write_chunk.Goals as goal
 
@@ -22,7 +23,7 @@ loop-rec-init g c =
       at = records_at-zero c.args.chunk.now;
       size = omega arith;
       sound = c.requires.sound;
-      later = omega arith;
+      wrote = refl;
       telling = λ before info told t. subst (λ (es : List Entry). IsTelling g.S.Sink.tells_taken g.S.Sink.taken before (definition_at c.args.events.now) info es c.args.writer.now) (sym (append-nil told)) t;
     }
 
@@ -50,7 +51,7 @@ loop-rec-preserved g c =
       at = t.behind;
       size = omega (arith, inv.size, next, total);
       sound = c.in_ok-write_record.ensures.faulty.sound;
-      later = omega (arith, inv.later, c.write_record.ensures.faulty.later);
+      wrote = c.in_ok-write_record.ensures.faulty.wrote (ok_is_no_fault c.in_ok-write_record.field-0 WriteFault) ∙ inv.wrote;
       telling = λ before info told now.
           subst (λ (es : List Entry). IsTelling g.S.Sink.tells_taken g.S.Sink.taken before (definition_at events) info (told ++ es) c.write_record.new.writer)
           (ap (λ (es : List Entry). entries_of events stacks inv.done ++ es) (sym (one_entry events stacks t.told)) ∙ sym (entries_of-append events stacks inv.done (t.told ∷ [])))

@@ -17,7 +17,7 @@ invariant-loop-rec g l =
       at : records_at l.chunk l.place ≡ Some rest;
       size : l.place + total_size rest ≡ total_size l.chunk;
       sound : fault_of l.writer ≡ None;
-      later : g.S.Sink.write_faults (sink_of l.fn.writer) ≤ g.S.Sink.write_faults (sink_of l.writer);
+      wrote : g.S.Sink.write_faults (sink_of l.writer) ≡ g.S.Sink.write_faults (sink_of l.fn.writer);
       telling : (before : List ℕ) (info : TraceInfo) (told : List Entry) → IsTelling g.S.Sink.tells_taken g.S.Sink.taken before (definition_at l.events) info told l.fn.writer → IsTelling g.S.Sink.tells_taken g.S.Sink.taken before (definition_at l.events) info (told ++ entries_of l.events l.stacks done) l.writer;
     }
 

@@ -50,10 +50,12 @@ loop-place-preserved g c =
     let run = g.P.Run.run in
     let attached : Attached {S = g.row.S.Denot} (tests_hand_in g.P.Program.rows c.loop-place.rows (c.loop-place.place + 1)) (c.loop-place.place + 1) c.loop-place.session c.attach.new.self = search rules in
     let counted : opened_count {S = g.row.S.Denot} c.attach.new.self ≡ opened_count {S = g.row.S.Denot} c.loop-place.session + 1 = search rules in
+    let still = c.attach.ensures.set.attaches _ _ inv.granted in
     record {
       counted = counted ∙ ap (λ (n : ℕ). n + 1) inv.counted;
       stands = c.same_tests_have_the_same_stands.ensures g.P.Program.rows c.loop-place.rows c.attach.new.rows c.attach.ensures.set.hands ∙ inv.stands;
       lives = λ row. c.same_tests_have_the_same_lives.ensures g.P.Program.rows c.loop-place.rows c.attach.new.rows (omega (arith, c.args.around.now.is_run.rows_are, c.args.around.now.is_run.some)) c.attach.ensures.set.hands row ∙ inv.lives row;
+      granted = (ap (λ (r : Rest). r.seat.slot) attached.rest ∙ still.0, ap (λ (r : Rest). r.config) attached.rest ∙ still.1);
       is_open =
           open-after g.P.Program.rows 0 place 0 (place + 1) _ c.loop-place.rows c.attach.new.rows old new inv.is_open (omega arith)
           (hands-attached place attached.hand (hand_on old) (hand_on new) inv.is_open.hands (attached.tested.1 0 inv.stands) attached.hands)

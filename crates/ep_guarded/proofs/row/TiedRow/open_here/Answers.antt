@@ -8,7 +8,6 @@ use Rattle.ep_guarded.specs.declared.agreed.Told.{Told}
 use Rattle.ep_guarded.specs.declared.agreed.Agreed.{Agreed}
 use Rattle.ep_slot.specs.Hand.{HandState}
 use Rattle.ep_guarded.specs.Tied.{TiedRowState, BufferState, hand_in, grant_in}
-use Rattle.ep_defs.specs.declared.event.EventDef.{EventDef}
 use Rattle.ep_guarded.specs.declared.grant.Grant.{Grant}
 use Rattle.ep_guarded.specs.Resting.{RowRests}
 use Rattle.ep_guarded.specs.Calls.{OpensRow}
@@ -49,8 +48,7 @@ invariant_of-self-2 g c =
     (row-opened _ _ _ _ c.self.inside.row c.open.new.row buffers _ c.index_mut.result.now c.put.new.half c.args.slot c.in_ok-kept.kept.told c.self.invariant at
     (c.put.ensures.places.1 ∙ ap (λ (t : Tied Agreed). t.place) (same ∙ c.meet.ensures.same.1))
     c.put.ensures.told opened.thread
-    (subst (λ (g' : Grant). OpensRow g.P.Program.events c.args.slot g'.config c.in_ok-kept.kept.told.opening c.self.inside.row c.open.new.row) (sym opened.grant_is)
-    (subst (λ (es : List EventDef). OpensRow es c.args.slot c.args.grant.now.config c.in_ok-kept.kept.told.opening c.self.inside.row c.open.new.row) c.requires.events opened.row_is)))
+    (subst (λ (g' : Grant). OpensRow g.P.Program.events c.args.slot g'.config c.in_ok-kept.kept.told.opening c.self.inside.row c.open.new.row) (sym opened.grant_is) opened.row_is))
 
 pub returns-clause-opens : goal.returns-clause-opens
 returns-clause-opens g c =

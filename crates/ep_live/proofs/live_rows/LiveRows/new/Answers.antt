@@ -5,7 +5,7 @@ use Rattle.ep_live.proofs.Halves.{rows-fresh, are-fresh}
 use Rattle.ep_live.proofs.live_rows.LiveRows.new.Goals as goal
 
 pub invariant_of-result : goal.invariant_of-result
-invariant_of-result g c = rows-fresh _ _ _ _ _ _ c.free.invariant (sym c.args.lives.ok.0 ∙ c.requires.lives) c.requires.seat
+invariant_of-result g c = rows-fresh _ _ _ _ _ _ _ c.free.invariant (sym c.args.lives.ok.0 ∙ c.requires.lives) c.requires.admitted c.requires.seat
 
 pub returns : goal.returns
 returns g c =

@@ -8,7 +8,7 @@ use Rattle.ep_guarded.specs.declared.grant.Grant.{Grant}
 use Rattle.ep_guarded.specs.Tied.{hand_in, buffer_number}
 use Rattle.ep_live.specs.Live.{hand_place}
 use Rattle.ep_live.specs.RowSet.{LiveRowsState, expected_in, configured_in, config_in, out_in, said_by, stolen_in}
-use Rattle.ep_live.proofs.Halves.{said-own, said-set, half-is, set-same, room, counts, counts-none, sum-set, rows-changed}
+use Rattle.ep_live.proofs.Halves.{said-own, half-is, set-same, room, counts, counts-none, sum-set, rows-changed}
 use Rattle.ep_live.proofs.live_rows.LiveRowsRowSet.attach.Goals as goal
 
 pub open-requires-clause-place : goal.open-requires-clause-place
@@ -17,7 +17,7 @@ open-requires-clause-place g c =
     let count : length halves ≡ length c.args.self.now.halves = ap (λ (v : LiveRowsState). length v.halves) c.self.view_is in
     let at = slice_get_read halves _ (c.args.row - 1) c.index_mut.result.now refl (omega (arith, count, c.requires.row)) c.index_mut.ensures.value in
     (c.self.invariant.halves_are (c.args.row - 1) c.index_mut.result.now at).place
-    ∙ ap (λ (slot : ℕ). hand_place g.P.Program.rows (buffer_number (c.args.row - 1) slot)) (omega (arith, c.if-slot-self.false))
+    ∙ ap (λ (slot : ℕ). hand_place g.P.Program.rows (buffer_number (c.args.row - 1) slot)) (ap (λ (v : LiveRowsState). v.slot) c.self.view_is ∙ sym c.requires.can_attach.0)
 
 pub open-requires-clause-share : goal.open-requires-clause-share
 open-requires-clause-share g c =
@@ -25,7 +25,7 @@ open-requires-clause-share g c =
     let half = c.index_mut.result.now in
     let count : length halves ≡ length c.args.self.now.halves = ap (λ (v : LiveRowsState). length v.halves) c.self.view_is in
     let at = slice_get_read halves _ (c.args.row - 1) half refl (omega (arith, count, c.requires.row)) c.index_mut.ensures.value in
-    let own : c.args.slot ≡ c.self.inside.slot = omega (arith, c.if-slot-self.false) in
+    let own : c.args.slot ≡ c.self.inside.slot = c.requires.can_attach.0 ∙ sym (ap (λ (v : LiveRowsState). v.slot) c.self.view_is) in
     let off = ap (λ h. hand_in h.value) (sym (half-is halves c.args.row half c.requires.row.0 at)) ∙ sym (said-own hand_in halves c.self.inside.slot c.args.row c.args.slot own) ∙ ap (λ (v : LiveRowsState). expected_in v c.args.row c.args.slot) c.self.view_is ∙ c.requires.off in
     let some = room halves (c.args.row - 1) half at (counts-none half off).0 in
     omega (arith, some, c.self.invariant.share, c.self.invariant.count)
@@ -36,7 +36,7 @@ invariant_of-self g c =
     let half = c.index_mut.result.now in
     let count : length halves ≡ length c.args.self.now.halves = ap (λ (v : LiveRowsState). length v.halves) c.self.view_is in
     let at = slice_get_read halves _ (c.args.row - 1) half refl (omega (arith, count, c.requires.row)) c.index_mut.ensures.value in
-    let own : c.args.slot ≡ c.self.inside.slot = omega (arith, c.if-slot-self.false) in
+    let own : c.args.slot ≡ c.self.inside.slot = c.requires.can_attach.0 ∙ sym (ap (λ (v : LiveRowsState). v.slot) c.self.view_is) in
     let off = ap (λ h. hand_in h.value) (sym (half-is halves c.args.row half c.requires.row.0 at)) ∙ sym (said-own hand_in halves c.self.inside.slot c.args.row c.args.slot own) ∙ ap (λ (v : LiveRowsState). expected_in v c.args.row c.args.slot) c.self.view_is ∙ c.requires.off in
     let some = room halves (c.args.row - 1) half at (counts-none half off).0 in
     let was = counts-none half off in
@@ -45,7 +45,7 @@ invariant_of-self g c =
     let none = ap (λ h. h.stolen) opened.hand_is in
     let share = ap (λ s. s.share) opened.seat_is in
     let taken = ap (λ s. s.taken) opened.seat_is in
-    rows-changed _ _ _ halves c.self.inside.seat c.open.new.seat c.self.inside.openings (c.self.inside.openings + 1) (c.args.row - 1) _ half c.open.new.half c.self.invariant at
+    rows-changed _ _ _ _ halves c.self.inside.seat c.open.new.seat c.self.inside.openings (c.self.inside.openings + 1) (c.args.row - 1) _ half c.open.new.half c.self.invariant at
     c.in-Ok.ensures.place
     (λ grant is. same grant c.self.inside.grant.now (sym is ∙ opened.grant_is))
     (omega (arith, now, none)) (ap (λ s. s.pool) opened.seat_is) (ap (λ s. s.total) opened.seat_is) (ap (λ s. s.seats) opened.seat_is)
@@ -60,7 +60,7 @@ returns-in-Ok-clause-out g c s =
     let half = c.index_mut.result.now in
     let count : length halves ≡ length c.args.self.now.halves = ap (λ (v : LiveRowsState). length v.halves) c.self.view_is in
     let at = slice_get_read halves _ (c.args.row - 1) half refl (omega (arith, count, c.requires.row)) c.index_mut.ensures.value in
-    let own : c.args.slot ≡ c.self.inside.slot = omega (arith, c.if-slot-self.false) in
+    let own : c.args.slot ≡ c.self.inside.slot = c.requires.can_attach.0 ∙ sym (ap (λ (v : LiveRowsState). v.slot) c.self.view_is) in
     let off = ap (λ h. hand_in h.value) (sym (half-is halves c.args.row half c.requires.row.0 at)) ∙ sym (said-own hand_in halves c.self.inside.slot c.args.row c.args.slot own) ∙ ap (λ (v : LiveRowsState). expected_in v c.args.row c.args.slot) c.self.view_is ∙ c.requires.off in
     let was = counts-none half off in
     let opened = c.in-Ok.ensures.opens in

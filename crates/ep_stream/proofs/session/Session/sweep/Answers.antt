@@ -6,11 +6,12 @@ use Rattle.ep_defs.specs.Definitions.{definition_at}
 use Rattle.ep_defs.specs.Entry.{Entry}
 use Rattle.ep_stream.specs.Session.{Rest, hand_on, rest_of, writer_of}
 use Rattle.nt_write.specs.declared.fault.Fault.{Fault}
+use Rattle.nt_write.specs.declared.fault.Fault.TheVariants.{WriteFault}
 use Rattle.ep_stream.specs.declared.opened.Named.{Named}
 use Rattle.ep_stream.specs.Sweep.{Taking, entries_in, named_after, named_behind, open_rows, point_after, records_in, rows_of}
 use Rattle.ep_stream.specs.Telling.{IsFaulty, IsTelling, Tells}
 use Rattle.ep_stream.proofs.Staying.{set_stays, set_more, slots_stay, slots_more}
-use Rattle.ep_stream.proofs.Telling.{told_after, tells_all, err_is, on_err}
+use Rattle.ep_stream.proofs.Telling.{told_after, tells_all, err_is, ok_is_no_fault, on_err}
 use Rattle.ep_stream.proofs.Sweep.{hands_stay, rows_at, rows_front, next_rows, all_within, taken_next, tells_next, tells_behind, tells_last, entries_in-append, records_in-append, failed_after, faulty_after, faulty_ok, faulty_err, rows_same}
 use Rattle.ep_stream.proofs.session.Session.sweep.Goals as goal
 
@@ -31,13 +32,13 @@ loop-place-init g c =
       };
       telling = λ before info told now. subst (λ (es : List Entry). IsTelling g.S.Sink.tells_taken g.S.Sink.taken before (definition_at c.args.events.now) info es (writer_of c.args.self.now)) (sym (append-nil told)) now;
       fault = refl;
-      later = omega arith;
+      wrote = refl;
       counted = refl;
       small = omega arith;
       opened = refl;
       rows = c.requires.rows;
       refused = refl;
-      set = set_stays g.R.RowSet.count g.R.RowSet.definitions g.R.RowSet.tests_record g.R.RowSet.tests_hand g.R.RowSet.tests_marks rows;
+      set = set_stays g.R.RowSet.count g.R.RowSet.definitions g.R.RowSet.can_attach g.R.RowSet.tests_record g.R.RowSet.tests_hand g.R.RowSet.tests_marks rows;
       slots = slots_stay g.R.RowSet.expected g.R.RowSet.configured g.R.RowSet.out (rest_of c.args.self.now).seat.slot rows;
     }
 
@@ -82,13 +83,13 @@ loop-place-preserved g c =
           (tells_next g.S.Sink.tells_taken g.S.Sink.taken before info told events first more old mid _ (Ok c.in_ok-taken.taken) (writer_of new) inv.taken.rest
           (m.writes before info (told ++ entries_in events stacks first) (inv.telling before info told t))));
       fault = c.in_ok-taken.ensures.faulty.same ∙ inv.fault;
-      later = (let a = inv.later in let b = c.in_ok-taken.ensures.faulty.later in omega (arith, a, b));
+      wrote = c.in_ok-taken.ensures.faulty.wrote (ok_is_no_fault c.in_ok-taken.taken WriteFault) ∙ inv.wrote;
       counted = (let a = inv.counted in let b = m.counted in let e = records_in-append first more in omega (arith, a, b, e));
       small = (let a = inv.small in omega (arith, a));
       opened = c.in_ok-taken.ensures.count ∙ inv.opened;
       rows = c.in_ok-taken.ensures.rows;
       refused = c.in_ok-taken.ensures.refused ∙ inv.refused;
-      set = set_more g.R.RowSet.count g.R.RowSet.definitions g.R.RowSet.tests_record g.R.RowSet.tests_hand g.R.RowSet.tests_marks rows now after inv.set c.in_ok-taken.ensures.set;
+      set = set_more g.R.RowSet.count g.R.RowSet.definitions g.R.RowSet.can_attach g.R.RowSet.tests_record g.R.RowSet.tests_hand g.R.RowSet.tests_marks rows now after inv.set c.in_ok-taken.ensures.set;
       slots = slots_more g.R.RowSet.expected g.R.RowSet.configured g.R.RowSet.out (rest_of old).seat.slot (rest_of mid).seat.slot rows now after slot_is inv.slots c.in_ok-taken.ensures.slots;
     }
 
@@ -144,11 +145,11 @@ pub returns-in_err-taken-clause-faulty : goal.returns-in_err-taken-clause-faulty
 returns-in_err-taken-clause-faulty g c =
     let inv = c.loop-place.invariant in
     subst (λ (r : Result ℕ Fault). IsFaulty g.S.Sink.write_faults (writer_of c.args.self.now) (writer_of c.sweep_row.new.self) r) (sym (err_is _ _ c.from_residual.ensures.1))
-    (failed_after g.S.Sink.write_faults (writer_of c.args.self.now) (writer_of c.loop-place.self) (writer_of c.sweep_row.new.self) c.in_err-taken.field-0.0 inv.fault inv.later c.in_err-taken.ensures.faulty)
+    (failed_after g.S.Sink.write_faults (writer_of c.args.self.now) (writer_of c.loop-place.self) (writer_of c.sweep_row.new.self) c.in_err-taken.field-0.0 inv.fault inv.wrote c.in_err-taken.ensures.faulty)
 
 pub returns-in_err-taken-clause-set : goal.returns-in_err-taken-clause-set
 returns-in_err-taken-clause-set g c =
-    set_more g.R.RowSet.count g.R.RowSet.definitions g.R.RowSet.tests_record g.R.RowSet.tests_hand g.R.RowSet.tests_marks c.args.rows.now c.loop-place.rows c.sweep_row.new.rows c.loop-place.invariant.set c.in_err-taken.ensures.set
+    set_more g.R.RowSet.count g.R.RowSet.definitions g.R.RowSet.can_attach g.R.RowSet.tests_record g.R.RowSet.tests_hand g.R.RowSet.tests_marks c.args.rows.now c.loop-place.rows c.sweep_row.new.rows c.loop-place.invariant.set c.in_err-taken.ensures.set
 
 pub returns-in_err-taken-clause-slots : goal.returns-in_err-taken-clause-slots
 returns-in_err-taken-clause-slots g c =
@@ -200,7 +201,7 @@ pub returns-clause-faulty : goal.returns-clause-faulty
 returns-clause-faulty g c =
     let inv = c.loop-place.invariant in
     faulty_ok g.S.Sink.write_faults (writer_of c.args.self.now) (writer_of c.end_sweep.new.self) c.in_ok-end_sweep.field-0 c.loop-place.count
-    (faulty_after g.S.Sink.write_faults (writer_of c.args.self.now) (writer_of c.loop-place.self) (writer_of c.end_sweep.new.self) (Ok c.in_ok-end_sweep.field-0) inv.fault inv.later c.in_ok-end_sweep.ensures.faulty)
+    (faulty_after g.S.Sink.write_faults (writer_of c.args.self.now) (writer_of c.loop-place.self) (writer_of c.end_sweep.new.self) (Ok c.in_ok-end_sweep.field-0) inv.fault inv.wrote c.in_ok-end_sweep.ensures.faulty)
 
 pub returns-clause-rows : goal.returns-clause-rows
 returns-clause-rows g c =
@@ -253,7 +254,7 @@ returns-in_err-end_sweep-clause-faulty g c =
     let inv = c.loop-place.invariant in
     let fault : Fault = c.in_err-end_sweep.field-0.0 in
     faulty_err {A = Unit {0}} g.S.Sink.write_faults (writer_of c.args.self.now) (writer_of c.end_sweep.new.self) (Err fault) c.from_residual-in_err-end_sweep.result fault refl (err_is _ _ c.from_residual-in_err-end_sweep.ensures.1)
-    (faulty_after g.S.Sink.write_faults (writer_of c.args.self.now) (writer_of c.loop-place.self) (writer_of c.end_sweep.new.self) (Err fault) inv.fault inv.later c.in_err-end_sweep.ensures.faulty)
+    (faulty_after g.S.Sink.write_faults (writer_of c.args.self.now) (writer_of c.loop-place.self) (writer_of c.end_sweep.new.self) (Err fault) inv.fault inv.wrote c.in_err-end_sweep.ensures.faulty)
 
 pub returns-in_err-end_sweep-clause-rows : goal.returns-in_err-end_sweep-clause-rows
 returns-in_err-end_sweep-clause-rows g c =

@@ -20,12 +20,12 @@ invariant-loop-place g l =
       taken : Taken (g.R.RowSet.tests_record l.fn.rows (rest_of l.fn.self).config) (λ ts. TellsTakings (rest_of l.fn.self).seat.slot ts (g.R.RowSet.rows l.fn.rows) (g.R.RowSet.rows l.rows)) l.events takings l.fn.self l.self;
       telling : (before : List ℕ) (info : TraceInfo) (told : List Entry) → IsTelling g.S.Sink.tells_taken g.S.Sink.taken before (definition_at l.events) info told (writer_of l.fn.self) → IsTelling g.S.Sink.tells_taken g.S.Sink.taken before (definition_at l.events) info (told ++ entries_in l.events (rest_of l.fn.self).config.stackwalk takings) (writer_of l.self);
       fault : fault_of (writer_of l.self) ≡ fault_of (writer_of l.fn.self);
-      later : g.S.Sink.write_faults (sink_of (writer_of l.fn.self)) ≤ g.S.Sink.write_faults (sink_of (writer_of l.self));
+      wrote : g.S.Sink.write_faults (sink_of (writer_of l.self)) ≡ g.S.Sink.write_faults (sink_of (writer_of l.fn.self));
       counted : l.count ≡ records_in takings;
       small : l.count ≤ l.place * (2 ^ 32 - 1);
       opened : opened_count l.self ≡ opened_count l.fn.self;
       rows : AreRowsOf g.R.RowSet.expected g.R.RowSet.configured g.R.RowSet.out l.rows l.self;
       refused : g.R.RowSet.refused l.rows ≡ g.R.RowSet.refused l.fn.rows;
-      set : KeepsSet g.R.RowSet.count g.R.RowSet.definitions g.R.RowSet.tests_record g.R.RowSet.tests_hand g.R.RowSet.tests_marks l.fn.rows l.rows;
+      set : KeepsSet g.R.RowSet.count g.R.RowSet.definitions g.R.RowSet.can_attach g.R.RowSet.tests_record g.R.RowSet.tests_hand g.R.RowSet.tests_marks l.fn.rows l.rows;
       slots : KeepsSlots g.R.RowSet.expected g.R.RowSet.configured g.R.RowSet.out (rest_of l.fn.self).seat.slot l.fn.rows l.rows;
     }

@@ -58,7 +58,7 @@ returns-clause-faulty g c = may_fail_with g.S.Sink.write_faults (writer_of c.arg
 
 pub returns-clause-set : goal.returns-clause-set
 returns-clause-set g c =
-    set_more g.R.RowSet.count g.R.RowSet.definitions g.R.RowSet.tests_record g.R.RowSet.tests_hand g.R.RowSet.tests_marks c.args.rows.now c.steal-taken.new.rows c.give.new.rows
+    set_more g.R.RowSet.count g.R.RowSet.definitions g.R.RowSet.can_attach g.R.RowSet.tests_record g.R.RowSet.tests_hand g.R.RowSet.tests_marks c.args.rows.now c.steal-taken.new.rows c.give.new.rows
     c.steal-taken.ensures.set c.give.ensures.set
 
 pub returns-clause-slots : goal.returns-clause-slots

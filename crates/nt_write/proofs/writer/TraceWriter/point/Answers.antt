@@ -3,7 +3,7 @@ use Rattle.nt_object.specs.Stream.{stream_start, blocks_bytes}
 use Rattle.ep_defs.specs.Entry.{Point}
 use Rattle.nt_write.specs.Layout.{empty_layout, with_entries, with_point}
 use Rattle.nt_write.specs.Writer.{point_of}
-use Rattle.nt_write.proofs.Answered.{on_err-then, on_ok-fault-both}
+use Rattle.nt_write.proofs.Answered.{on_err-then, on_ok-fault-both, count-stays}
 use Rattle.nt_write.proofs.Prefixes.{prefix-same}
 use Rattle.nt_write.proofs.Entries.{writing-more, writing-canonical-more, part-more}
 use Rattle.nt_write.proofs.writer.TraceWriter.point.Goals as goal
@@ -29,3 +29,6 @@ returns-clause-part g c before defs info entries h =
     on_err-then c.write_point-written.result
     (λ took. part-more tells taken before info entries entry bytes c.write_point-written.new.self.output.sink (writing-canonical-more tells taken before defs info entries entry c.args.self.now h c.note_threads.ensures) (prefix-same bytes) took)
     (c.write_point-written.ensures.part (before ++ stream_start info) defs layout h.at)
+
+pub returns-clause-wrote : goal.returns-clause-wrote
+returns-clause-wrote g c = count-stays g.S.Sink.write_faults _ _ c.write_point-written.result c.write_point-written.ensures.counted
