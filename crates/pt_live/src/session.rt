@@ -84,10 +84,21 @@ pub(crate) fn streamed<
     let (streaming, rows) = with_threads(alloc, around, streaming, kit);
     let (last, seat) = ended(alloc, around, streaming, opened, Fate::ProgramEnd);
     let SessionEnd {
-        marks, fate, sink, ..
+        marks,
+        fate,
+        sink,
+        ..
     } = last;
     let seat = Some(seat);
-    (sink, Ok(TraceEnd { rows, marks, fate, seat }))
+    (
+        sink,
+        Ok(TraceEnd {
+            rows,
+            marks,
+            fate,
+            seat,
+        }),
+    )
 }
 
 // Lets the threads make their writes while this one streams. Gives each row's thread and how many it has made.
