@@ -27,6 +27,3 @@ pub use desk::{ConnAnswer, ConnEnd, Desk};
 pub use process::Process;
 pub use served::Served;
 pub use unstarted::Unstarted;
-
-#[cfg(test)]
-mod tests;
