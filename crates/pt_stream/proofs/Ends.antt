@@ -78,7 +78,7 @@ module _ {S : Type 0} (side : Sink S) (rows : ℕ) (events : List EventDef) (wri
       → end.id ≡ (rest_of session).seat.id → end.slot ≡ (rest_of session).seat.slot → end.conn ≡ (rest_of session).seat.conn → end.config ≡ (rest_of session).config → end.marks ≡ (rest_of session).marks
       → Ended side.tells_taken side.taken side.write_faults stamp handed session end.fate end.sink → side.write_faults (sink_of session) ≤ side.write_faults end.sink
       → side.read_side end.sink ≡ side.read_side (sink_of session)
-      → HasEnded side (watch_of rows events writes setting (rest_of session).config seat.id) rows (setting.faults seat.id)
+      → HasEnded side (watch_of rows events writes setting (rest_of session).config seat.id) rows setting.lives (setting.faults seat.id)
       (record { id = seat.id; slot = seat.slot; conn = seat.conn; config = (rest_of session).config; gave = side.read_side (sink_of session); stands = stands; places = places; marks = (rest_of session).marks; early = early })
       handed end
   has-ended set session openings seat places early stands stamp handed end k shut not law id slot conn config marks ended later gave =
@@ -93,6 +93,8 @@ module _ {S : Type 0} (side : Sink S) (rows : ℕ) (events : List EventDef) (wri
         config_is = config;
         marks_are = marks;
         gave_is = gave;
+        count = k.places_are.count;
+        few = k.places_are.few;
         served = served-threads rows places k.opened (map (λ mark. mark.thread) (rest_of session).marks) threads k.served;
         early = λ is. early-threads rows places k.opened (map (λ mark. mark.thread) (rest_of session).marks) session (rest_of session).marks threads refl (k.early_is is);
         outcome = subst (λ (ts : List ℕ). IsOutcome side watch ts handed (rest_of session).marks end.fate end.sink) (sym threads) out;

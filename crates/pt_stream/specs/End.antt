@@ -1,5 +1,5 @@
 -- What a session over a run's rows comes to (this project's theorem).
-use Rattle.std.specs.Prelude.{◌≡◌, ◌≢◌, ℕ, ◌-◌, ◌<◌, ◌≤◌, true, false, List, map}
+use Rattle.std.specs.Prelude.{◌≡◌, ◌≢◌, ℕ, ◌-◌, ◌<◌, ◌≤◌, true, false, List, length, map}
 use Rattle.std.specs.List.{AllByRecursion, sum_by}
 use Rattle.ep_defs.specs.declared.session.Marks.{Marks}
 use Rattle.pt_io.specs.declared.sink.Sink.{Ghosts as Sink}
@@ -52,13 +52,16 @@ pub record AreEarly (rows : ℕ) (places : List Place) (threads : List ℕ) (mar
 -- ---- the end
 
 -- A session's stream has ended, where it was to end so.
-pub record HasEnded {S : Type 0} (side : Sink S) (watch : Watch) (rows was : ℕ) (stream : StreamState) (handed : Fate) (end : SessionEnd S) : Type 0 where
+pub record HasEnded {S : Type 0} (side : Sink S) (watch : Watch) (rows lives was : ℕ) (stream : StreamState) (handed : Fate) (end : SessionEnd S) : Type 0 where
   pub id_is : end.id ≡ stream.id
   pub slot_is : end.slot ≡ stream.slot
   pub conn_is : end.conn ≡ stream.conn
   pub config_is : end.config ≡ stream.config
   pub marks_are : end.marks ≡ stream.marks
   pub gave_is : side.read_side end.sink ≡ stream.gave
+  -- it has a place of each row, in lives that there are
+  pub count : length stream.places ≡ rows
+  pub few : (row : ℕ) → 0 < row → (place_at stream.places row).next ≤ lives
   -- the threads of its marks, and what its sink took of them
   pub served : AreServed rows stream.places (map (λ mark. mark.thread) stream.marks)
   pub early : stream.early ≡ true → AreEarly rows stream.places (map (λ mark. mark.thread) stream.marks) stream.marks

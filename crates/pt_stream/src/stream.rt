@@ -452,7 +452,7 @@ impl<'a, P: Run, S: Sink> Stream<'a, P, S> {
         requires complete { is_fault fate ≡ false → is_complete self ≡ true }
         requires done { fate ≡ fates.ProgramEnd → AllByRecursion (IsDone P.writes) self.marks }
         ensures ended { HasEnded S.Sink (watch_of P.rows P.events P.writes P.setting self.entry.config self.entry.id)
-            P.rows (P.setting.faults self.entry.id) self.entry fate result.0 }
+            P.rows P.setting.lives (P.setting.faults self.entry.id) self.entry fate result.0 }
         ensures left { Leaves self.entry result.1 }
     {
         a_session_that_ends_has_traced::<S>();

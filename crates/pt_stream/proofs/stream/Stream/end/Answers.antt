@@ -12,7 +12,7 @@ returns-clause-ended g c =
     let session = c.self.inside.session in
     let e = c.finish.ensures in
     let shut = subst (λ (places : List Place). (row : ℕ) → 0 < row → row ≤ g.P.Program.rows → (place_at places row).is_open ≡ false) (sym (ap (λ (v : StreamState). v.places) c.self.view_is)) c.requires.shut in
-    subst (λ (v : StreamState). HasEnded {S = g.row.S.Denot} g.S.Sink (watch_of g.P.Program.rows g.P.Program.events g.P.Program.writes g.P.Run.setting v.config v.id) g.P.Program.rows (g.P.Run.setting.faults v.id) v c.args.fate c.finish.result) c.self.view_is
+    subst (λ (v : StreamState). HasEnded {S = g.row.S.Denot} g.S.Sink (watch_of g.P.Program.rows g.P.Program.events g.P.Program.writes g.P.Run.setting v.config v.id) g.P.Program.rows g.P.Run.setting.lives (g.P.Run.setting.faults v.id) v c.args.fate c.finish.result) c.self.view_is
     (has-ended g.S.Sink g.P.Program.rows g.P.Program.events g.P.Program.writes g.P.Run.setting c.self.inside.rows session c.self.inside.openings c.self.inside.seat c.self.inside.places.items c.self.inside.early c.self.inside.stands c.args.stamp c.args.fate c.finish.result
     c.self.invariant.1 shut c.requires.own.0
     (λ watch opened over. c.a_session_that_ends_has_traced.ensures watch opened c.args.fate c.finish.result.fate session c.finish.result.sink over)
