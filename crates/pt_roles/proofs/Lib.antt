@@ -1,0 +1,7 @@
+pub mod Load
+pub mod Lists
+pub mod Lives
+pub mod Ending
+pub mod Marks
+pub mod Ends
+pub mod Turning

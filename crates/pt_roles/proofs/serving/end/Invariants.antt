@@ -1,0 +1,13 @@
+use Rattle.std.proofs.Common.{◌≡◌, ℕ, ◌<◌, ◌≤◌, false}
+use Rattle.pt_stream.specs.State.{is_complete, place_at}
+use Rattle.pt_roles.specs.Serving.{KeepsSession}
+use Rattle.pt_roles.proofs.serving.end.Given as goal
+
+-- it is closed on the rows so far
+abbrev pub invariant-loop-number : goal.invariant-loop-number
+invariant-loop-number g l =
+    record {
+      same : KeepsSession l.initial.stream l.stream;
+      complete : is_complete l.stream ≡ is_complete l.initial.stream;
+      shut : (row : ℕ) → 0 < row → row ≤ l.number → (place_at l.stream.places row).is_open ≡ false;
+    }

@@ -1,0 +1,4 @@
+//! Runs with a server over links in memory.
+mod gates;
+mod runs;
+mod scene;
