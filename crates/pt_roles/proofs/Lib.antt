@@ -5,3 +5,4 @@ pub mod Ending
 pub mod Marks
 pub mod Ends
 pub mod Turning
+pub mod Ran

@@ -380,16 +380,14 @@ fn run_groups<
             };
             let (held, first, serving, writing) = serve_until_ready(front, held, wait);
             let write = move || writing.write_all();
-            let (held, exit, serving, end) = match scope.spawn(write) {
-                Ok(handle) => {
-                    let (held, exit, serving) = serve_on(serving, held, first);
-                    (held, exit, serving, handle.join(rt))
-                }
-                Err(refused) => {
-                    let end = (refused.value)();
-                    let (held, exit, serving) = serve_on(serving, held, first);
-                    (held, exit, serving, end)
-                }
+            let writers = match scope.spawn(write) {
+                Ok(handle) => Ok(handle),
+                Err(refused) => Err((refused.value)()),
+            };
+            let (held, exit, serving) = serve_on(serving, held, first);
+            let end = match writers {
+                Ok(handle) => handle.join(rt),
+                Err(end) => end,
             };
             let (server, conns) = close(serving.desk);
             let left = playing.join(rt);
