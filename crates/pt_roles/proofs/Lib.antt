@@ -5,3 +5,5 @@ pub mod Ending
 pub mod Marks
 pub mod Ends
 pub mod Turning
+pub mod Opening
+pub mod Starting

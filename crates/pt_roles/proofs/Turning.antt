@@ -28,7 +28,7 @@ exits-more dock (Some exit.Closed) old mid new now same is = (is.0 ∙ same, is.
 exits-more dock (Some exit.Failed) old mid new now same is = subst (λ (n : ℕ). HasRisen n (dock.dock_faults new)) same is
 exits-more dock (Some exit.Full) old mid new now same is = (is.0 ∙ same, is.1)
 
-goes-more : (early : Bool) (was then now : ServerHalf) → GoesOn early was then → GoesOn early then now → GoesOn early was now
+pub goes-more : (early : Bool) (was then now : ServerHalf) → GoesOn early was then → GoesOn early then now → GoesOn early was now
 goes-more early was then now a b =
     record { left = b.left ∙ a.left; more = omega (arith, a.more, b.more); late = λ is. b.late is ∙ a.late is }
 
