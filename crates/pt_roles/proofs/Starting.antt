@@ -17,12 +17,13 @@ use Rattle.pt_server.specs.Connection.{HasAsked, StartsWith, TookStart}
 use Rattle.pt_server.specs.Unstarted.{HasAskedSession}
 use Rattle.ep_registry.specs.Registered.{ServerHalf, counted_if}
 use Rattle.ep_registry.specs.declared.hold.Hold.{Hold}
+use Rattle.ep_journal.specs.declared.session.Stage.TheVariants as stage
 use Rattle.ep_journal.specs.Kept.{was_early}
 use Rattle.ep_journal.specs.Recorded.{opened_at}
 use Rattle.ep_defs.specs.declared.session.Write.{Write}
 use Rattle.pt_stream.specs.State.{IsDone, StreamState, is_complete, new_stream}
 use Rattle.pt_roles.specs.Server.{GoesOn, HasOpened, SameBut}
-use Rattle.pt_roles.specs.Table.{Fits, was_opened}
+use Rattle.pt_roles.specs.Table.{Waits, was_opened}
 
 -- Where a stream could not be started, its link took no more than the reply and what begins a stream.
 pub took-start : {S : Type 0} (tells : S → Bool) (taken : S → List ℕ) (id : ℕ) (greeting : List ℕ) (info : TraceInfo) (old new : S)
@@ -72,22 +73,26 @@ goes-opened early was now hold opened o =
 
 -- ---- what is handed over
 
--- The stream of a session that was just started, and may be open on rows, fits who has the session.
-pub fits-new : (writes : ℕ → List Write) (rows : ℕ) (first hold : Hold) (entry stream : StreamState)
+-- A session that was just started, and may be open on rows, waits with its stream.
+pub waits-new : (writes : ℕ → List Write) (rows : ℕ) (first hold : Hold) (entry stream : StreamState)
     → entry ≡ new_stream rows first.id first.slot first.conn entry.config entry.gave → HasAsked entry.gave (request.Collect entry.config)
     → stream ≡ record entry { places = stream.places; early = stream.early }
-    → hold.id ≡ first.id → hold.slot ≡ first.slot → hold.conn ≡ first.conn
-    → is_complete stream ≡ was_opened hold.opened → (was_early hold.opened ≡ true → stream.early ≡ true) → Fits writes hold stream
-fits-new writes rows first hold entry stream new asked same id slot conn complete early =
+    → hold.id ≡ first.id → hold.slot ≡ first.slot → hold.conn ≡ first.conn → hold.stage ≡ stage.Serving
+    → is_complete stream ≡ was_opened hold.opened → (was_early hold.opened ≡ true → stream.early ≡ true) → Waits writes hold stream
+waits-new writes rows first hold entry stream new asked same id slot conn serves complete early =
     record {
-      asked = subst (λ (c : Config). HasAsked stream.gave (request.Collect c)) (sym (ap (λ (s : StreamState). s.config) same))
-          (subst (λ (r : ReadSide). HasAsked r (request.Collect entry.config)) (sym (ap (λ (s : StreamState). s.gave) same)) asked);
-      id_is = ap (λ (s : StreamState). s.id) same ∙ ap (λ (s : StreamState). s.id) new ∙ sym id;
-      slot_is = ap (λ (s : StreamState). s.slot) same ∙ ap (λ (s : StreamState). s.slot) new ∙ sym slot;
-      conn_is = ap (λ (s : StreamState). s.conn) same ∙ ap (λ (s : StreamState). s.conn) new ∙ sym conn;
-      complete = complete;
-      early = early;
-      done = subst (AllByRecursion (IsDone writes)) (sym (ap (λ (s : StreamState). s.marks) same ∙ ap (λ (s : StreamState). s.marks) new)) tt;
+      serves = serves;
+      fits = record {
+        asked = subst (λ (c : Config). HasAsked stream.gave (request.Collect c)) (sym (ap (λ (s : StreamState). s.config) same))
+            (subst (λ (r : ReadSide). HasAsked r (request.Collect entry.config)) (sym (ap (λ (s : StreamState). s.gave) same)) asked);
+        id_is = ap (λ (s : StreamState). s.id) same ∙ ap (λ (s : StreamState). s.id) new ∙ sym id;
+        slot_is = ap (λ (s : StreamState). s.slot) same ∙ ap (λ (s : StreamState). s.slot) new ∙ sym slot;
+        conn_is = ap (λ (s : StreamState). s.conn) same ∙ ap (λ (s : StreamState). s.conn) new ∙ sym conn;
+        complete = complete;
+        early = early;
+        done = subst (AllByRecursion (IsDone writes)) (sym (ap (λ (s : StreamState). s.marks) same ∙ ap (λ (s : StreamState). s.marks) new)) tt;
+        lent = ap (λ (s : StreamState). s.stands) same ∙ ap (λ (s : StreamState). s.stands) new;
+      };
     }
 
 -- A session that was opened on all rows is known as one.
