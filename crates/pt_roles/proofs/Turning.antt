@@ -58,6 +58,24 @@ pub turned-enough : {D L : Type 0} (dock : Dock D L) (early : Bool) (old new : D
 turned-enough dock early old new was now a =
     record { greets = a.greets; count = a.count; goes = a.goes; exits = a.exits }
 
+-- A link came in, and was decided.
+pub turned-link : {D L : Type 0} (dock : Dock D L) (early : Bool) (old new : D) (was now : ServerHalf)
+    → dock.greeting new ≡ dock.greeting old → dock.arrivals new ≡ dock.arrivals old + 1 → dock.dock_faults new ≡ dock.dock_faults old
+    → length now.decisions ≡ length was.decisions + 1 → GoesOn early was now → HasTurned dock early None old new was now
+turned-link dock early old new was now greets came sound one goes =
+    record { greets = greets; count = omega (arith, came, one); goes = goes; exits = sound }
+
+-- Nobody came in, and the turns came to their end so, if they did.
+pub turned-alone : {D L : Type 0} (dock : Dock D L) (early : Bool) (e : Option Exit) (old new : D) (was : ServerHalf)
+    → dock.greeting new ≡ dock.greeting old → dock.arrivals new ≡ dock.arrivals old → IsExit dock e old new was → HasTurned dock early e old new was was
+turned-alone dock early e old new was greets none exits =
+    record {
+      greets = greets;
+      count = omega (arith, none);
+      goes = record { left = refl; more = omega arith; late = λ _. refl };
+      exits = exits;
+    }
+
 -- ---- the server
 
 module _ {D L : Type 0} (dock : Dock D L) (gave : L → ReadSide) (took : L → WriteSide) (facts : Facts) (greeting : List ℕ) (wait : ℕ) where
