@@ -65,13 +65,16 @@ open-more early rows number old mid new stands within to one =
     here : place_at places (number + 1) ≡ place
     here = place-here mid.places (number + 1) place (omega arith) (omega (arith, to.count, within))
 
+    positive : 0 < place.next
+    positive = omega arith
+
     opened : (row : ℕ) → 0 < row → row ≤ number + 1 → 0 < (place_at places row).next
     opened row some few =
         ⊎_elim
         (λ (before : row < number + 1). subst (λ (p : Place). 0 < p.next) (sym (other row some (omega (arith, before)))) (to.opened row some (omega (arith, before))))
         (λ (after : number + 1 ≤ row).
             let last : row ≡ number + 1 = omega (arith, few, after) in
-            subst (λ (r : ℕ). 0 < (place_at places r).next) (sym last) (subst (λ (p : Place). 0 < p.next) (sym here) (omega arith)))
+            subst (λ (r : ℕ). 0 < (place_at places r).next) (sym last) (subst (λ (p : Place). 0 < p.next) (sym here) positive))
         (cases_lt row (number + 1))
 
 -- Each place says that the session was opened there.
@@ -88,11 +91,13 @@ open-all early rows old new to =
     all-opened new.places
     (λ k few.
         let one : 0 < (place_at new.places (k + 1)).next = to.opened (k + 1) (omega arith) (omega (arith, few, to.count)) in
-        subst (λ (n : ℕ). 0 < (slice_index_or new.places n no_place).next) (omega arith) one)
+        let at : k + 1 - 1 ≡ k = omega arith in
+        subst (λ (n : ℕ). 0 < (slice_index_or new.places n no_place).next) at one)
 
 -- It is not, where one is left.
 pub open-some : (early : Bool) (rows number : ℕ) (old new : StreamState) → number < rows → IsOpenTo early rows number old new → is_complete new ≡ false
 open-some early rows number old new within to =
     let never : place_at new.places (number + 1) ≡ no_place = to.never (number + 1) (omega arith) in
-    let at : get_or new.places number no_place ≡ no_place = subst (λ (n : ℕ). slice_index_or new.places n no_place ≡ no_place) (omega arith) never in
+    let same : number + 1 - 1 ≡ number = omega arith in
+    let at : get_or new.places number no_place ≡ no_place = subst (λ (n : ℕ). slice_index_or new.places n no_place ≡ no_place) same never in
     list_all_at (λ place. nat_lt 0 place.next) new.places number no_place (omega (arith, within, to.count)) (ap (λ (p : Place). nat_lt 0 p.next) at)
