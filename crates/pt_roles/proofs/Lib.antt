@@ -6,5 +6,5 @@ pub mod Marks
 pub mod Rows
 pub mod Ends
 pub mod Turning
-pub mod Opening
+pub mod Openings
 pub mod Starting

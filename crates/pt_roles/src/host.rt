@@ -11,7 +11,7 @@ ghost use Rattle.ep_journal.specs.declared.session.Opened.TheVariants as opened;
 ghost use Rattle.ep_guarded.specs.Granted.{IsGrantFor};
 ghost use Rattle.pt_stream.specs.State.{first_seat, is_complete, new_stream, no_place};
 ghost use Rattle.pt_roles.specs.declared.exit.Exit.TheVariants as exit;
-ghost use Rattle.pt_roles.specs.Server.{CanOpen, GoesOn, HasOpened, HasTurned, IsBegun, lent_if};
+ghost use Rattle.pt_roles.specs.Server.{GoesOn, HasTurned, IsBegun, lent_if};
 
 use crate::exit::Exit;
 use crate::held_dock::HeldDock;
@@ -44,38 +44,6 @@ pub(crate) type LiveDesk<'r, 't, 'a, W, R, L> = Desk<
     L,
 >;
 
-// How many sessions were opened on all rows before any write.
-fn early_at<'r, 't, 'a, W: World, R: Wait, L: Link + Drop>(
-    desk: &LiveDesk<'r, 't, 'a, W, R, L>,
-) -> u32
-    ensures { result ≡ desk.now.decider.early }
-{
-    desk.decider.early()
-}
-
-// Whether as many connections were decided as can be.
-fn is_full_at<'r, 't, 'a, W: World, R: Wait, L: Link + Drop>(
-    desk: &LiveDesk<'r, 't, 'a, W, R, L>,
-) -> bool
-    ensures full { result ≡ true → length desk.now.decider.decisions ≡ CONNECTIONS }
-    ensures room { result ≡ false → length desk.now.decider.decisions < CONNECTIONS }
-{
-    desk.decider.is_full()
-}
-
-// The session was opened on all rows, before any write or later.
-fn open_at<'r, 't, 'a, W: World, R: Wait, L: Link + Drop>(
-    desk: &mut LiveDesk<'r, 't, 'a, W, R, L>,
-    holder: &mut Holder<Holds<W>>,
-    early: bool,
-)
-    requires { CanOpen holder.old }
-    ensures opens { HasOpened early desk.old.decider desk.new.decider holder.old holder.new }
-    ensures same { desk.new.decider.decisions ≡ desk.old.decider.decisions }
-{
-    desk.decider.open(holder, early);
-}
-
 /// Takes connections before the writers begin, until so many sessions were opened on all rows.
 pub(crate) fn serve_early<
     'r,
@@ -106,7 +74,7 @@ pub(crate) fn serve_early<
     ensures same { held.new.dock.ghost_name ≡ held.old.dock.ghost_name }
 {
     for _ in scene.rt.forever() {
-        if early_at(desk) >= wait {
+        if desk.decider().early() >= wait {
             return Exit::Enough;
         }
         if let Some(exit) = turn(scene, shared, shelf, desk, stands, held, true) {
@@ -182,7 +150,7 @@ fn turn<
     ensures stands { stands.new ≡ stands.old }
     ensures same { held.new.dock.ghost_name ≡ held.old.dock.ghost_name }
 {
-    if is_full_at(desk) {
+    if desk.decider().is_full() {
         return Some(Exit::Full);
     }
     match held.next() {
@@ -316,7 +284,7 @@ fn open<'r, 't, 'a, W: World, R: Wait + Timer, L: Link + Drop, C: Clock, G: Gate
     let (stream, all) = open_lent(scene, shared, stands, stream, early);
     let mut holder = holder;
     if all {
-        open_at(desk, &mut holder, early);
+        desk.open(&mut holder, early);
         let session = stream.id();
         scene.gate.pass(Moment::Opened { session });
     }

@@ -18,7 +18,7 @@ use ep_live::Free;
 use ep_registry::{Holder, Server};
 use ep_table::StopAnswer;
 use pt_io::Link;
-use pt_server::{Begun, Deciding, Process};
+use pt_server::{Begun, Deciding, Opening, Process};
 use pt_stream::Run;
 use std::marker::Model;
 use std::sync::Wait;
@@ -76,18 +76,6 @@ impl<'r, 't, 'a, W: World, R: Wait, L: Link + Drop> Locked<'r, 't, 'a, W, R, L> 
         ensures room { result ≡ false → length self.now.decisions < CONNECTIONS }
     {
         self.decided as usize == CONNECTIONS
-    }
-
-    /// The session was opened on all rows, before any write or later.
-    pub(crate) fn open(&mut self, holder: &mut Holder<Holds<W>>, early: bool)
-        requires { CanOpen holder.old }
-        ensures opens { HasOpened early self.old self.new holder.old holder.new }
-        ensures same { self.new.decisions ≡ self.old.decisions }
-    {
-        self.shared
-            .table
-            .lock(self.rt)
-            .open(&mut self.server, holder, early);
     }
 
     /// The server takes no more connections. Gives its half.
@@ -174,5 +162,24 @@ impl<'r, 't, 'a, W: World, R: Wait, L: Link + Drop> Deciding<Holder<Holds<W>>, F
             .table
             .lock(self.rt)
             .fail(&mut self.server, holder, free);
+    }
+}
+
+impl<'r, 't, 'a, W: World, R: Wait, L: Link + Drop> Opening<Holder<Holds<W>>>
+    for Locked<'r, 't, 'a, W, R, L> {
+    ghost use Rattle.pt_roles.specs.Server.{CanOpen, HasOpened};
+
+    ghost can_open = { CanOpen };
+
+    ghost opens = { HasOpened };
+
+    fn open(&mut self, holder: &mut Holder<Holds<W>>, early: bool)
+        requires { CanOpen holder.old }
+        ensures { HasOpened early self.old self.new holder.old holder.new }
+    {
+        self.shared
+            .table
+            .lock(self.rt)
+            .open(&mut self.server, holder, early);
     }
 }

@@ -1,4 +1,4 @@
-use Rattle.pt_roles.proofs.Opening.{IsOpenTo}
+use Rattle.pt_roles.proofs.Openings.{IsOpenTo}
 use Rattle.pt_roles.proofs.opening.open_all.Given as goal
 
 -- the rows so far
