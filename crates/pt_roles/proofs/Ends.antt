@@ -14,6 +14,13 @@ use Rattle.pt_io.specs.declared.sink.Sink.{Ghosts as Sink}
 use Rattle.ep_stream.specs.declared.session.Fate.{Fate}
 use Rattle.ep_stream.specs.declared.session.Fate.TheVariants as fate
 use Rattle.ep_stream.specs.declared.session.SessionEnd.{SessionEnd}
+use Rattle.ep_journal.specs.declared.session.Opened.{Opened}
+use Rattle.ep_journal.specs.declared.session.Opened.TheVariants as opened
+use Rattle.ep_journal.specs.declared.session.Stage.{Stage}
+use Rattle.ep_journal.specs.declared.session.Stage.TheVariants as stage
+use Rattle.ep_journal.specs.Kept.{was_early}
+use Rattle.ep_journal.specs.Recorded.{goes_on, may_end}
+use Rattle.ep_registry.specs.declared.hold.Hold.{Hold}
 use Rattle.ep_live_laws.specs.Calls.{IsOutcome}
 use Rattle.ep_live_laws.specs.Streams.{IsPartOf, IsTraceOf, PartsAreFound, TracesAreFound}
 use Rattle.ep_live_laws.specs.Traced.{ArePart, AreTraced}
@@ -26,12 +33,14 @@ use Rattle.pt_stream.specs.Setting.{Setting, watch_of}
 use Rattle.pt_stream.specs.State.{IsDone, StreamState, is_complete}
 use Rattle.nt_write.specs.declared.limits.TheConstants.{FRAMED_EVENTS}
 use Rattle.pt_io.specs.Faults.{HasRisen}
-use Rattle.pt_roles.specs.Ran.{AreMarksOf, HasEachRow, IsEnd, IsThread, TookPart, TookTrace, taken_of, threads_in}
-use Rattle.pt_roles.specs.Serving.{IsLeftOf}
+use Rattle.pt_roles.specs.Ran.{AreMarksOf, HasEachRow, IsEnd, IsThread, TookPart, TookTrace, is_early, taken_of, threads_in}
+use Rattle.pt_roles.specs.Fates.{fate_as}
+use Rattle.pt_roles.specs.Serving.{IsLastOf, IsLeftOf}
+use Rattle.pt_roles.specs.Table.{IsOver, was_opened}
 use Rattle.pt_roles.specs.World.{IsWorldOf, WorldState, before_of, setting_of, writes_of}
 use Rattle.pt_roles.specs.declared.live_end.LiveSession.{LiveSession}
 use Rattle.pt_roles.proofs.Load.{count-writes}
-use Rattle.pt_roles.proofs.Marks.{all-done, all-marks, each-row, is-thread}
+use Rattle.pt_roles.proofs.Marks.{all-done, all-marks, each-row, early-marks, is-thread}
 
 -- The link asked for the session that is left.
 pub asked-left : {L : Type 0} (gave : L → ReadSide) (sink : Sink L) (stream : StreamState) (end : SessionEnd (ServedState L)) (session : LiveSession L)
@@ -42,6 +51,12 @@ asked-left gave sink stream end session asked same config left =
     let conf : stream.config ≡ session.config = sym (left.config_is ∙ config) in
     subst (λ (c : Config). HasAsked (gave session.link) (request.Collect c)) conf
     (subst (λ (r : ReadSide). HasAsked r (request.Collect stream.config)) side asked)
+
+-- A session that was opened before any write was opened.
+early-opened : (o : Opened) → was_early o ≡ true → was_opened o ≡ true
+early-opened opened.No was = was
+early-opened opened.Early was = refl
+early-opened opened.Late was = refl
 
 -- ---- what its link took
 
@@ -152,3 +167,37 @@ module _ {L : Type 0} (gave : L → ReadSide) (sink : Sink L) (side : Sink (Serv
       risen : (n : ℕ) → HasRisen 0 n → 0 < n
       risen n (inl is) = is
       risen n (inr is) = omega (arith, is)
+
+  -- What is left is that of whoever has the session, with its last stage.
+  pub is-over : (world : WorldState) (rows : ℕ) (events : List EventDef) (writes : ℕ → List Write) (setting : Setting) (facts : Facts) (greeting : List ℕ)
+      (hold : Hold) (stream : StreamState) (handed : Fate) (end : SessionEnd (ServedState L)) (session : LiveSession L)
+      → IsWorldOf world rows events writes setting facts greeting
+      → (is_fault handed ≡ false → is_complete stream ≡ true) → IsLastOf hold stream
+      → HasEnded side (watch_of rows events writes setting stream.config stream.id) rows setting.lives (setting.faults stream.id) stream handed end
+      → IsLeftOf gave sink end session → IsOver world (record hold { stage = stage.Over (fate_as session.fate) }) session
+  is-over world rows events writes setting facts greeting hold stream handed end session w complete last h left =
+      record {
+        id_is = left.id_is ∙ e.id_is ∙ last.id_is;
+        conn_is = left.conn_is ∙ e.conn_is ∙ last.conn_is;
+        stage_is = refl;
+        early = λ was.
+            subst (λ (ms : List Marks). is_early world ms ≡ true) (sym (left.marks_are ∙ e.marks_are))
+            (early-marks world stream.places stream.marks (e.early (last.early was)) e.count (last.complete ∙ early-opened hold.opened was));
+        complete = λ sound.
+            let end_sound : is_fault end.fate ≡ false = ap is_fault (sym left.fate_is) ∙ sound in
+            let handed_sound : is_fault handed ≡ false = ap is_fault (sym (e.fate_is end_sound)) ∙ end_sound in
+            sym last.complete ∙ complete handed_sound;
+      }
+    where
+      e : HasEnded side (watch_of world.plan.threads sample (writes_of world.plan) (setting_of world) stream.config stream.id) world.plan.threads world.options.lives 0 stream handed end
+      e = of-world world rows events writes setting facts greeting stream handed end w h
+
+-- ---- how it ends
+
+-- A session ends as it was to, or by a fault.
+pub may-end : (handed end : Fate) (s : Stage) → (is_fault end ≡ false → end ≡ handed) → IsTrue (may_end (fate_as handed) s) → IsTrue (goes_on s) → IsTrue (may_end (fate_as end) s)
+may-end handed (fate.Requested conn) s same may on = subst (λ (f : Fate). IsTrue (may_end (fate_as f) s)) (sym (same refl)) may
+may-end handed fate.ProgramEnd s same may on = subst (λ (f : Fate). IsTrue (may_end (fate_as f) s)) (sym (same refl)) may
+may-end handed fate.LinkFault s same may on = on
+may-end handed fate.TooLong s same may on = on
+may-end handed fate.OutOfMemory s same may on = on

@@ -3,6 +3,9 @@ pub mod Lists
 pub mod Lives
 pub mod Ending
 pub mod Marks
+pub mod Rows
 pub mod Ends
 pub mod Turning
 pub mod Ran
+pub mod Openings
+pub mod Starting

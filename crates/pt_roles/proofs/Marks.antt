@@ -2,7 +2,7 @@
 use Rattle.std.proofs.Common.{◌≡◌, ◌≢◌, ℕ, zero, suc, ◌+◌, ◌-◌, ◌<◌, ◌≤◌, Bool, true, false, eqb, ltb, List, [], ◌∷◌, length, map, get_or, refl, ap, ◌∙◌, sym, subst, cond, arith}
 use Rattle.std.specs.Prelude.{◌==◌, ◌||◌, ◌&&◌, nat_lt, slice_index_or}
 use Rattle.std.specs.List.{AllByRecursion, list_all, list_any, range_with_len}
-use Rattle.std.proofs.lemmas.Bool.{ltb-true, lt-ltb}
+use Rattle.std.proofs.lemmas.Bool.{eq-eqb, ltb-false, ltb-true}
 use Rattle.std.proofs.lemmas.Bool.Decides.{nat_tests}
 use Rattle.std.proofs.lemmas.List.Folds.{list_all_at}
 use Rattle.ep_defs.specs.declared.session.Marks.{Marks}
@@ -102,3 +102,34 @@ each-row world places marks served count few all number within =
 -- The threads had made all their writes.
 pub all-done : (plan : Plan) (marks : List Marks) → AllByRecursion (IsDone (writes_of plan)) marks → AllByRecursion (λ mark. mark.to ≡ plan.writes) marks
 all-done plan marks done = all-map (IsDone (writes_of plan)) (λ mark. mark.to ≡ plan.writes) (λ mark is. is ∙ count-writes plan mark.thread) marks done
+
+-- ---- an early session
+
+-- A thread of a first life was opened before its first write.
+first-of : (rows : ℕ) (mark : Marks) → IsFromFirst rows mark → (nat_lt rows mark.thread || (mark.from == 0)) ≡ true
+first-of rows mark is = by (nat_lt rows mark.thread) refl
+  where
+    by : (b : Bool) → nat_lt rows mark.thread ≡ b → (b || (mark.from == 0)) ≡ true
+    by true test = refl
+    by false test = eq-eqb mark.from 0 (is (ltb-false rows mark.thread test))
+
+both : (b c : Bool) → b ≡ true → c ≡ true → (b && c) ≡ true
+both true c is there = there
+both false c is there = is
+
+all-first : (rows : ℕ) (marks : List Marks) → AllByRecursion (IsFromFirst rows) marks → list_all (λ mark. nat_lt rows mark.thread || (mark.from == 0)) marks ≡ true
+all-first rows [] all = refl
+all-first rows (m ∷ ms) all =
+    both (nat_lt rows m.thread || (m.from == 0)) (list_all (λ mark. nat_lt rows mark.thread || (mark.from == 0)) ms) (first-of rows m all.0) (all-first rows ms all.1)
+
+-- A session that was early on each row is an early one by its marks.
+pub early-marks : (world : WorldState) (places : List Place) (marks : List Marks) → AreEarly world.plan.threads places (threads_in marks) marks
+    → length places ≡ world.plan.threads → list_all (λ place. nat_lt 0 place.next) places ≡ true → is_early world marks ≡ true
+early-marks world places marks e count all =
+    both (list_all (λ number. list_any (λ t. t == number + 1) (threads_in marks)) (range_with_len 0 world.plan.threads)) (list_all (λ mark. nat_lt world.plan.threads mark.thread || (mark.from == 0)) marks)
+    (all-range (λ number. list_any (λ t. t == number + 1) (threads_in marks)) 0 world.plan.threads
+    (λ k few.
+    let opened = place-opened places k (omega (arith, few, count)) all in
+    let from : k ≡ 0 + k = omega arith in
+    subst (λ (n : ℕ). list_any (λ t. t == n + 1) (threads_in marks) ≡ true) from (e.first (k + 1) (omega arith) opened)))
+    (all-first world.plan.threads marks e.from)

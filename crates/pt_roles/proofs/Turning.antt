@@ -28,7 +28,7 @@ exits-more dock (Some exit.Closed) old mid new now same is = (is.0 ∙ same, is.
 exits-more dock (Some exit.Failed) old mid new now same is = subst (λ (n : ℕ). HasRisen n (dock.dock_faults new)) same is
 exits-more dock (Some exit.Full) old mid new now same is = (is.0 ∙ same, is.1)
 
-goes-more : (early : Bool) (was then now : ServerHalf) → GoesOn early was then → GoesOn early then now → GoesOn early was now
+pub goes-more : (early : Bool) (was then now : ServerHalf) → GoesOn early was then → GoesOn early then now → GoesOn early was now
 goes-more early was then now a b =
     record { left = b.left ∙ a.left; more = omega (arith, a.more, b.more); late = λ is. b.late is ∙ a.late is }
 
@@ -57,6 +57,24 @@ turned-none dock early old was =
 pub turned-enough : {D L : Type 0} (dock : Dock D L) (early : Bool) (old new : D) (was now : ServerHalf) → HasTurned dock early None old new was now → HasTurned dock early (Some exit.Enough) old new was now
 turned-enough dock early old new was now a =
     record { greets = a.greets; count = a.count; goes = a.goes; exits = a.exits }
+
+-- A link came in, and was decided.
+pub turned-link : {D L : Type 0} (dock : Dock D L) (early : Bool) (old new : D) (was now : ServerHalf)
+    → dock.greeting new ≡ dock.greeting old → dock.arrivals new ≡ dock.arrivals old + 1 → dock.dock_faults new ≡ dock.dock_faults old
+    → length now.decisions ≡ length was.decisions + 1 → GoesOn early was now → HasTurned dock early None old new was now
+turned-link dock early old new was now greets came sound one goes =
+    record { greets = greets; count = omega (arith, came, one); goes = goes; exits = sound }
+
+-- Nobody came in, and the turns came to their end so, if they did.
+pub turned-alone : {D L : Type 0} (dock : Dock D L) (early : Bool) (e : Option Exit) (old new : D) (was : ServerHalf)
+    → dock.greeting new ≡ dock.greeting old → dock.arrivals new ≡ dock.arrivals old → IsExit dock e old new was → HasTurned dock early e old new was was
+turned-alone dock early e old new was greets none exits =
+    record {
+      greets = greets;
+      count = omega (arith, none);
+      goes = record { left = refl; more = omega arith; late = λ _. refl };
+      exits = exits;
+    }
 
 -- ---- the server
 

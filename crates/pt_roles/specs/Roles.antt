@@ -1,5 +1,5 @@
 -- What a streaming role does with its sessions. All of it is this project's own.
-use Rattle.std.specs.Prelude.{◌≡◌, ℕ, Bool, true, false, Option, None, Some}
+use Rattle.std.specs.Prelude.{◌≡◌, Bool, true, false, Option, None, Some}
 use Rattle.ep_journal.specs.declared.session.Fate.{Fate}
 use Rattle.ep_journal.specs.declared.session.Fate.TheVariants as fate
 use Rattle.ep_journal.specs.declared.session.Stage.TheVariants as stage
@@ -16,4 +16,4 @@ is_found fate.OutOfMemory = false
 -- What a role knows of its session once it has looked at it.
 abbrev pub IsLooked : Hold → Hold → Option Fate → Type 0
 IsLooked old new None = new ≡ old
-IsLooked old new (Some found) = new ≡ record old { stage = stage.Ending found }
+IsLooked old new (Some found) = (is_found found ≡ true) × (new ≡ record old { stage = stage.Ending found })

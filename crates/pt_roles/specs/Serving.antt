@@ -12,7 +12,7 @@ use Rattle.pt_stream.specs.State.{StreamState, is_complete, opened_on}
 use Rattle.pt_roles.specs.Table.{was_opened}
 use Rattle.pt_roles.specs.declared.live_end.LiveSession.{LiveSession}
 
--- It is the same session's, an early one as before, with the halves of no thread more.
+-- It is the same session's, an early one as before, with the same halves of threads.
 pub record KeepsSession (old new : StreamState) : Type 0 where
   pub id : new.id ≡ old.id
   pub slot : new.slot ≡ old.slot
@@ -20,6 +20,7 @@ pub record KeepsSession (old new : StreamState) : Type 0 where
   pub config : new.config ≡ old.config
   pub early : new.early ≡ old.early
   pub gave : new.gave ≡ old.gave
+  pub stands : new.stands ≡ old.stands
 
 -- It was opened on a row, in the row's first life where that is early.
 pub record IsOpenedOnce (early : Bool) (row : ℕ) (old new : StreamState) : Type 0 where

@@ -1,5 +1,5 @@
 -- What belongs to a session in the table of a run. All of it is this project's own.
-use Rattle.std.specs.Prelude.{◌≡◌, ◌≢◌, ℕ, Bool, true, false, not, List}
+use Rattle.std.specs.Prelude.{◌≡◌, ℕ, Bool, true, false, List, None}
 use Rattle.std.specs.List.{AllByRecursion}
 use Rattle.ep_defs.specs.declared.session.Write.{Write}
 use Rattle.ep_journal.specs.declared.session.Opened.{Opened}
@@ -22,8 +22,8 @@ was_opened opened.No = false
 was_opened opened.Early = true
 was_opened opened.Late = true
 
--- The stream is that of the session, whose link asked for it, opened on all rows where the session was, and before any write where that is said;
--- each thread on which it was closed had made all its writes.
+-- The stream is that of the session, whose link asked for it, opened on all rows where the session was, and before any write
+-- where that is said; each thread on which it was closed had made all its writes, and it has the halves of no thread.
 pub record Fits (writes : ℕ → List Write) (hold : Hold) (stream : StreamState) : Type 0 where
   pub asked : HasAsked stream.gave (request.Collect stream.config)
   pub id_is : stream.id ≡ hold.id
@@ -32,6 +32,12 @@ pub record Fits (writes : ℕ → List Write) (hold : Hold) (stream : StreamStat
   pub complete : is_complete stream ≡ was_opened hold.opened
   pub early : was_early hold.opened ≡ true → stream.early ≡ true
   pub done : AllByRecursion (IsDone writes) stream.marks
+  pub lent : stream.stands ≡ None
+
+-- It waits for its role, which has found no end of it, with the stream that fits it.
+pub record Waits (writes : ℕ → List Write) (hold : Hold) (stream : StreamState) : Type 0 where
+  pub serves : hold.stage ≡ stage.Serving
+  pub fits : Fits writes hold stream
 
 -- What is left is that of the session, which ended so; it had each thread from its first write on where it was opened before
 -- any, and it was opened on all rows where it did not fail.

@@ -15,7 +15,7 @@ ghost use Rattle.pt_roles.specs.Server.{GoesOn, HasTurned, IsBegun, lent_if};
 
 use crate::exit::Exit;
 use crate::held_dock::HeldDock;
-use crate::locked::{Locked, early_at, is_full_at, open_at};
+use crate::locked::Locked;
 use crate::opening::open_all;
 use crate::scene::Scene;
 use crate::shared::Shared;
@@ -74,7 +74,7 @@ pub(crate) fn serve_early<
     ensures same { held.new.dock.ghost_name ≡ held.old.dock.ghost_name }
 {
     for _ in scene.rt.forever() {
-        if early_at(desk) >= wait {
+        if desk.decider().early() >= wait {
             return Exit::Enough;
         }
         if let Some(exit) = turn(scene, shared, shelf, desk, stands, held, true) {
@@ -150,7 +150,7 @@ fn turn<
     ensures stands { stands.new ≡ stands.old }
     ensures same { held.new.dock.ghost_name ≡ held.old.dock.ghost_name }
 {
-    if is_full_at(desk) {
+    if desk.decider().is_full() {
         return Some(Exit::Full);
     }
     match held.next() {
@@ -284,7 +284,7 @@ fn open<'r, 't, 'a, W: World, R: Wait + Timer, L: Link + Drop, C: Clock, G: Gate
     let (stream, all) = open_lent(scene, shared, stands, stream, early);
     let mut holder = holder;
     if all {
-        open_at(desk, &mut holder, early);
+        desk.open(&mut holder, early);
         let session = stream.id();
         scene.gate.pass(Moment::Opened { session });
     }

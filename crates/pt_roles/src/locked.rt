@@ -18,71 +18,10 @@ use ep_live::Free;
 use ep_registry::{Holder, Server};
 use ep_table::StopAnswer;
 use pt_io::Link;
-use pt_server::{Begun, Deciding, Desk, Process};
+use pt_server::{Begun, Deciding, Opening, Process};
 use pt_stream::Run;
 use std::marker::Model;
 use std::sync::Wait;
-
-/// Who decides on the connections of a run, and counts the sessions that were opened on all rows.
-pub(crate) trait Opening<H, F>: Deciding<H, F> {
-    ghost use Rattle.std.specs.Prelude.{ℕ, Bool};
-
-    // How many sessions were opened before any write.
-    ghost early: { Self → ℕ };
-
-    // Who has a session that was opened on no row.
-    ghost can_open: { H → Type 0 };
-
-    // What becomes of both where a session was opened, early or later.
-    ghost opens: { Bool → Self → Self → H → H → Type 0 };
-
-    /// How many sessions were opened on all rows before any write.
-    fn early(&self) -> u32
-        ensures { result ≡ early self.now };
-
-    /// Whether as many connections were decided as can be.
-    fn is_full(&self) -> bool
-        ensures full { result ≡ true → length (Self.decisions self.now) ≡ CONNECTIONS }
-        ensures room { result ≡ false → length (Self.decisions self.now) < CONNECTIONS };
-
-    /// The session was opened on all rows, before any write or later.
-    fn open(&mut self, holder: &mut H, early: bool)
-        requires { can_open holder.old }
-        ensures opens { opens early self.old self.new holder.old holder.new }
-        ensures same { Self.decisions self.new ≡ Self.decisions self.old };
-}
-
-/// The same at a desk.
-pub(crate) fn early_at<N: Process, H, F, D: Opening<H, F>, L: Link>(
-    desk: &Desk<N, H, F, D, L>,
-) -> u32
-    ensures { result ≡ D.early desk.now.decider }
-{
-    desk.decider.early()
-}
-
-/// The same at a desk.
-pub(crate) fn is_full_at<N: Process, H, F, D: Opening<H, F>, L: Link>(
-    desk: &Desk<N, H, F, D, L>,
-) -> bool
-    ensures full { result ≡ true → length (D.decisions desk.now.decider) ≡ CONNECTIONS }
-    ensures room { result ≡ false → length (D.decisions desk.now.decider) < CONNECTIONS }
-{
-    desk.decider.is_full()
-}
-
-/// The same at a desk.
-pub(crate) fn open_at<N: Process, H, F, D: Opening<H, F>, L: Link>(
-    desk: &mut Desk<N, H, F, D, L>,
-    holder: &mut H,
-    early: bool,
-)
-    requires { D.can_open holder.old }
-    ensures opens { D.opens early desk.old.decider desk.new.decider holder.old holder.new }
-    ensures same { D.decisions desk.new.decider ≡ D.decisions desk.old.decider }
-{
-    desk.decider.open(holder, early);
-}
 
 /// The server's half, and the table behind its lock. Contracts see the half.
 #[derive(Drop)]
@@ -122,6 +61,21 @@ impl<'r, 't, 'a, W: World, R: Wait, L: Link + Drop> Locked<'r, 't, 'a, W, R, L> 
             server,
             decided: 0,
         }
+    }
+
+    /// How many sessions were opened on all rows before any write.
+    pub(crate) fn early(&self) -> u32
+        ensures { result ≡ self.now.early }
+    {
+        self.server.early()
+    }
+
+    /// Whether as many connections were decided as can be.
+    pub(crate) fn is_full(&self) -> bool
+        ensures full { result ≡ true → length self.now.decisions ≡ CONNECTIONS }
+        ensures room { result ≡ false → length self.now.decisions < CONNECTIONS }
+    {
+        self.decided as usize == CONNECTIONS
     }
 
     /// The server takes no more connections. Gives its half.
@@ -211,33 +165,17 @@ impl<'r, 't, 'a, W: World, R: Wait, L: Link + Drop> Deciding<Holder<Holds<W>>, F
     }
 }
 
-impl<'r, 't, 'a, W: World, R: Wait, L: Link + Drop> Opening<Holder<Holds<W>>, Free<'a, W>>
+impl<'r, 't, 'a, W: World, R: Wait, L: Link + Drop> Opening<Holder<Holds<W>>>
     for Locked<'r, 't, 'a, W, R, L> {
     ghost use Rattle.pt_roles.specs.Server.{CanOpen, HasOpened};
-
-    ghost early = { λ l. l.early };
 
     ghost can_open = { CanOpen };
 
     ghost opens = { HasOpened };
 
-    fn early(&self) -> u32
-        ensures { result ≡ self.now.early }
-    {
-        self.server.early()
-    }
-
-    fn is_full(&self) -> bool
-        ensures full { result ≡ true → length self.now.decisions ≡ CONNECTIONS }
-        ensures room { result ≡ false → length self.now.decisions < CONNECTIONS }
-    {
-        self.decided as usize == CONNECTIONS
-    }
-
     fn open(&mut self, holder: &mut Holder<Holds<W>>, early: bool)
         requires { CanOpen holder.old }
-        ensures opens { HasOpened early self.old self.new holder.old holder.new }
-        ensures same { self.new.decisions ≡ self.old.decisions }
+        ensures { HasOpened early self.old self.new holder.old holder.new }
     {
         self.shared
             .table

@@ -1,5 +1,5 @@
 //! What a streaming role does with one of its sessions.
-ghost use Rattle.std.specs.Prelude.{◌≡◌, ◌≢◌, ◌+◌, ◌<◌, ◌≤◌, true, false, IsTrue, IfSome};
+ghost use Rattle.std.specs.Prelude.{◌≡◌, ◌≢◌, ◌<◌, true, false, None, IsTrue};
 ghost use Rattle.std.specs.List.{AllByRecursion};
 ghost use Rattle.ep_stream.specs.declared.session.Fate.TheVariants as fates;
 ghost use Rattle.ep_journal.specs.declared.session.Stage.TheVariants as stage;
@@ -60,7 +60,9 @@ fn go_on<'a, W: World, R: Wait, L: Link + Drop, C: Clock, G: Gate>(
     holder: Holder<Holds<W>>,
     stream: Telling<'a, W, L>,
 ) -> (Option<Held<'a, W, L>>, bool)
-    requires { Fits W.writes holder stream }
+    requires serves { holder.stage ≡ stage.Serving }
+    requires complete { is_complete stream ≡ true }
+    requires fits { Fits W.writes holder stream }
 {
     let (stream, opened) = follow(scene, shared, stream);
     if !opened {
@@ -90,6 +92,7 @@ fn follow<'a, W: World, R: Wait, L: Link, C, G>(
     stream: Telling<'a, W, L>,
 ) -> (Telling<'a, W, L>, bool)
     requires complete { is_complete stream ≡ true }
+    requires lent { stream.stands ≡ None }
     requires done { AllByRecursion (IsDone W.writes) stream.marks }
     ensures same { KeepsSession stream.entry result.0 }
     ensures complete { is_complete result.0 ≡ true }
@@ -118,6 +121,7 @@ fn follow_row<'a, W: World, R: Wait, L: Link, C, G>(
 ) -> (Telling<'a, W, L>, bool)
     requires row { number < W.rows }
     requires complete { is_complete stream ≡ true }
+    requires lent { stream.stands ≡ None }
     requires done { AllByRecursion (IsDone W.writes) stream.marks }
     ensures same { KeepsSession stream.entry result.0 }
     ensures complete { is_complete result.0 ≡ true }

@@ -1,9 +1,9 @@
 //! What the threads of a run share behind locks.
-ghost use Rattle.std.specs.Prelude.{◌≡◌, ◌<◌, IfSome, None, Some, true, false, IsTrue};
+ghost use Rattle.std.specs.Prelude.{◌≡◌, ◌<◌, IfSome, true, false, IsTrue};
 ghost use Rattle.ep_table.specs.declared.limits.TheConstants.{SLOTS};
 ghost use Rattle.ep_journal.specs.declared.session.Stage.TheVariants as stage;
-ghost use Rattle.ep_journal.specs.Recorded.{goes_on, may_end};
-ghost use Rattle.pt_roles.specs.Roles.{IsLooked, is_found};
+ghost use Rattle.ep_journal.specs.Recorded.{is_serving, may_end};
+ghost use Rattle.pt_roles.specs.Roles.{IsLooked};
 ghost use Rattle.pt_roles.specs.Table.{IsOver};
 
 use crate::finale::Finale;
@@ -11,7 +11,7 @@ use crate::hints::Hints;
 use crate::table::{Held, Table};
 use crate::world::{Holds, RoleMarks, World};
 use crate::writers::Gone;
-use ep_journal::{Fate, Stage};
+use ep_journal::Fate;
 use ep_live::{Free, Live};
 use ep_registry::{Holder, Role};
 use pt_io::Link;
@@ -65,14 +65,10 @@ impl<'a, W: World, L: Link + Drop> Shared<'a, W, L> {
 
     /// Whether the session is to end, and as what.
     pub(crate) fn look<R: Wait>(&self, rt: &R, holder: &mut Holder<Holds<W>>) -> Option<Fate>
-        requires { IsTrue (goes_on holder.old.stage) }
+        requires { IsTrue (is_serving holder.old.stage) }
         ensures { IsLooked holder.old holder.new result }
     {
-        match holder.hold().stage {
-            Stage::Serving => self.table.lock(rt).look(holder),
-            Stage::Ending(fate) => Some(fate),
-            Stage::Over(_) | Stage::Failed => unreachable!(),
-        }
+        self.table.lock(rt).look(holder)
     }
 
     /// The session has ended so, and its slot is free.

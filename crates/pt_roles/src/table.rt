@@ -19,11 +19,11 @@ impl<'a, W: World, L: Link> Kinds<
     Gone<'a, W>,
 > for Kept {
     ghost use Rattle.std.specs.Prelude.{◌≡◌};
-    ghost use Rattle.pt_roles.specs.Table.{Fits, IsOver};
+    ghost use Rattle.pt_roles.specs.Table.{IsOver, Waits};
 
     ghost free = { λ slot free. free ≡ slot };
 
-    ghost fits = { λ hold stream. Fits W.writes hold stream };
+    ghost fits = { λ hold stream. Waits W.writes hold stream };
 
     ghost over = { λ hold session. IsOver W.world hold session };
 

@@ -22,7 +22,7 @@ mod served;
 mod unstarted;
 
 pub use answer::Asked;
-pub use deciding::{Begun, Deciding};
+pub use deciding::{Begun, Deciding, Opening};
 pub use desk::{ConnAnswer, ConnEnd, Desk};
 pub use process::Process;
 pub use served::Served;
