@@ -4,5 +4,6 @@ pub mod Lives
 pub mod Ending
 pub mod Marks
 pub mod Rows
+pub mod Streamers
 pub mod Ends
 pub mod Turning
