@@ -7,7 +7,7 @@ use Rattle.std.proofs.lemmas.Bool.{lt-ltb}
 use Rattle.ep_defs.specs.declared.session.Marks.{Marks}
 use Rattle.ep_table.proofs.Places.{list_all-at, list_all-set}
 use Rattle.pt_stream.specs.declared.place.Place.{Place}
-use Rattle.pt_stream.specs.State.{StreamState, closed_on, is_complete, no_place, opened_on, place_at, stays_early, with_place}
+use Rattle.pt_stream.specs.State.{IsShut, StreamState, closed_on, is_complete, no_place, opened_on, place_at, stays_early, with_place}
 use Rattle.pt_stream.proofs.Places.{by-row, place-here, place-other}
 use Rattle.pt_roles.specs.Serving.{KeepsSession}
 
@@ -82,22 +82,19 @@ keeps-opened row life old new some within is complete =
 
 -- ---- on the first rows
 
--- It is open on none of the first rows.
-abbrev pub IsShutTo : ℕ → StreamState → Type 0
-IsShutTo count stream = (row : ℕ) → 0 < row → row ≤ count → (place_at stream.places row).is_open ≡ false
-
-pub shut-none : (stream : StreamState) → IsShutTo 0 stream
+-- It is open on none of no rows.
+pub shut-none : (stream : StreamState) → IsShut 0 stream
 shut-none stream row some few = absurd (omega arith)
 
 -- It is not open on the next row.
-pub shut-more : (count : ℕ) (stream : StreamState) → (place_at stream.places (count + 1)).is_open ≡ false → IsShutTo count stream → IsShutTo (count + 1) stream
+pub shut-more : (count : ℕ) (stream : StreamState) → (place_at stream.places (count + 1)).is_open ≡ false → IsShut count stream → IsShut (count + 1) stream
 shut-more count stream off shut row some few =
     by-row ((place_at stream.places row).is_open ≡ false) row (count + 1)
     (λ is. subst (λ (r : ℕ). (place_at stream.places r).is_open ≡ false) (sym is) off)
     (λ (not : row ≢ count + 1). shut row some (omega (arith, few, not)))
 
 -- It is closed on the next row.
-pub shut-closed : (count : ℕ) (marks : List Marks) (old new : StreamState) → count < length old.places → new ≡ closed_on (count + 1) marks old → IsShutTo count old → IsShutTo (count + 1) new
+pub shut-closed : (count : ℕ) (marks : List Marks) (old new : StreamState) → count < length old.places → new ≡ closed_on (count + 1) marks old → IsShut count old → IsShut (count + 1) new
 shut-closed count marks old new within is shut row some few =
     let place : Place = record (place_at old.places (count + 1)) { is_open = false } in
     let places : new.places ≡ with_place (count + 1) place old.places = ap (λ (s : StreamState). s.places) is in

@@ -1,12 +1,12 @@
 //! What a streaming role does with one of its sessions.
-ghost use Rattle.std.specs.Prelude.{◌≡◌, ◌≢◌, ◌<◌, true, false, None, IsTrue};
+ghost use Rattle.std.specs.Prelude.{◌≡◌, ◌≢◌, ◌+◌, ◌<◌, true, false, None, IsTrue};
 ghost use Rattle.std.specs.List.{AllByRecursion};
 ghost use Rattle.ep_stream.specs.declared.session.Fate.TheVariants as fates;
 ghost use Rattle.ep_journal.specs.declared.session.Stage.TheVariants as stage;
 ghost use Rattle.ep_journal.specs.Recorded.{goes_on, may_end};
 ghost use Rattle.ep_live_laws.specs.Tracing.{is_fault};
-ghost use Rattle.pt_stream.specs.State.{IsDone, IsShut, is_complete, place_at};
-ghost use Rattle.pt_roles.specs.Fates.{fate_as, fate_of};
+ghost use Rattle.pt_stream.specs.State.{IsDone, IsShut, is_complete};
+ghost use Rattle.pt_roles.specs.Fates.{fate_as};
 ghost use Rattle.pt_roles.specs.Serving.{IsLastOf, IsLeftOf, KeepsSession};
 ghost use Rattle.pt_roles.specs.Table.{Fits};
 
@@ -134,11 +134,7 @@ fn follow_row<'a, W: World, R: Wait, L: Link, C, G>(
         if life.is_some() {
             return (stream, true);
         }
-        let writes = scene.plan.writes;
-        return (
-            stream.close_done(scene.alloc, scene.rt, &shared.live, row, writes),
-            true,
-        );
+        return (close_done_at(scene, shared, stream, number), true);
     }
     let Some(life) = life else {
         return (stream, true);
@@ -169,11 +165,7 @@ fn end_done<'a, W: World, R: Wait, L: Link + Drop, C: Clock, G: Gate>(
 {
     let mut stream = stream;
     for number in 0..scene.plan.threads {
-        let row = number + 1;
-        if stream.place(row).is_open {
-            let writes = scene.plan.writes;
-            stream = stream.close_done(scene.alloc, scene.rt, &shared.live, row, writes);
-        }
+        stream = close_done_at(scene, shared, stream, number);
     }
     finish(scene, shared, holder, stream, Fate::ProgramEnd);
 }
@@ -194,12 +186,51 @@ fn end<'a, W: World, R: Wait, L: Link + Drop, C: Clock, G: Gate>(
 {
     let mut stream = stream;
     for number in 0..scene.plan.threads {
-        let row = number + 1;
-        if stream.place(row).is_open {
-            stream = stream.close_row(scene.alloc, scene.rt, &shared.live, row);
-        }
+        stream = close_at(scene, shared, stream, number);
     }
     finish(scene, shared, holder, stream, fate);
+}
+
+// Closes it on a row, by its number from 0, where it is open there.
+fn close_at<'a, W: World, R: Wait, L: Link, C, G>(
+    scene: &Scene<'_, W, R, C, G>,
+    shared: &Shared<'a, W, L>,
+    stream: Telling<'a, W, L>,
+    number: u32,
+) -> Telling<'a, W, L>
+    requires { number < W.rows }
+    ensures same { KeepsSession stream.entry result }
+    ensures complete { is_complete result ≡ is_complete stream.entry }
+    ensures shut { IsShut number stream.entry → IsShut (number + 1) result }
+{
+    let row = number + 1;
+    if !stream.place(row).is_open {
+        return stream;
+    }
+    stream.close_row(scene.alloc, scene.rt, &shared.live, row)
+}
+
+// The same once the row's thread has made all its writes, for which it waits.
+fn close_done_at<'a, W: World, R: Wait, L: Link, C, G>(
+    scene: &Scene<'_, W, R, C, G>,
+    shared: &Shared<'a, W, L>,
+    stream: Telling<'a, W, L>,
+    number: u32,
+) -> Telling<'a, W, L>
+    requires row { number < W.rows }
+    requires lent { stream.stands ≡ None }
+    requires done { AllByRecursion (IsDone W.writes) stream.marks }
+    ensures same { KeepsSession stream.entry result }
+    ensures complete { is_complete result ≡ is_complete stream.entry }
+    ensures shut { IsShut number stream.entry → IsShut (number + 1) result }
+    ensures done { AllByRecursion (IsDone W.writes) result.marks }
+{
+    let row = number + 1;
+    if !stream.place(row).is_open {
+        return stream;
+    }
+    let writes = scene.plan.writes;
+    stream.close_done(scene.alloc, scene.rt, &shared.live, row, writes)
 }
 
 // Ends its stream, which is open on no row, and gives back what it had.

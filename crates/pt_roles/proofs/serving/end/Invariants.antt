@@ -1,5 +1,5 @@
-use Rattle.std.proofs.Common.{◌≡◌, ℕ, ◌<◌, ◌≤◌, false}
-use Rattle.pt_stream.specs.State.{is_complete, place_at}
+use Rattle.std.proofs.Common.{◌≡◌}
+use Rattle.pt_stream.specs.State.{IsShut, is_complete}
 use Rattle.pt_roles.specs.Serving.{KeepsSession}
 use Rattle.pt_roles.proofs.serving.end.Given as goal
 
@@ -9,5 +9,5 @@ invariant-loop-number g l =
     record {
       same : KeepsSession l.initial.stream l.stream;
       complete : is_complete l.stream ≡ is_complete l.initial.stream;
-      shut : (row : ℕ) → 0 < row → row ≤ l.number → (place_at l.stream.places row).is_open ≡ false;
+      shut : IsShut l.number l.stream;
     }

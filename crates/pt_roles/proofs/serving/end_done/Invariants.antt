@@ -1,6 +1,6 @@
-use Rattle.std.proofs.Common.{◌≡◌, ℕ, ◌<◌, ◌≤◌, false}
+use Rattle.std.proofs.Common.{◌≡◌}
 use Rattle.std.specs.List.{AllByRecursion}
-use Rattle.pt_stream.specs.State.{IsDone, is_complete, place_at}
+use Rattle.pt_stream.specs.State.{IsDone, IsShut, is_complete}
 use Rattle.pt_roles.specs.Serving.{KeepsSession}
 use Rattle.pt_roles.proofs.serving.end_done.Given as goal
 
@@ -11,5 +11,5 @@ invariant-loop-number g l =
       same : KeepsSession l.initial.stream l.stream;
       complete : is_complete l.stream ≡ is_complete l.initial.stream;
       done : AllByRecursion (IsDone g.W.Program.writes) l.stream.marks;
-      shut : (row : ℕ) → 0 < row → row ≤ l.number → (place_at l.stream.places row).is_open ≡ false;
+      shut : IsShut l.number l.stream;
     }

@@ -1,0 +1,25 @@
+use Rattle.std.proofs.Common.{◌≡◌, ℕ, Bool, true, false, Option, Some, None, refl, ap, sym}
+use Rattle.ep_journal.specs.declared.session.Fate.{Fate}
+use Rattle.ep_journal.specs.declared.session.Fate.TheVariants as fate
+use Rattle.ep_journal.specs.Recorded.{Recorded, fate_by, found, ticket_of}
+use Rattle.ep_journal.specs.Items.{item}
+use Rattle.ep_registry.specs.declared.hold.Hold.{Hold}
+use Rattle.ep_registry.specs.Held.{stage_found}
+use Rattle.pt_roles.specs.Roles.{IsLooked, is_found}
+use Rattle.pt_roles.proofs.shared.Shared.look.Goals as goal
+
+same : (a b : Fate) → Some a ≡ Some b → a ≡ b
+same a b e = cc
+
+-- It is found to end by a stop or with the program.
+found-by : (ended : Bool) (ticket : Option ℕ) (f : Fate) → fate_by ended ticket ≡ Some f → is_found f ≡ true
+found-by ended (Some conn) f is = ap is_found (sym (same (fate.Requested conn) f is))
+found-by true None f is = ap is_found (sym (same fate.ProgramEnd f is))
+found-by false None f is = absurd (cc)
+
+looked : (r : Recorded) (old new : Hold) (result : Option Fate) → result ≡ found r old.id → new ≡ record old { stage = stage_found old.stage result } → IsLooked old new result
+looked r old new None answer is = is
+looked r old new (Some f) answer is = (found-by r.ended (ticket_of (item r.sessions old.id)) f (sym answer), is)
+
+pub returns : goal.returns
+returns g c = looked _ _ _ _ c.look.ensures.answer c.look.ensures.found
