@@ -1,7 +1,6 @@
 //! Runs of which a link or the dock fails.
 use super::peers::{Peer, Request, deaf, peer, unheard};
 use super::scene::{Runs, lives, run, runs};
-use pt_io::OpenGate;
 use std::test::Fail;
 
 // The first link fails at its read, at its reply, at the start of its stream, and behind that; another session gets all.
@@ -30,8 +29,8 @@ fn a_link_that_fails_ends_its_own_session(rt: HostRuntime) -> Result<(), Fail> {
     ];
     for (first, want, bytes) in &cases {
         let peers = [*first, peer(Request::Jobs)];
-        let told = run(&rt, rt.alloc(), runs(4, 80, 2), &peers, &OpenGate)?;
-        assert_eq!(rt; told.text.as_str(), *want);
+        let told = run(&rt, rt.alloc(), runs(4, 80, 2), &peers, &[])?;
+        assert_eq!(rt; told.text(), *want);
         if *bytes > 0 {
             assert_eq!(rt; told.taken.first().map(|taken| taken.len()), Some(*bytes));
         }
@@ -52,9 +51,9 @@ fn each_write_of_a_link_fails_in_turn(rt: HostRuntime) -> Result<(), Fail> {
         let mut failing = 3;
         for _ in 0..1_000u32 {
             let peers = [deaf(Request::Most, failing, 7), peer(Request::Jobs)];
-            let told = run(&rt, rt.alloc(), asked, &peers, &OpenGate)?;
-            assert!(rt; told.text.as_str().ends_with(other));
-            if !told.text.as_str().contains("session 1 of 1: link\n") {
+            let told = run(&rt, rt.alloc(), asked, &peers, &[])?;
+            assert!(rt; told.text().ends_with(other));
+            if !told.text().contains("session 1 of 1: link\n") {
                 break;
             }
             failing += 1;
@@ -86,8 +85,8 @@ fn a_dock_that_fails_ends_no_session(rt: HostRuntime) -> Result<(), Fail> {
         ),
     ];
     for (asked, peers, want) in &cases {
-        let told = run(&rt, rt.alloc(), *asked, peers, &OpenGate)?;
-        assert_eq!(rt; told.text.as_str(), *want);
+        let told = run(&rt, rt.alloc(), *asked, peers, &[])?;
+        assert_eq!(rt; told.text(), *want);
     }
     Ok(())
 }

@@ -7,34 +7,52 @@ use std::thread;
 /// How often a gate looks before it gives up.
 const LOOKS: u32 = 10_000_000;
 
-/// Whoever comes to one moment waits there until another one has come so often. A sweep stands for each of its session that
-/// took as much at least.
+/// Where somebody waits.
+#[derive(Clone, Copy, Debug)]
+enum Place {
+    /// A thread of the run, at a moment.
+    At(Moment),
+    /// The dock, at its turn with this number, from 1.
+    Turn(u64),
+}
+
+/// Whoever comes to a place waits there until a moment has come so often. A sweep stands for each of its session that took
+/// as much at least.
 #[derive(Clone, Copy, Debug)]
 pub(super) struct Hold {
-    at: Moment,
+    place: Place,
     awaited: Moment,
     times: u64,
     /// Whether it counts only what comes while somebody waits.
     anew: bool,
 }
 
-/// Until the other moment has come.
+/// Whoever comes to the first moment waits until the other one has come.
 pub(super) fn until(at: Moment, awaited: Moment) -> Hold {
     Hold {
-        at,
+        place: Place::At(at),
         awaited,
         times: 1,
         anew: false,
     }
 }
 
-/// Until the other moment has come so often from then on.
-pub(super) fn until_more(at: Moment, awaited: Moment, times: u64) -> Hold {
+/// The dock's turn with this number waits until the moment has come.
+pub(super) fn late(turn: u64, awaited: Moment) -> Hold {
     Hold {
-        at,
+        place: Place::Turn(turn),
         awaited,
+        times: 1,
+        anew: false,
+    }
+}
+
+/// Until it has come so often from then on.
+pub(super) fn often(hold: Hold, times: u64) -> Hold {
+    Hold {
         times,
         anew: true,
+        ..hold
     }
 }
 
@@ -59,9 +77,9 @@ pub(super) fn answered(conn: u32) -> Moment {
     Moment::Answered { conn }
 }
 
-// One of the holds, and how often its moment has come.
+// A hold, and how often its moment has come.
 #[derive(Drop)]
-struct Place {
+struct Held {
     hold: Hold,
     come: AtomicU64,
 }
@@ -69,21 +87,21 @@ struct Place {
 /// A gate with some holds.
 #[derive(Drop)]
 pub(super) struct Holds {
-    places: Vec<Place>,
+    held: Vec<Held>,
     gave_up: AtomicBool,
 }
 
 impl Holds {
     pub(super) fn new(alloc: Global, holds: &[Hold]) -> Result<Holds, AllocError> {
-        let mut places = Vec::new(alloc);
+        let mut held = Vec::new(alloc);
         for hold in holds {
-            places.push(Place {
+            held.push(Held {
                 hold: *hold,
                 come: AtomicU64::new(0),
             })?;
         }
         Ok(Holds {
-            places,
+            held,
             gave_up: AtomicBool::new(false),
         })
     }
@@ -93,12 +111,21 @@ impl Holds {
         !self.gave_up.load(Ordering::SeqCst)
     }
 
-    fn wait(&self, place: &Place) {
-        if place.hold.anew {
-            place.come.store(0, Ordering::SeqCst);
+    /// The dock comes to its turn with this number.
+    pub(super) fn turn(&self, number: u64) {
+        for held in &self.held {
+            if matches!(held.hold.place, Place::Turn(turn) if turn == number) {
+                self.wait(held);
+            }
+        }
+    }
+
+    fn wait(&self, held: &Held) {
+        if held.hold.anew {
+            held.come.store(0, Ordering::SeqCst);
         }
         for _ in 0..LOOKS {
-            if place.come.load(Ordering::SeqCst) >= place.hold.times {
+            if held.come.load(Ordering::SeqCst) >= held.hold.times {
                 return;
             }
             thread::yield_now();
@@ -109,21 +136,21 @@ impl Holds {
 
 impl Gate for Holds {
     fn pass(&self, at: Moment) {
-        for place in &self.places {
-            if is_one_of(at, place.hold.awaited) {
-                place.come.fetch_add(1, Ordering::SeqCst);
+        for held in &self.held {
+            if is_meant(at, held.hold.awaited) {
+                held.come.fetch_add(1, Ordering::SeqCst);
             }
         }
-        for place in &self.places {
-            if is_one_of(at, place.hold.at) {
-                self.wait(place);
+        for held in &self.held {
+            if matches!(held.hold.place, Place::At(meant) if is_meant(at, meant)) {
+                self.wait(held);
             }
         }
     }
 }
 
 // Whether the moment is the one that is meant.
-fn is_one_of(at: Moment, meant: Moment) -> bool {
+fn is_meant(at: Moment, meant: Moment) -> bool {
     match (meant, at) {
         (
             Moment::Swept { session, taken },

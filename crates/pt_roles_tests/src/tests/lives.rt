@@ -1,12 +1,40 @@
-//! Sessions that come and end where threads leave their rows.
-use super::gates::{Hold, Holds, answered, begun, opened, swept, until, wrote};
+//! Runs whose rows serve one thread after another.
+use super::gates::{Hold, answered, begun, opened, swept, until, wrote};
 use super::peers::{Peer, Request, deaf, peer};
 use super::scene::{Runs, lives, run};
 use std::test::Fail;
 
+// A session is open on each of a row's threads, from its first write to its last.
+#[test]
+fn threads_come_and_go(rt: HostRuntime) -> Result<(), Fail> {
+    let most = peer(Request::Most);
+    let cases: [(Runs, &[Peer], &str); 4] = [
+        (lives(2, 80, 1, 3), &[], "rows [5-6 80]"),
+        (
+            lives(2, 80, 1, 3),
+            &[most],
+            "rows [5-6 80]\nsession 1 of 1: program [1-6 0..80 40+0]",
+        ),
+        (
+            lives(2, 0, 1, 3),
+            &[most],
+            "rows [5-6 0]\nsession 1 of 1: program [1-6 0..0 0+0]",
+        ),
+        (
+            lives(256, 8, 1, 2),
+            &[most],
+            "rows [257-512 8]\nsession 1 of 1: program [1-512 0..8 4+0]",
+        ),
+    ];
+    for (asked, peers, want) in &cases {
+        let told = run(&rt, rt.alloc(), *asked, peers, &[])?;
+        assert_eq!(rt; told.text(), *want);
+    }
+    Ok(())
+}
+
 #[test]
 fn sessions_come_and_end_between_two_threads(rt: HostRuntime) -> Result<(), Fail> {
-    let alloc = rt.alloc();
     let most = peer(Request::Most);
     let jobs = peer(Request::Jobs);
     let cases: [(Runs, &[Peer], &[Hold], &str); 3] = [
@@ -47,9 +75,8 @@ fn sessions_come_and_end_between_two_threads(rt: HostRuntime) -> Result<(), Fail
         ),
     ];
     for (asked, peers, holds, want) in &cases {
-        let gate = Holds::new(alloc, holds)?;
-        let told = run(&rt, alloc, *asked, peers, &gate)?;
-        assert_eq!(rt; (told.text.as_str(), gate.have_met()), (*want, true));
+        let told = run(&rt, rt.alloc(), *asked, peers, holds)?;
+        assert!(rt; told.says(want), "{}", told.text());
     }
     Ok(())
 }

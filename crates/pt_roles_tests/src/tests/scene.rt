@@ -1,9 +1,11 @@
 //! What the runs of the tests are asked by, and what they come to.
+use super::gates::{Hold, Holds};
+use super::late_dock::LateDock;
 use super::peers::{Peer, links_of};
 use super::text::text_of;
 use ep_defs::limits::{SESSIONS, THREADS, WRITES};
 use ep_defs::{Facts, Items, standard_info};
-use pt_io::{Gate, MemDock, StepClock};
+use pt_io::{MemDock, StepClock};
 use pt_load::Plan;
 use pt_roles::{LIVES, LiveOptions, run_live};
 use std::alloc::{AllocError, Global};
@@ -46,18 +48,33 @@ pub(super) fn lives(threads: u32, writes: u32, wait: u32, lives: u32) -> Runs {
 /// What a run came to, and what the link of each session took.
 #[derive(Debug, PartialEq, Eq, Drop)]
 pub(super) struct Told {
-    pub(super) text: String,
+    text: String,
     pub(super) taken: Vec<Vec<u8>>,
 }
 
-/// Runs the sample program, to whose dock these peers come.
+impl Told {
+    pub(super) fn text(&self) -> &str {
+        self.text.as_str()
+    }
+
+    /// Whether its text is this one. A star stands for whatever is there.
+    pub(super) fn says(&self, text: &str) -> bool {
+        match text.split_once('*') {
+            Some((first, last)) => self.text().starts_with(first) && self.text().ends_with(last),
+            None => self.text() == text,
+        }
+    }
+}
+
+/// Runs the sample program, to whose dock these peers come, and whose threads wait where they are held.
 pub(super) fn run<R: Threads + Wait + Timer + Sync>(
     rt: &R,
     alloc: Global,
     asked: Runs,
     peers: &[Peer],
-    gate: &impl Gate,
+    holds: &[Hold],
 ) -> Result<Told, AllocError> {
+    let gate = Holds::new(alloc, holds)?;
     let plan = Plan {
         seed: 0,
         threads: asked.threads.max(1).min(THREADS),
@@ -78,17 +95,18 @@ pub(super) fn run<R: Threads + Wait + Timer + Sync>(
         info: standard_info(1, 1),
     };
     let fails = [asked.failing_turn].to_vec(alloc)?;
-    let mut dock = MemDock::new(links_of(alloc, peers)?, 0, fails);
+    let mut dock = LateDock::new(MemDock::new(links_of(alloc, peers)?, 0, fails), &gate);
     let clock = StepClock::new(100);
     let end = run_live(
-        rt, alloc, &plan, &options, &facts, &mut dock, &clock, gate,
+        rt, alloc, &plan, &options, &facts, &mut dock, &clock, &gate,
     )?;
     let mut taken = Vec::new(alloc);
     for session in &end.sessions {
         taken.push(session.link.taken().to_vec(alloc)?)?;
     }
-    Ok(Told {
-        text: text_of(alloc, &end)?,
-        taken,
-    })
+    let mut text = text_of(alloc, &end)?;
+    if !gate.have_met() {
+        text.push_str("\nsomebody waited in vain")?;
+    }
+    Ok(Told { text, taken })
 }

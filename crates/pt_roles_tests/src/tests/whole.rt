@@ -1,7 +1,6 @@
 //! Whole runs, whose links take all that is written.
 use super::peers::{Peer, Request, peer};
-use super::scene::{Runs, lives, run, runs};
-use pt_io::OpenGate;
+use super::scene::{Runs, run, runs};
 use std::test::Fail;
 
 // A session gets of each thread what its rules admit, whatever the number of streaming roles is.
@@ -36,37 +35,8 @@ fn sessions_get_what_their_rules_admit(rt: HostRuntime) -> Result<(), Fail> {
         ),
     ];
     for (asked, peers, want) in &cases {
-        let told = run(&rt, rt.alloc(), *asked, peers, &OpenGate)?;
-        assert_eq!(rt; told.text.as_str(), *want);
-    }
-    Ok(())
-}
-
-// A session is open on each of a row's threads, from its first write to its last.
-#[test]
-fn threads_come_and_go(rt: HostRuntime) -> Result<(), Fail> {
-    let most = peer(Request::Most);
-    let cases: [(Runs, &[Peer], &str); 4] = [
-        (lives(2, 80, 1, 3), &[], "rows [5-6 80]"),
-        (
-            lives(2, 80, 1, 3),
-            &[most],
-            "rows [5-6 80]\nsession 1 of 1: program [1-6 0..80 40+0]",
-        ),
-        (
-            lives(2, 0, 1, 3),
-            &[most],
-            "rows [5-6 0]\nsession 1 of 1: program [1-6 0..0 0+0]",
-        ),
-        (
-            lives(256, 8, 1, 2),
-            &[most],
-            "rows [257-512 8]\nsession 1 of 1: program [1-512 0..8 4+0]",
-        ),
-    ];
-    for (asked, peers, want) in &cases {
-        let told = run(&rt, rt.alloc(), *asked, peers, &OpenGate)?;
-        assert_eq!(rt; told.text.as_str(), *want);
+        let told = run(&rt, rt.alloc(), *asked, peers, &[])?;
+        assert_eq!(rt; told.text(), *want);
     }
     Ok(())
 }
