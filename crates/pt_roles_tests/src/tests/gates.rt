@@ -7,6 +7,15 @@ use std::thread;
 /// How often a gate looks before it gives up.
 const LOOKS: u32 = 10_000_000;
 
+/// What a gate learns of.
+#[derive(Clone, Copy, Debug, PartialEq, Eq)]
+pub(super) enum Event {
+    /// A thread of the run came to a moment.
+    At(Moment),
+    /// The link of the connection with this number was shut.
+    Shut { conn: u32 },
+}
+
 /// Where somebody waits.
 #[derive(Clone, Copy, Debug)]
 enum Place {
@@ -16,14 +25,14 @@ enum Place {
     Turn(u64),
 }
 
-/// Whoever comes to a place waits there until a moment has come so often. A sweep stands for each of its session that took
-/// as much at least.
+/// Whoever comes to a place waits there until something has happened so often. A sweep stands for each of its session that
+/// took as much at least.
 #[derive(Clone, Copy, Debug)]
 pub(super) struct Hold {
     place: Place,
-    awaited: Moment,
+    awaited: Event,
     times: u64,
-    /// Whether it counts only what comes while somebody waits.
+    /// Whether it counts only what happens while somebody waits.
     anew: bool,
 }
 
@@ -31,7 +40,7 @@ pub(super) struct Hold {
 pub(super) fn until(at: Moment, awaited: Moment) -> Hold {
     Hold {
         place: Place::At(at),
-        awaited,
+        awaited: Event::At(awaited),
         times: 1,
         anew: false,
     }
@@ -41,13 +50,23 @@ pub(super) fn until(at: Moment, awaited: Moment) -> Hold {
 pub(super) fn late(turn: u64, awaited: Moment) -> Hold {
     Hold {
         place: Place::Turn(turn),
-        awaited,
+        awaited: Event::At(awaited),
         times: 1,
         anew: false,
     }
 }
 
-/// Until it has come so often from then on.
+/// It waits until the link of this connection was shut.
+pub(super) fn late_as(turn: u64, conn: u32) -> Hold {
+    Hold {
+        place: Place::Turn(turn),
+        awaited: Event::Shut { conn },
+        times: 1,
+        anew: false,
+    }
+}
+
+/// The same until it has come so often from then on.
 pub(super) fn often(hold: Hold, times: u64) -> Hold {
     Hold {
         times,
@@ -77,7 +96,7 @@ pub(super) fn answered(conn: u32) -> Moment {
     Moment::Answered { conn }
 }
 
-// A hold, and how often its moment has come.
+// A hold, and how often that has happened which it awaits.
 #[derive(Drop)]
 struct Held {
     hold: Hold,
@@ -106,9 +125,18 @@ impl Holds {
         })
     }
 
-    /// Whether each moment that somebody waited for came in time.
+    /// Whether all that somebody waited for happened in time.
     pub(super) fn have_met(&self) -> bool {
         !self.gave_up.load(Ordering::SeqCst)
+    }
+
+    /// Something has happened.
+    pub(super) fn tell(&self, event: Event) {
+        for held in &self.held {
+            if is_meant(event, held.hold.awaited) {
+                held.come.fetch_add(1, Ordering::SeqCst);
+            }
+        }
     }
 
     /// The dock comes to its turn with this number.
@@ -136,29 +164,26 @@ impl Holds {
 
 impl Gate for Holds {
     fn pass(&self, at: Moment) {
+        let event = Event::At(at);
+        self.tell(event);
         for held in &self.held {
-            if is_meant(at, held.hold.awaited) {
-                held.come.fetch_add(1, Ordering::SeqCst);
-            }
-        }
-        for held in &self.held {
-            if matches!(held.hold.place, Place::At(meant) if is_meant(at, meant)) {
+            if matches!(held.hold.place, Place::At(meant) if is_meant(event, Event::At(meant))) {
                 self.wait(held);
             }
         }
     }
 }
 
-// Whether the moment is the one that is meant.
-fn is_meant(at: Moment, meant: Moment) -> bool {
-    match (meant, at) {
+// Whether it is what is meant.
+fn is_meant(event: Event, meant: Event) -> bool {
+    match (meant, event) {
         (
-            Moment::Swept { session, taken },
-            Moment::Swept {
+            Event::At(Moment::Swept { session, taken }),
+            Event::At(Moment::Swept {
                 session: other,
                 taken: more,
-            },
+            }),
         ) => { session == other && taken <= more }
-        (meant, at) => meant == at,
+        (meant, event) => meant == event,
     }
 }

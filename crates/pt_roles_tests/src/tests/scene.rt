@@ -1,8 +1,8 @@
 //! What the runs of the tests are asked by, and what they come to.
 use super::gates::{Hold, Holds};
-use super::late_dock::LateDock;
 use super::peers::{Peer, links_of};
 use super::text::text_of;
+use super::watched::WatchedDock;
 use ep_defs::limits::{SESSIONS, THREADS, WRITES};
 use ep_defs::{Facts, Items, standard_info};
 use pt_io::{MemDock, StepClock};
@@ -95,7 +95,7 @@ pub(super) fn run<R: Threads + Wait + Timer + Sync>(
         info: standard_info(1, 1),
     };
     let fails = [asked.failing_turn].to_vec(alloc)?;
-    let mut dock = LateDock::new(MemDock::new(links_of(alloc, peers)?, 0, fails), &gate);
+    let mut dock = WatchedDock::new(MemDock::new(links_of(alloc, peers)?, 0, fails), &gate);
     let clock = StepClock::new(100);
     let end = run_live(
         rt, alloc, &plan, &options, &facts, &mut dock, &clock, &gate,

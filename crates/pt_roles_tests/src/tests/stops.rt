@@ -1,5 +1,5 @@
 //! Runs whose session is stopped.
-use super::gates::{Hold, answered, begun, late, often, swept, until, wrote};
+use super::gates::{Hold, answered, begun, late, late_as, swept, until, wrote};
 use super::peers::{Peer, Request, deaf, peer};
 use super::scene::{Runs, run, runs};
 use std::test::Fail;
@@ -9,11 +9,7 @@ fn a_session_is_stopped_while_it_goes_on(rt: HostRuntime) -> Result<(), Fail> {
     let most = peer(Request::Most);
     let jobs = peer(Request::Jobs);
     let stop = peer(Request::Stop);
-    let alone = Runs {
-        streamers: 1,
-        ..runs(1, 16, 2)
-    };
-    let cases: [(Runs, &[Peer], &[Hold], &str); 4] = [
+    let cases: [(Runs, &[Peer], &[Hold], &str); 5] = [
         // Within its threads' writes.
         (
             runs(2, 16, 1),
@@ -40,16 +36,18 @@ fn a_session_is_stopped_while_it_goes_on(rt: HostRuntime) -> Result<(), Fail> {
             ],
             "rows [1-2 16]\nsession 1 of 1: stopped by 2 [1-2 0..16 8+0]\nconnection 2: stops 1 28 bytes",
         ),
-        // Its link failed when its role took the first writes, and the role has come to the other session twice since.
+        // Once it has ended with the program, and once its link has failed.
         (
-            alone,
-            &[deaf(Request::Most, 3, 0), most, stop],
-            &[
-                late(3, wrote(1, 8)),
-                often(late(3, swept(2, 0)), 2),
-                until(wrote(1, 8), answered(3)),
-            ],
-            "rows [1-1 16]\nsession 1 of 1: link\nsession 2 of 2: program [1-1 0..16 8+0]\nconnection 3: error 80004005 24 bytes",
+            runs(2, 16, 1),
+            &[most, stop],
+            &[late_as(2, 1)],
+            "rows [1-2 16]\nsession 1 of 1: program [1-2 0..16 8+0]\nconnection 2: error 80004005 24 bytes",
+        ),
+        (
+            runs(2, 16, 1),
+            &[deaf(Request::Most, 3, 0), stop],
+            &[late_as(2, 1), until(wrote(1, 15), answered(2))],
+            "rows [1-2 16]\nsession 1 of 1: link\nconnection 2: error 80004005 24 bytes",
         ),
     ];
     for (asked, peers, holds, want) in &cases {

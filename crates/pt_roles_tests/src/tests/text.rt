@@ -1,14 +1,14 @@
 //! What a run comes to, as a text.
+use super::watched::WatchedLink;
 use ep_defs::Marks;
 use ep_stream::Fate;
-use pt_io::MemLink;
 use pt_roles::LiveEnd;
 use pt_server::ConnAnswer;
 use std::alloc::{AllocError, Global};
 
 /// A line for the rows, for each session and for each other connection. Threads that follow one another and of which the
 /// same is said stand together. Of a session that failed it says nothing of its threads, which rests on when it failed.
-pub(super) fn text_of(alloc: Global, end: &LiveEnd<MemLink>) -> Result<String, AllocError> {
+pub(super) fn text_of(alloc: Global, end: &LiveEnd<WatchedLink<'_>>) -> Result<String, AllocError> {
     let mut text = String::from_str(alloc, "rows")?;
     let mut rows = Vec::new(alloc);
     for (thread, writes) in &end.rows {
