@@ -1,6 +1,6 @@
 //! Runs whose session is stopped.
 use super::gates::{Hold, answered, begun, late, late_as, swept, until, wrote};
-use super::peers::{Peer, Request, deaf, peer};
+use super::peers::{Peer, Request, peer};
 use super::scene::{Runs, run, runs};
 use std::test::Fail;
 
@@ -9,7 +9,7 @@ fn a_session_is_stopped_while_it_goes_on(rt: HostRuntime) -> Result<(), Fail> {
     let most = peer(Request::Most);
     let jobs = peer(Request::Jobs);
     let stop = peer(Request::Stop);
-    let cases: [(Runs, &[Peer], &[Hold], &str); 5] = [
+    let cases: [(Runs, &[Peer], &[Hold], &str); 4] = [
         // Within its threads' writes.
         (
             runs(2, 16, 1),
@@ -36,18 +36,12 @@ fn a_session_is_stopped_while_it_goes_on(rt: HostRuntime) -> Result<(), Fail> {
             ],
             "rows [1-2 16]\nsession 1 of 1: stopped by 2 [1-2 0..16 8+0]\nconnection 2: stops 1 28 bytes",
         ),
-        // Once it has ended with the program, and once its link has failed.
+        // Once it has ended with the program.
         (
             runs(2, 16, 1),
             &[most, stop],
             &[late_as(2, 1)],
             "rows [1-2 16]\nsession 1 of 1: program [1-2 0..16 8+0]\nconnection 2: error 80004005 24 bytes",
-        ),
-        (
-            runs(2, 16, 1),
-            &[deaf(Request::Most, 3, 0), stop],
-            &[late_as(2, 1), until(wrote(1, 15), answered(2))],
-            "rows [1-2 16]\nsession 1 of 1: link\nconnection 2: error 80004005 24 bytes",
         ),
     ];
     for (asked, peers, holds, want) in &cases {
