@@ -1,10 +1,10 @@
 -- What the threads write, by place.
-use Rattle.std.proofs.Common.{◌≡◌, ℕ, zero, suc, ◌+◌, ◌<◌, [], ◌∷◌, ◌++◌, Some, length, ap, ◌∙◌, arith}
+use Rattle.std.proofs.Common.{◌≡◌, ℕ, ◌+◌, ◌<◌, [], ◌∷◌, ◌++◌, Some, length, ap, ◌∙◌, arith}
 use Rattle.std.specs.Prelude.{option_map, slice_get, map}
 use Rattle.std.specs.List.{range_with_len}
-use Rattle.std.proofs.lemmas.List.FromFn.{get_or-range_with_len, length-range_with_len}
+use Rattle.std.proofs.lemmas.List.FromFn.{get_or-range_with_len, length-range_with_len, map-range_with_len_more}
 use Rattle.std.proofs.lemmas.Option.{slice_get-get_or, slice_get-map}
-use Rattle.std.proofs.lemmas.List.{length-map, map-append}
+use Rattle.std.proofs.lemmas.List.{length-map}
 use Rattle.pt_load.specs.Sample.{nth}
 use Rattle.pt_load.specs.declared.plan.Plan.{Plan}
 use Rattle.pt_roles.specs.World.{last_of, writes_of}
@@ -23,21 +23,10 @@ write-at plan thread index few =
 pub count-writes : (plan : Plan) (thread : ℕ) → length (writes_of plan thread) ≡ plan.writes
 count-writes plan thread = simp (length-map, length-range_with_len)
 
-range-more : (first n : ℕ) → range_with_len first (suc n) ≡ range_with_len first n ++ (first + n) ∷ []
-range-more first zero = ap (λ (k : ℕ). k ∷ []) (omega arith)
-range-more first (suc n) =
-    ap (λ ns. first ∷ ns) (range-more (first + 1) n ∙ ap (λ (k : ℕ). range_with_len (first + 1) n ++ k ∷ []) (omega arith))
-
 -- A row's last thread with the number of its writes.
 abbrev pub row-of : Plan → ℕ → ℕ → ℕ × ℕ
 row-of plan lives number = (last_of plan lives number, plan.writes)
 
 -- The rows of one row more.
 pub rows-more : (plan : Plan) (lives n : ℕ) → map (row-of plan lives) (range_with_len 0 (n + 1)) ≡ map (row-of plan lives) (range_with_len 0 n) ++ row-of plan lives n ∷ []
-rows-more plan lives n =
-    let up : n + 1 ≡ suc n = omega arith in
-    let down : 0 + n ≡ n = omega arith in
-    ap (λ (k : ℕ). map (row-of plan lives) (range_with_len 0 k)) up
-    ∙ ap (map (row-of plan lives)) (range-more 0 n)
-    ∙ map-append (row-of plan lives) (range_with_len 0 n) ((0 + n) ∷ [])
-    ∙ ap (λ (k : ℕ). map (row-of plan lives) (range_with_len 0 n) ++ row-of plan lives k ∷ []) down
+rows-more plan lives n = map-range_with_len_more (row-of plan lives) 0 n n (omega arith)

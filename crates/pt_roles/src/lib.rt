@@ -28,8 +28,6 @@ mod serving;
 mod shared;
 mod streamers;
 mod table;
-#[cfg(test)]
-mod tests;
 mod world;
 mod writers;
 
