@@ -1,8 +1,7 @@
 -- What is fixed of a run from its beginning. All of it is this project's own.
 use Rattle.std.specs.Prelude.{◌≡◌, ℕ, ◌+◌, ◌-◌, ◌<◌, ◌≤◌, ◌++◌, List, [], map}
 use Rattle.std.specs.List.{range_with_len}
-use Rattle.ep_defs.specs.declared.limits.TheConstants.{SESSIONS, THREADS, WRITES}
-use Rattle.ep_defs.specs.declared.event.EventDef.{EventDef}
+use Rattle.ep_defs.specs.declared.limits.TheConstants.{SESSIONS}
 use Rattle.ep_defs.specs.declared.session.Facts.{Facts}
 use Rattle.ep_defs.specs.declared.session.Write.{Write}
 use Rattle.ep_defs.specs.Session.{standard_info_of}
@@ -10,7 +9,6 @@ use Rattle.ep_guarded.specs.Tied.{thread_of}
 use Rattle.pt_load.specs.Sample.{nth, sample}
 use Rattle.pt_load.specs.declared.plan.Plan.{Plan}
 use Rattle.ipc_body.specs.Answering.{session_reply}
-use Rattle.pt_stream.specs.Setting.{Setting}
 use Rattle.pt_roles.specs.declared.limits.TheConstants.{LIVES}
 use Rattle.pt_roles.specs.declared.options.LiveOptions.{LiveOptions}
 
@@ -67,24 +65,6 @@ rows_of plan lives = map (λ number. (last_of plan lives number, plan.writes)) (
 -- the id.
 abbrev pub before_of : WorldState → ℕ → List ℕ
 before_of world id = world.greeting ++ session_reply id
-
--- What is fixed of the streams of a run: no write to a link has failed when it comes in.
-abbrev pub setting_of : WorldState → Setting
-setting_of world =
-    record { lives = world.options.lives; info = world.facts.info; before = before_of world; faults = λ _. 0 }
-
--- The program is the sample program, as the plan says, in its bounds, and its server says of it what is fixed.
-pub record IsWorldOf (world : WorldState) (rows : ℕ) (events : List EventDef) (writes : ℕ → List Write) (setting : Setting) (facts : Facts) (greeting : List ℕ) : Type 0 where
-  pub rows_are : rows ≡ world.plan.threads
-  pub events_are : events ≡ sample
-  pub writes_are : writes ≡ writes_of world.plan
-  pub setting_is : setting ≡ setting_of world
-  pub facts_are : facts ≡ world.facts
-  pub greeting_is : greeting ≡ world.greeting
-  pub some : 0 < world.plan.threads
-  pub few : world.plan.threads ≤ THREADS
-  pub few_writes : world.plan.writes ≤ WRITES
-  pub options : AreOptions world.options
 
 -- What is fixed of a run that is asked for so, whose dock greets so.
 abbrev pub world_of : Plan → LiveOptions → Facts → List ℕ → WorldState

@@ -1,7 +1,0 @@
-pub mod Load
-pub mod Lists
-pub mod Lives
-pub mod Ending
-pub mod Marks
-pub mod Ends
-pub mod Turning

@@ -1,4 +1,0 @@
-//! Runs with a server over links in memory.
-mod gates;
-mod runs;
-mod scene;
