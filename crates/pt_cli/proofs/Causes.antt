@@ -118,12 +118,12 @@ saying-causes sink old new text false end (inl (inl said)) = let is = said.0 in 
 saying-causes sink old new text failed end (inl (inr broke)) = let is = broke.0 in ((λ read. cc), (λ _. broke.1.fault), (λ other. absurd (other is)))
 saying-causes sink old new text failed end (inr none) = let is = none.0 in ((λ read. cc), (λ fault. absurd (cc)), (λ _. ap sink.write_faults none.1))
 
-runs-causes : {O D L : Type 0} (sink : Sink O) (dock : Dock D L) (source : Source L) (takes : Sink L) (gave : L → ReadSide) (took : L → WriteSide) (asked : RunAsked) (facts : Facts)
-    (old new : O) (dock_old dock_new : D) (live : Option (LiveEnd L)) (end : End) → RunsTo sink dock source takes gave took asked facts old new dock_old dock_new live end
+runs-causes : {O D L : Type 0} (sink : Sink O) (dock : Dock D L) (takes : Sink L) (gave : L → ReadSide) (took : L → WriteSide) (asked : RunAsked) (facts : Facts)
+    (old new : O) (dock_old dock_new : D) (live : Option (LiveEnd L)) (end : End) → RunsTo sink dock takes gave took asked facts old new dock_old dock_new live end
     → (end ≢ ends.ReadFault) × (end ≡ ends.WriteFault → HasRisen (sink.write_faults old) (sink.write_faults new)) × (end ≢ ends.WriteFault → sink.write_faults new ≡ sink.write_faults old)
-runs-causes sink dock source takes gave took asked facts old new dock_old dock_new (Some live) end runs =
+runs-causes sink dock takes gave took asked facts old new dock_old dock_new (Some live) end runs =
     saying-causes sink old new (text_of asked.plan live) live.dock_failed end runs.ran.told
-runs-causes sink dock source takes gave took asked facts old new dock_old dock_new None end runs =
+runs-causes sink dock takes gave took asked facts old new dock_old dock_new None end runs =
     let none = runs.unrun refl in
     let is = none.0 in
     ((λ read. cc), (λ fault. absurd (cc)), (λ _. ap sink.write_faults none.1))
@@ -150,7 +150,7 @@ comes-faults source sink dock caller reads takes gave took facts (Some (command.
       all_written = λ memory written. trace-written end comes.ends comes.all_written memory written;
     }
 comes-faults source sink dock caller reads takes gave took facts (Some (command.Run asked)) a end comes alone =
-    let of_run = runs-causes sink dock reads takes gave took asked facts a.output_old a.output_new a.dock_old a.dock_new a.live end comes in
+    let of_run = runs-causes sink dock takes gave took asked facts a.output_old a.output_new a.dock_old a.dock_new a.live end comes in
     reading-faults source sink (Some (command.Run asked)) a.input_old a.input_new a.output_old a.output_new end (λ is. absurd (of_run.0 is))
     (unread-causes source sink a.input_old a.input_new a.output_old a.output_new end (alone refl) of_run.0 of_run.1 of_run.2)
 comes-faults source sink dock caller reads takes gave took facts (Some (command.Client asked)) a end comes alone =

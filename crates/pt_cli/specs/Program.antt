@@ -50,7 +50,7 @@ abbrev pub ComesTo : {I O D K L : Type 0} → Source I → Sink O → Dock D L �
     → Around I O D K L → End → Type 0
 ComesTo source sink dock caller reads takes gave took facts (Some (command.Trace asked)) a end = TracesTo sink asked a.output_old a.output_new a.rows a.marks end
 ComesTo source sink dock caller reads takes gave took facts (Some (command.Run asked)) a end =
-    RunsTo sink dock reads takes gave took asked facts a.output_old a.output_new a.dock_old a.dock_new a.live end
+    RunsTo sink dock takes gave took asked facts a.output_old a.output_new a.dock_old a.dock_new a.live end
 ComesTo source sink dock caller reads takes gave took facts (Some (command.Client asked)) a end =
     Asks sink caller reads takes asked a.output_old a.output_new a.caller_old a.caller_new a.peer end
 ComesTo source sink dock caller reads takes gave took facts asked a end = PlainComesTo source sink asked a.input_old a.input_new a.output_old a.output_new end

@@ -91,7 +91,7 @@ pub fn tracepipe<
         (TracesTo O.Sink asked output.old output.new result.rows.items result.marks) }
     ensures ran { (asked : RunAsked) → meant (map string_bytes words.now) ≡ Some (commands.Run asked)
         → EndsSo result.status result.code result.at
-        (RunsTo O.Sink D.Dock L.Source L.Sink L.read_side L.write_side asked facts.now
+        (RunsTo O.Sink D.Dock L.Sink L.read_side L.write_side asked facts.now
         output.old output.new dock.old dock.new result.live) }
     ensures asked { (asked : ClientCommand) → meant (map string_bytes words.now) ≡ Some (commands.Client asked)
         → EndsSo result.status result.code result.at
@@ -182,7 +182,7 @@ fn ran<
     requires fits { RunFits asked }
     requires facts { IsTrue (is_valid_facts facts.now) }
     ensures runs { EndsSo result.status result.code result.at
-        (RunsTo O.Sink D.Dock L.Source L.Sink L.read_side L.write_side asked facts.now
+        (RunsTo O.Sink D.Dock L.Sink L.read_side L.write_side asked facts.now
         output.old output.new dock.old dock.new result.live) }
     ensures nobody { result.peer ≡ None }
     ensures untraced { (result.rows.items ≡ []) × (result.marks ≡ []) }

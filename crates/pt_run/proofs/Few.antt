@@ -8,7 +8,7 @@ use Rattle.ep_defs.specs.declared.session.Marks.{Marks}
 use Rattle.ep_guarded.specs.Tied.{thread_of}
 use Rattle.ep_live_laws.specs.Tracing.{AreAscending}
 use Rattle.pt_io.specs.declared.sink.Sink.{Ghosts as Sink}
-use Rattle.pt_io.specs.declared.source.Source.{Ghosts as Source}
+use Rattle.pt_io.specs.Sides.{ReadSide}
 use Rattle.pt_roles.specs.declared.live_end.LiveSession.{LiveSession}
 use Rattle.pt_roles.specs.Ran.{AreMarksOf, IsEnd, IsThread}
 use Rattle.pt_roles.specs.World.{WorldState}
@@ -47,12 +47,12 @@ marks-few world marks rows lives ascend are =
     let few = ascending-few 0 25600 (map (λ mark. mark.thread) marks) (omega arith) ascend (above world marks rows lives are) (below world marks rows lives are) in
     omega (arith, few, length-map marks (λ (mark : Marks). mark.thread))
 
-pub sessions-few : {L : Type 0} (source : Source L) (sink : Sink L) (world : WorldState) (sessions : List (LiveSession L)) → world.plan.threads ≤ 256 → world.options.lives ≤ 100
-    → AllByRecursion (IsEnd source sink world) sessions → AllByRecursion (λ (session : LiveSession L). length session.marks ≤ MOST_MARKS) sessions
-sessions-few source sink world [] rows lives are = tt
-sessions-few source sink world (session ∷ sessions) rows lives are = (
+pub sessions-few : {L : Type 0} (gave : L → ReadSide) (sink : Sink L) (world : WorldState) (sessions : List (LiveSession L)) → world.plan.threads ≤ 256 → world.options.lives ≤ 100
+    → AllByRecursion (IsEnd gave sink world) sessions → AllByRecursion (λ (session : LiveSession L). length session.marks ≤ MOST_MARKS) sessions
+sessions-few gave sink world [] rows lives are = tt
+sessions-few gave sink world (session ∷ sessions) rows lives are = (
   marks-few world session.marks rows lives are.0.marks.ascending are.0.marks.threads,
-  sessions-few source sink world sessions rows lives are.1,
+  sessions-few gave sink world sessions rows lives are.1,
 )
 
 -- The session at a place is one of them.

@@ -5,7 +5,6 @@ use Rattle.ep_defs.specs.declared.limits.TheConstants.{SESSION_THREADS as MOST_M
 use Rattle.ep_defs.specs.declared.session.Facts.{Facts}
 use Rattle.pt_io.specs.declared.dock.Dock.{Ghosts as Dock}
 use Rattle.pt_io.specs.declared.sink.Sink.{Ghosts as Sink}
-use Rattle.pt_io.specs.declared.source.Source.{Ghosts as Source}
 use Rattle.pt_io.specs.Sides.{ReadSide, WriteSide}
 use Rattle.pt_command.specs.declared.end.End.{End}
 use Rattle.pt_command.specs.declared.end.End.TheVariants as ends
@@ -41,15 +40,15 @@ end_of true = ends.LinkFault
 end_of false = ends.Done
 
 -- A run came to this, and its lines were written in one write, or in part, or there was no memory for them.
-pub record RanTo {O D L : Type 0} (sink : Sink O) (dock : Dock D L) (source : Source L) (takes : Sink L) (gave : L → ReadSide) (took : L → WriteSide) (asked : Asked) (facts : Facts)
+pub record RanTo {O D L : Type 0} (sink : Sink O) (dock : Dock D L) (takes : Sink L) (gave : L → ReadSide) (took : L → WriteSide) (asked : Asked) (facts : Facts)
     (old new : O) (dock_old dock_new : D) (end : End) (live : LiveEnd L) : Type 0 where
-  pub ran : IsRan dock source takes gave took (world_of asked.plan (options_of asked) facts (dock.greeting dock_old)) dock_old dock_new live
+  pub ran : IsRan dock takes gave took (world_of asked.plan (options_of asked) facts (dock.greeting dock_old)) dock_old dock_new live
   pub told : SaysLine sink old new (text_of asked.plan live) (end_of live.dock_failed) end
 
 -- The command ended so, with this left of the run.
-pub record RunsTo {O D L : Type 0} (sink : Sink O) (dock : Dock D L) (source : Source L) (takes : Sink L) (gave : L → ReadSide) (took : L → WriteSide) (asked : Asked) (facts : Facts)
+pub record RunsTo {O D L : Type 0} (sink : Sink O) (dock : Dock D L) (takes : Sink L) (gave : L → ReadSide) (took : L → WriteSide) (asked : Asked) (facts : Facts)
     (old new : O) (dock_old dock_new : D) (live : Option (LiveEnd L)) (end : End) : Type 0 where
-  pub ran : IfSome live (RanTo sink dock source takes gave took asked facts old new dock_old dock_new end)
+  pub ran : IfSome live (RanTo sink dock takes gave took asked facts old new dock_old dock_new end)
   -- without the memory to begin nobody was asked and nothing was written
   pub unrun : live ≡ None → (end ≡ ends.OutOfMemory) × (new ≡ old) × (dock_new ≡ dock_old)
 

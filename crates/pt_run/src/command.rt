@@ -46,7 +46,7 @@ pub fn run<
 ) -> Ran<L>
     requires asked { Fits asked }
     requires facts { IsTrue (is_valid_facts facts.now) }
-    ensures { RunsTo O.Sink D.Dock L.Source L.Sink L.read_side L.write_side asked facts.now
+    ensures { RunsTo O.Sink D.Dock L.Sink L.read_side L.write_side asked facts.now
         output.old output.new dock.old dock.new result.live result.end }
 {
     let options = LiveOptions {
