@@ -47,4 +47,4 @@ returns-in-Ok-clause-faults g c =
       marks = result.marks;
       live = result.live;
     } in
-    (comes.0, comes.1, subst Faults c.in-Ok.ensures.meant (comes-faults g.I.Source g.O.Sink g.D.Dock g.K.Caller g.L.Source g.L.Sink g.L.read_side g.L.write_side c.args.facts.now c.in-Ok.command around comes.0 comes.2 c.carry_out.ensures.alone.unread))
+    (comes.0, comes.1, subst Faults c.in-Ok.ensures.meant (comes-faults g.I.Source g.O.Sink g.D.Dock g.K.Caller g.L.Source g.L.Sink g.L.Sink.read_side g.L.Source.write_side c.args.facts.now c.in-Ok.command around comes.0 comes.2 c.carry_out.ensures.alone.unread))
