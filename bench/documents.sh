@@ -3,8 +3,9 @@
 # stands in the map, that what the documents cite of a crate or a file stands there, and clauses in contracts, that each wrong
 # body can be planted, and README.md's counts, snippets and figures. Then each run in README.md and docs/*.md (an indented
 # block with lines `$ ..`) is made anew in a folder of its own, and its output compared; a line `...` stands for whatever
-# follows, and of a run of `trace` the numbers of stacks and points, which differ from run to run, are passed over. It ends
-# with 1 if anything differs. It needs python3 and xxd.
+# follows, and of a run of `trace` the numbers of stacks and points, which differ from run to run, are passed over. So is what
+# needs two terminals, `run` and the clients, of which `bench/run.sh` makes the like. It ends with 1 if anything differs. It
+# needs python3 and xxd.
 #
 #   bench/documents.sh [PROGRAM]      runs this program, by default the proved one
 here=$(cd "$(dirname "$0")/.." && pwd) || exit 1
@@ -15,7 +16,7 @@ here, program = sys.argv[1], os.path.abspath(sys.argv[2])
 README = f"{here}/README.md"
 DOCUMENTS = [README, f"{here}/CONTRIBUTING.md", *sorted(glob.glob(f"{here}/docs/*.md"))]
 CRATES = {os.path.basename(it) for it in glob.glob(f"{here}/crates/*")}
-OURS = re.compile(r"\./tracepipe|xxd ")
+OURS = re.compile(r"\./tracepipe (?!(run|ps|collect|stop) )|xxd ")
 # The first two numbers of the line `items` are events and definitions.
 VARYING = re.compile(r"^(items\s+\d+\s+\d+)\s+\d+\s+\d+$")
 

@@ -1,13 +1,14 @@
 //! How the program ended.
-ghost use Rattle.std.specs.Prelude.{◌≡◌, []};
+ghost use Rattle.std.specs.Prelude.{◌≡◌, [], None};
 ghost use Rattle.pt_cli.specs.Ends.{Ended};
 
 use ep_defs::{Items, MarkList};
 use pt_command::End;
+use pt_roles::LiveEnd;
 use std::alloc::Global;
 
 /// How the program ended.
-#[derive(Debug, Drop)]
+#[derive(Drop)]
 pub struct Finished<L> {
     /// One of those of `pt_command::status`.
     pub status: u8,
@@ -22,6 +23,8 @@ pub struct Finished<L> {
     pub rows: Vec<(u64, u32)>,
     /// What the session of `trace` had of each thread, ascending by thread; none for all other commands.
     pub marks: MarkList,
+    /// What is left of the run of `run`; none for all other commands, and where there was no memory for it to begin.
+    pub live: Option<LiveEnd<L>>,
 }
 
 /// How a command ended that waits for nobody.
@@ -33,12 +36,13 @@ pub struct Plain {
     pub at: u64,
 }
 
-/// The end of a command that traced nothing.
+/// The end of a command that ran no threads.
 pub(crate) fn ended_with<L>(alloc: Global, end: End, peer: Option<L>) -> Finished<L>
     ensures ended { Ended end result.status result.code result.at }
     ensures peer { result.peer ≡ peer }
     ensures rows { result.rows.items ≡ [] }
     ensures marks { result.marks ≡ [] }
+    ensures live { result.live ≡ None }
 {
     Finished {
         status: end.status(),
@@ -47,5 +51,6 @@ pub(crate) fn ended_with<L>(alloc: Global, end: End, peer: Option<L>) -> Finishe
         peer,
         rows: Vec::new(alloc),
         marks: Items::new(Vec::new(alloc)),
+        live: None,
     }
 }

@@ -1,9 +1,9 @@
 //! The program with everything around it in memory.
-use ep_defs::Marks;
+use ep_defs::{Facts, Items, Marks, standard_info};
 use pt_cli::tracepipe;
 use pt_command::status;
-use pt_io::{Gate, MemCaller, MemLink, MemSink, MemSource, Moment, OpenGate, StepClock};
-use std::alloc::Global;
+use pt_io::{Gate, MemCaller, MemDock, MemLink, MemSink, MemSource, Moment, OpenGate, StepClock};
+use std::alloc::{AllocError, Global};
 use std::collections::VecDeque;
 use std::process::Abort;
 use std::sync::Wait;
@@ -27,18 +27,67 @@ const PROGRAM: &[u8; 78] =
 struct Outside {
     input: MemSource,
     output: MemSink,
+    dock: MemDock,
     caller: MemCaller,
 }
 
 impl Outside {
-    // It gives these bytes, takes all, and calls nobody.
+    // It gives these bytes, takes all, calls nobody, and nobody comes in.
     fn new(alloc: Global, bytes: &[u8]) -> Result<Outside, Fail> {
         Ok(Outside {
             input: MemSource::new(bytes.to_vec(alloc)?, 4_096, Vec::new(alloc)),
             output: MemSink::new(Vec::new(alloc)),
+            dock: MemDock::new(VecDeque::new(alloc), 0, Vec::new(alloc)),
             caller: MemCaller::new(VecDeque::new(alloc), Vec::new(alloc)),
         })
     }
+}
+
+// What the program says of itself.
+fn facts(alloc: Global) -> Facts {
+    Facts {
+        process_id: 1,
+        cookie: [7; 16],
+        command_line: Items::new(Vec::new(alloc)),
+        system: Items::new(Vec::new(alloc)),
+        arch: Items::new(Vec::new(alloc)),
+        info: standard_info(1, 1),
+    }
+}
+
+// A link that gives these bytes and takes all.
+fn link_of(alloc: Global, bytes: Vec<u8>) -> MemLink {
+    MemLink::new(
+        MemSource::new(bytes, 4_096, Vec::new(alloc)),
+        MemSink::new(Vec::new(alloc)),
+    )
+}
+
+// A request for a session of so many megabytes and these events: providers' names, keywords and levels.
+fn request(
+    alloc: Global,
+    megabytes: u32,
+    events: &[(&str, u64, u32)],
+) -> Result<Vec<u8>, AllocError> {
+    let mut body = Vec::new(alloc);
+    body.extend_from_slice(&megabytes.to_le_bytes())?;
+    body.extend_from_slice(&[1, 0, 0, 0, 0])?;
+    body.extend_from_slice(&(events.len() as u32).to_le_bytes())?;
+    for (name, keywords, level) in events {
+        body.extend_from_slice(&keywords.to_le_bytes())?;
+        body.extend_from_slice(&level.to_le_bytes())?;
+        body.extend_from_slice(&(name.len() as u32).saturating_add(1).to_le_bytes())?;
+        for unit in name.encode_utf16() {
+            body.extend_from_slice(&unit.to_le_bytes())?;
+        }
+        body.extend_from_slice(&[0; 6])?;
+    }
+    let mut message = Vec::new(alloc);
+    message.extend_from_slice(b"DOTNET_IPC_V1\0")?;
+    message.extend_from_slice(&(body.len() as u16).saturating_add(20).to_le_bytes())?;
+    message.extend_from_slice(&[2, 3, 0, 0])?;
+    message.extend_from_slice(&body)?;
+    Ok(message)
 }
 
 // How the program ended.
@@ -75,10 +124,14 @@ fn run_past<R: Threads + Wait + time::Clock + Sync, G: Gate>(
     let Outside {
         input,
         output,
+        dock,
         caller,
     } = outside;
+    let facts = facts(alloc);
     let clock = StepClock::new(7);
-    let end = tracepipe(rt, alloc, &owned, input, output, caller, &clock, gate);
+    let end = tracepipe(
+        rt, alloc, &owned, &facts, input, output, dock, caller, &clock, gate,
+    );
     Ok(Ran {
         status: end.status,
         has_peer: end.peer.is_some(),
@@ -295,5 +348,55 @@ fn what_one_megabyte_has_no_room_for_is_missing_in_the_report(rt: HostRuntime) -
 #[test]
 fn one_megabyte_at_full_speed_is_reported(rt: HostRuntime) -> Result<(), Fail> {
     trace_and_report(&rt, rt.alloc(), TOO_MANY, 1, &OpenGate)?;
+    Ok(())
+}
+
+// The lines of a run whose two sessions are there from the first write to the last.
+const RUN_LINES: &str = "run          4      10000
+session          1      20000          0 end
+mark          1          1          0      10000       5000          0
+mark          1          2          0      10000       5000          0
+mark          1          3          0      10000       5000          0
+mark          1          4          0      10000       5000          0
+session          2       5000          0 end
+mark          2          1          0      10000       1250          0
+mark          2          2          0      10000       1250          0
+mark          2          3          0      10000       1250          0
+mark          2          4          0      10000       1250          0
+connections          2
+";
+
+#[test]
+fn a_run_of_two_sessions_tells_of_both(rt: HostRuntime) -> Result<(), Fail> {
+    let alloc = rt.alloc();
+    let first = [
+        ("Sample-Web", u64::MAX, 5),
+        ("Sample-Store", 1, 4),
+        ("Unknown-Provider", u64::MAX, 5),
+    ];
+    let mut links = VecDeque::new(alloc);
+    links.push_back(link_of(alloc, request(alloc, 256, &first)?))?;
+    let second = request(alloc, 1, &[("Sample-Jobs", 4, 3)])?;
+    links.push_back(link_of(alloc, second))?;
+    let mut outside = Outside::new(alloc, b"not read")?;
+    outside.dock = MemDock::new(links, 0, Vec::new(alloc));
+    let end = run(&rt, alloc, "run 4 10000 --wait 2", &mut outside)?;
+    assert_eq!(rt; end.status, status::DONE);
+    assert_eq!(rt; outside.output.taken(), RUN_LINES.as_bytes());
+    Ok(())
+}
+
+#[test]
+fn a_dock_that_fails_ends_a_run_with_its_status(rt: HostRuntime) -> Result<(), Fail> {
+    let alloc = rt.alloc();
+    for (failing, status) in [(1, status::LINK_FAULT), (2, status::DONE)] {
+        let mut outside = Outside::new(alloc, b"")?;
+        let fails = [failing].to_vec(alloc)?;
+        outside.dock = MemDock::new(VecDeque::new(alloc), 0, fails);
+        let end = run(&rt, alloc, "run 1 0", &mut outside)?;
+        assert_eq!(rt; end.status, status);
+        let want = b"run          1          0\nconnections          0\n".as_slice();
+        assert_eq!(rt; outside.output.taken(), want);
+    }
     Ok(())
 }
