@@ -8,6 +8,7 @@ use Rattle.ep_defs.specs.declared.session.TraceInfo.{TraceInfo}
 use Rattle.ep_defs.specs.Session.{standard_info_of}
 use Rattle.ep_pool.specs.Shared.{SharedPool, SeatState}
 use Rattle.pt_io.specs.declared.sink.Sink.{Ghosts as Sink}
+use Rattle.pt_stream.specs.Setting.{Setting}
 use Rattle.pt_load.specs.Sample.{sample}
 use Rattle.pt_load.specs.declared.plan.Plan.{Plan}
 use Rattle.pt_live.specs.Trace.{Traces, writes_of}
@@ -36,6 +37,10 @@ no_run =
       before = [];
       faults = 0;
     }
+
+-- What is fixed of the one session's stream of such a run: each row has one life.
+abbrev pub setting_of : RunState → Setting
+setting_of run = record { lives = 1; info = run.info; before = λ _. run.before; faults = λ _. run.faults }
 
 -- The program is the sample program, as the plan says, in its bounds.
 pub record IsRunOf (plan : Plan) (rows : ℕ) (events : List EventDef) (writes : ℕ → List Write) : Type 0 where
