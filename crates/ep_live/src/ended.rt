@@ -34,6 +34,17 @@ impl<'a, P: Program> Ended<'a, P> {
         &self.seat
     }
 
+    /// The seat of the session's pool, with all shares, once the run itself is over: the slot is not given back. The pool has
+    /// as many chunks as the session was granted, and each has come back.
+    pub fn into_seat(self) -> PoolSeat
+        ensures seat { result ≡ self.entry.seat }
+        ensures shares { result.share ≡ result.seats }
+        ensures back { result.taken ≡ result.given }
+        ensures chunks { result.total ≡ self.entry.grant.config.chunks }
+    {
+        self.seat
+    }
+
     /// Takes all chunks out of the session's pool, and lets them go. Gives the slot, for another session, and how many
     /// chunks there were: as many as the session was granted, since each has come back. It may wait for the pool.
     pub fn retire<R: Wait>(self, rt: &R) -> (Free<'a, P>, u32)
