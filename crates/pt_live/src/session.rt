@@ -1,8 +1,8 @@
 //! The one session of a run, from its opening to its end.
-ghost use Rattle.std.specs.Prelude.{◌≡◌, ◌≢◌, ◌≤◌, ◌⊎◌, [], Some, IfOk, OnErr, vec_len};
+ghost use Rattle.std.specs.Prelude.{◌≡◌, ℕ, ◌≤◌, ◌⊎◌, [], Some, IfOk, OnErr, vec_len};
 ghost use Rattle.ep_live.specs.Made.{AreStands};
 ghost use Rattle.ep_stream.specs.declared.session.Fate.TheVariants as fates;
-ghost use Rattle.pt_live.specs.Trace.{rows_of};
+ghost use Rattle.pt_live.specs.Trace.{rows_of, HasSpent, IsSpent};
 ghost use Rattle.pt_live.specs.state.Ended.{HasEndedAt, HasEndedUnwritten};
 ghost use Rattle.pt_live.specs.state.Open.{IsOpenOn};
 
@@ -13,6 +13,7 @@ use crate::threads::run_both;
 use crate::trace::TraceEnd;
 use crate::writers::{write_all, writers_of};
 use ep_guarded::Agreed;
+use ep_pool::PoolSeat;
 use ep_stream::{Fate, SessionEnd};
 use ep_tie::Right;
 use pt_io::{Clock, Gate, Moment, Sink};
@@ -72,21 +73,21 @@ pub(crate) fn streamed<
     ensures rows { IfOk result.1 (λ end. end.rows.items ≡ rows_of P.run.plan) }
     ensures ended { IfOk result.1 (λ end. HasEndedAt S.Sink P.run P.events P.writes P.rows P.run.plan.writes
         fates.ProgramEnd end.marks end.fate result.0) }
+    ensures spent { IfOk result.1 (λ end. HasSpent P.run.config end.marks end.seat) }
     ensures memory { OnErr result.1 (HasEndedUnwritten S.Sink P.run P.rows P.events P.writes result.0) }
 {
     let (streaming, opened) = streaming.open_all(alloc, around);
     if opened < around.plan.threads {
-        let end = ended(alloc, around, streaming, opened, Fate::OutOfMemory);
+        let (end, _seat) = ended(alloc, around, streaming, opened, Fate::OutOfMemory);
         return (end.sink, Err(AllocError));
     }
     let (streaming, rows) = with_threads(alloc, around, streaming, kit);
+    let (end, seat) = ended(alloc, around, streaming, opened, Fate::ProgramEnd);
     let SessionEnd {
-        marks,
-        fate,
-        sink,
-        ..
-    } = ended(alloc, around, streaming, opened, Fate::ProgramEnd);
-    (sink, Ok(TraceEnd { rows, marks, fate }))
+        marks, fate, sink, ..
+    } = end;
+    let seat = Some(seat);
+    (sink, Ok(TraceEnd { rows, marks, fate, seat }))
 }
 
 // Lets the threads make their writes while this one streams. Gives each row's thread and how many it has made.
@@ -127,26 +128,25 @@ fn with_threads<
     (Streaming { live, stream }, ends)
 }
 
-// Closes a session, which is open on the first rows, and ends it.
+// Closes a session, which is open on the first rows, and ends it. Gives the seat of its pool, which has all shares then.
 fn ended<P: TraceRun, R: Wait, S: Sink, C: Clock, G: Gate>(
     alloc: Global,
     around: &Around<'_, P, R, C, G>,
     streaming: Streaming<'_, '_, P, S>,
     opened: u32,
     fate: Fate,
-) -> SessionEnd<S>
+) -> (SessionEnd<S>, PoolSeat)
     requires few { opened ≤ P.rows }
     requires is_open { IsOpenOn P.run P.rows 0 opened streaming.stream }
     requires marks { streaming.stream.marks ≡ [] }
     requires why { (fate ≡ fates.OutOfMemory × (streaming.stream.stands ≡ Some 0))
         ⊎ (fate ≡ fates.ProgramEnd × (opened ≡ P.rows) × (streaming.stream.stands ≡ Some P.run.plan.writes)) }
-    ensures unwritten { fate ≡ fates.OutOfMemory → HasEndedAt S.Sink P.run P.events P.writes opened 0
-        fates.OutOfMemory result.marks result.fate result.sink }
-    ensures whole { fate ≡ fates.ProgramEnd → HasEndedAt S.Sink P.run P.events P.writes opened P.run.plan.writes
-        fates.ProgramEnd result.marks result.fate result.sink }
+    ensures ended { (to : ℕ) → streaming.entry.stream.stands ≡ Some to
+        → HasEndedAt S.Sink P.run P.events P.writes opened to fate result.0.marks result.0.fate result.0.sink }
+    ensures spent { IsSpent P.run.config result.0.marks result.1 }
 {
     let streaming = streaming.close_all(alloc, around, opened);
     let Streaming { live, stream } = streaming;
-    let (end, _left) = stream.end(alloc, around.rt, live, around.clock.now(), fate);
-    end
+    let (end, left) = stream.end(alloc, around.rt, live, around.clock.now(), fate);
+    (end, left.into_seat())
 }

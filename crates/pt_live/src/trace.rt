@@ -4,8 +4,9 @@ ghost use Rattle.ep_defs.specs.declared.limits.TheConstants.{SESSIONS, THREADS a
 ghost use Rattle.ep_defs.specs.Session.{is_valid_config};
 ghost use Rattle.ep_guarded.specs.Granted.{IsGrantFor};
 ghost use Rattle.ep_live.specs.Made.{AreHandTies, AreStands};
+ghost use Rattle.pt_stream.specs.State.{first_seat};
 ghost use Rattle.pt_live.specs.Trace.{Traces, writes_of};
-ghost use Rattle.pt_live.specs.state.Run.{IsLentTo, IsRunOf, TracesOver, first_seat};
+ghost use Rattle.pt_live.specs.state.Run.{IsLentTo, IsRunOf, TracesOver, setting_of};
 
 use crate::kit::Kit;
 use crate::lent::{Lent, RunOutput};
@@ -31,13 +32,15 @@ use std::thread::Threads;
 use std::time::Clock as Timer;
 
 /// What is left of a run once its threads have ended.
-#[derive(Debug, PartialEq, Eq, Drop)]
+#[derive(Drop)]
 pub struct TraceEnd {
     /// Each row's thread, and how many writes it has made.
     pub rows: Vec<(u64, u32)>,
     /// What the session had of each thread, ascending by thread. There is none where its stream could not be begun.
     pub marks: MarkList,
     pub fate: Fate,
+    /// A seat of the session's pool that has all its shares. There is none where its stream could not be begun.
+    pub seat: Option<PoolSeat>,
 }
 
 // What a run is made of before it has a name: how much is written, the runtime, the clock and the gate, what its session
@@ -110,6 +113,7 @@ fn run_named<
 ) -> Lent<'o, O>
     requires run { IsRunOf parts.plan.now P.rows P.events P.writes }
     requires writes { P.writes ≡ writes_of P.run.plan }
+    requires setting { P.setting ≡ setting_of P.run }
     requires lent { IsLentTo O.Sink P.run lent.output.ghost_name lent.output.now }
     requires plan { parts.plan.now ≡ P.run.plan }
     requires asked { (info.now ≡ P.run.info) × (parts.config ≡ P.run.config) }
@@ -253,8 +257,13 @@ fn run_over<
                 _ => {
                     let rows = untold(around, threads, kit);
                     let marks = Items::new(Vec::new(alloc));
-                    let fate = Fate::LinkFault;
-                    (lent, Ok(TraceEnd { rows, marks, fate }))
+                    let end = TraceEnd {
+                        rows,
+                        marks,
+                        fate: Fate::LinkFault,
+                        seat: None,
+                    };
+                    (lent, Ok(end))
                 }
             }
         }
