@@ -1,6 +1,7 @@
 -- What the program comes to, and what holds of it whatever the command is.
 use Rattle.std.specs.Prelude.{◌≡◌, ◌≢◌, ℕ, ◌⊎◌, true, false, List, [], Option, Some, None}
 use Rattle.ep_defs.specs.declared.session.Marks.{Marks}
+use Rattle.ep_pool.specs.Shared.{SeatState}
 use Rattle.pt_io.specs.declared.caller.Caller.{Ghosts as Caller}
 use Rattle.pt_io.specs.declared.sink.Sink.{Ghosts as Sink}
 use Rattle.pt_io.specs.declared.source.Source.{Ghosts as Source}
@@ -35,11 +36,12 @@ pub record Around (I O K L : Type 0) : Type 0 where
   pub caller_new : K
   pub peer : Option L
   pub rows : List (ℕ × ℕ)
+  pub seat : Option SeatState
   pub marks : List Marks
 
 -- What any command comes to.
 abbrev pub ComesTo : {I O K L : Type 0} → Source I → Sink O → Caller K L → Source L → Sink L → Option Command → Around I O K L → End → Type 0
-ComesTo source sink caller reads takes (Some (command.Trace asked)) a end = TracesTo sink asked a.output_old a.output_new a.rows a.marks end
+ComesTo source sink caller reads takes (Some (command.Trace asked)) a end = TracesTo sink asked a.output_old a.output_new a.rows a.seat a.marks end
 ComesTo source sink caller reads takes (Some (command.Client asked)) a end =
     Asks sink caller reads takes asked a.output_old a.output_new a.caller_old a.caller_new a.peer end
 ComesTo source sink caller reads takes asked a end = PlainComesTo source sink asked a.input_old a.input_new a.output_old a.output_new end
@@ -54,7 +56,7 @@ pub record HasFaults {I O : Type 0} (source : Source I) (sink : Sink O) (asked :
   pub all_written : (runs_threads asked ≡ false) ⊎ (end ≢ ends.OutOfMemory) → end ≢ ends.WriteFault → sink.write_faults output_new ≡ sink.write_faults output_old
 
 -- What a command has no use for is left alone.
-pub record LeavesAlone {I K L : Type 0} (asked : Option Command) (input_old input_new : I) (caller_old caller_new : K) (peer : Option L) (rows : List (ℕ × ℕ)) (marks : List Marks) : Type 0 where
+pub record LeavesAlone {I K L : Type 0} (asked : Option Command) (input_old input_new : I) (caller_old caller_new : K) (peer : Option L) (rows : List (ℕ × ℕ)) (seat : Option SeatState) (marks : List Marks) : Type 0 where
   pub unread : reads_input asked ≡ false → input_new ≡ input_old
   pub nobody : calls_peer asked ≡ false → (peer ≡ None) × (caller_new ≡ caller_old)
-  pub untraced : runs_threads asked ≡ false → (rows ≡ []) × (marks ≡ [])
+  pub untraced : runs_threads asked ≡ false → (rows ≡ []) × (seat ≡ None) × (marks ≡ [])

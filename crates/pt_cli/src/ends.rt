@@ -1,13 +1,14 @@
 //! How the program ended.
-ghost use Rattle.std.specs.Prelude.{◌≡◌, []};
+ghost use Rattle.std.specs.Prelude.{◌≡◌, [], None};
 ghost use Rattle.pt_cli.specs.Ends.{Ended};
 
 use ep_defs::{Items, MarkList};
+use ep_pool::PoolSeat;
 use pt_command::End;
 use std::alloc::Global;
 
 /// How the program ended.
-#[derive(Debug, Drop)]
+#[derive(Drop)]
 pub struct Finished<L> {
     /// One of those of `pt_command::status`.
     pub status: u8,
@@ -20,6 +21,9 @@ pub struct Finished<L> {
     /// Each thread of the sample program that `trace` ran, from 1, and how many writes it has made; none for all other
     /// commands.
     pub rows: Vec<(u64, u32)>,
+    /// A seat, with all shares, of the pool of the session of `trace`; none where its stream could not be begun, and for all
+    /// other commands.
+    pub seat: Option<PoolSeat>,
     /// What the session of `trace` had of each thread, ascending by thread; none for all other commands.
     pub marks: MarkList,
 }
@@ -38,6 +42,7 @@ pub(crate) fn ended_with<L>(alloc: Global, end: End, peer: Option<L>) -> Finishe
     ensures ended { Ended end result.status result.code result.at }
     ensures peer { result.peer ≡ peer }
     ensures rows { result.rows.items ≡ [] }
+    ensures seat { result.seat ≡ None }
     ensures marks { result.marks ≡ [] }
 {
     Finished {
@@ -46,6 +51,7 @@ pub(crate) fn ended_with<L>(alloc: Global, end: End, peer: Option<L>) -> Finishe
         at: end.at(),
         peer,
         rows: Vec::new(alloc),
+        seat: None,
         marks: Items::new(Vec::new(alloc)),
     }
 }

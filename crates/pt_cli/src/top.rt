@@ -73,7 +73,7 @@ pub fn tracepipe<
         → EndsSo result.status result.code result.at (Generates O.Sink asked output.old output.new) }
     ensures traced { (asked : TraceAsked) → meant (map string_bytes words.now) ≡ Some (commands.Trace asked)
         → EndsSo result.status result.code result.at
-        (TracesTo O.Sink asked output.old output.new result.rows.items result.marks) }
+        (TracesTo O.Sink asked output.old output.new result.rows.items result.seat result.marks) }
     ensures asked { (asked : ClientCommand) → meant (map string_bytes words.now) ≡ Some (commands.Client asked)
         → EndsSo result.status result.code result.at
         (Asks O.Sink K.Caller K.Link.Source K.Link.Sink asked output.old output.new caller.old caller.new result.peer) }
@@ -82,7 +82,7 @@ pub fn tracepipe<
     ensures faults { EndsSo result.status result.code result.at
         (HasFaults I.Source O.Sink (meant (map string_bytes words.now)) input.old input.new output.old output.new) }
     ensures alone { LeavesAlone (meant (map string_bytes words.now)) input.old input.new caller.old caller.new
-        result.peer result.rows.items result.marks }
+        result.peer result.rows.items result.seat result.marks }
 {
     match command_of(alloc, words) {
         Ok(command) => carry_out(rt, alloc, command, input, output, caller, clock, gate),
@@ -119,10 +119,11 @@ fn carry_out<
           caller_new = caller.new;
           peer = result.peer;
           rows = result.rows.items;
+          seat = result.seat;
           marks = result.marks;
         })) }
     ensures alone { LeavesAlone command.entry input.old input.new caller.old caller.new result.peer
-        result.rows.items result.marks }
+        result.rows.items result.seat result.marks }
 {
     match command {
         Some(Command::Trace(asked)) => traced(rt, alloc, asked, output, clock, gate),
@@ -141,7 +142,7 @@ fn asked<K: Caller, O: Sink>(
     requires { ClientFits command.now }
     ensures asks { EndsSo result.status result.code result.at
         (Asks O.Sink K.Caller K.Link.Source K.Link.Sink command.now output.old output.new caller.old caller.new result.peer) }
-    ensures untraced { (result.rows.items ≡ []) × (result.marks ≡ []) }
+    ensures untraced { (result.rows.items ≡ []) × (result.seat ≡ None) × (result.marks ≡ []) }
 {
     let Called { end, peer } = client(alloc, command, output, caller);
     ended_with(alloc, end, peer)
@@ -159,7 +160,7 @@ fn told<L, I: Source, O: Sink>(
         (PlainComesTo I.Source O.Sink command.now input.old input.new output.old output.new) }
     ensures unread { reads_input command.now ≡ false → input.new ≡ input.old }
     ensures nobody { result.peer ≡ None }
-    ensures untraced { (result.rows.items ≡ []) × (result.marks ≡ []) }
+    ensures untraced { (result.rows.items ≡ []) × (result.seat ≡ None) × (result.marks ≡ []) }
 {
     let end = without_waiting(alloc, command, input, output);
     ended_with(alloc, end, None)

@@ -126,7 +126,7 @@ pub record Traced {O : Type 0} (sink : Sink O) (info : TraceInfo) (plan : Plan) 
   -- each thread has made all its writes
   pub rows : end.rows.items ≡ rows_of plan
   pub marks : HasMarks plan config end.fate end.marks
-  -- an event was refused exactly where the session's pool was found dry
+  -- the session's pool had the budget's chunks, all of them back, and was found dry once for each event that was refused
   pub spent : HasSpent config end.marks end.seat
   -- where nothing failed the output took the whole stream, and else a part of one
   pub whole : end.fate ≡ fate.ProgramEnd → IsTrue (sink.tells_taken old) → TookTrace info plan config end.marks (sink.taken old) (sink.taken new)

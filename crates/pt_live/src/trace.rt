@@ -13,7 +13,7 @@ use crate::lent::{Lent, RunOutput};
 use crate::run::{Around, TraceRun};
 use crate::session::{streamed, untold};
 use crate::streaming::{SESSION, Streaming};
-use ep_defs::{Config, Duplicate, EventDef, Items, MarkList, TraceInfo};
+use ep_defs::{Config, EventDef, Items, MarkList, TraceInfo};
 use ep_guarded::{Agreed, Grant};
 use ep_live::{Free, Live, ROW_TIES, free_slots};
 use ep_live_laws::{a_part_is_found, a_traced_stream_is_found};
@@ -43,15 +43,14 @@ pub struct TraceEnd {
     pub seat: Option<PoolSeat>,
 }
 
-// What a run is made of before it has a name: how much is written, the runtime, the clock and the gate, what its session
-// is asked for, the seat of its pool, the ties, and the definitions of the events.
+// What a run is made of before it has a name: how much is written, the runtime, the clock and the gate, the seat of its
+// session's pool, the ties, and the definitions of the events.
 #[derive(Drop)]
 struct Parts<'r, 'g, R, C, G> {
     plan: &'r Plan,
     rt: &'r R,
     clock: &'r C,
     gate: &'r G,
-    config: Config,
     seat: PoolSeat,
     blank: Blank<Agreed<'g>>,
     events: Vec<EventDef>,
@@ -77,13 +76,12 @@ pub fn run_trace<'r, R: Threads + Wait + Timer + Sync, O: Sink, C: Clock, G: Gat
 {
     let events = sample_events(alloc)?;
     let (pool, seat) = Pool::new(rt, alloc, config.chunks, plan.threads + 1)?;
-    let grant = Grant::new(alloc, config.copy(alloc)?, pool, events.as_slice())?;
+    let grant = Grant::new(alloc, config, pool, events.as_slice())?;
     let parts = Parts {
         plan,
         rt,
         clock,
         gate,
-        config,
         seat,
         blank: Blank::new(alloc, plan.threads * (ROW_TIES as u32 + 1))?,
         events,
@@ -116,12 +114,11 @@ fn run_named<
     requires setting { P.setting ≡ setting_of P.run }
     requires lent { IsLentTo O.Sink P.run lent.output.ghost_name lent.output.now }
     requires plan { parts.plan.now ≡ P.run.plan }
-    requires asked { (info.now ≡ P.run.info) × (parts.config ≡ P.run.config) }
+    requires asked { (info.now ≡ P.run.info) × (grant.now.config ≡ P.run.config) }
     requires ties { (parts.blank.ties ≡ P.ties) × (parts.blank.places ≡ P.rows + 128 * P.rows) }
     requires events { parts.events.items ≡ P.events }
     requires admitted { IsGrantFor P.events grant.now }
     requires seat { parts.seat ≡ first_seat grant.now.pool (P.rows + 1) }
-    requires granted { grant.now.config ≡ parts.config }
     ensures same { result.output.ghost_name ≡ lent.entry.output.ghost_name }
     ensures traces { TracesOver O.Sink P.run lent.entry.output.now result.output.now answer.new }
 {
@@ -131,7 +128,6 @@ fn run_named<
         rt,
         clock,
         gate,
-        config,
         seat,
         blank,
         events,

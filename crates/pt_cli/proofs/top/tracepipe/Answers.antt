@@ -39,6 +39,7 @@ returns-in-Ok-clause-faults g c =
       caller_new = c.carry_out.new.caller;
       peer = result.peer;
       rows = result.rows.items;
+      seat = result.seat;
       marks = result.marks;
     } in
     (comes.0, comes.1, subst Faults c.in-Ok.ensures.meant (comes-faults g.I.Source g.O.Sink g.K.Caller g.K.Link.Source g.K.Link.Sink c.in-Ok.command around comes.0 comes.2 c.carry_out.ensures.alone.unread))

@@ -19,7 +19,7 @@ ghosts-run_named-P-TraceRun g a =
           record {
             plan = a.parts.plan.now;
             info = a.info.now;
-            config = a.parts.config;
+            config = a.grant.now.config;
             loan = a.lent.output.ghost_name;
             tells = g.O.Sink.tells_taken a.lent.output.now;
             before = g.O.Sink.taken a.lent.output.now;
@@ -34,7 +34,7 @@ ghosts-run_named-P-Run g a =
       setting = setting_of (record {
         plan = a.parts.plan.now;
         info = a.info.now;
-        config = a.parts.config;
+        config = a.grant.now.config;
         loan = a.lent.output.ghost_name;
         tells = g.O.Sink.tells_taken a.lent.output.now;
         before = g.O.Sink.taken a.lent.output.now;
