@@ -1,5 +1,5 @@
 -- What a run's session is at its end, by what its stream says of it.
-use Rattle.std.proofs.Common.{◌≡◌, ◌≢◌, ◌∙◌, ℕ, ◌≤◌, List, map, sym, ap, subst}
+use Rattle.std.proofs.Common.{◌≡◌, ◌≢◌, ◌∙◌, ◌⊎◌, inl, inr, ℕ, ◌≤◌, true, false, List, map, sym, ap, subst}
 use Rattle.std.specs.List.{range_with_len, sum_by, AllByRecursion}
 use Rattle.ep_defs.specs.declared.event.EventDef.{EventDef}
 use Rattle.ep_defs.specs.declared.session.Config.{Config}
@@ -20,7 +20,52 @@ use Rattle.pt_live.specs.Trace.{IsSpent}
 use Rattle.pt_live.specs.state.Ended.{HasEndedAt}
 use Rattle.pt_live.specs.state.Open.{IsOpenOn}
 use Rattle.pt_live.specs.state.Run.{RunState, setting_of}
-use Rattle.pt_live.proofs.Threads.{few-threads, threads-opened, whole-marks}
+use Rattle.pt_live.proofs.Firsts.{few-threads, threads-opened, whole-marks}
+
+-- ---- what it was to end by
+
+-- It was to end out of memory, or with the program.
+pub own-end : (handed : Fate) → (handed ≡ fate.OutOfMemory) ⊎ (handed ≡ fate.ProgramEnd) → (handed ≢ fate.LinkFault) × (handed ≢ fate.TooLong)
+own-end handed (inl is) = ((λ other. memory-link (sym is ∙ other)), (λ other. memory-long (sym is ∙ other)))
+  where
+    memory-link : fate.OutOfMemory ≡ fate.LinkFault → ⊥
+    memory-link e = cc
+
+    memory-long : fate.OutOfMemory ≡ fate.TooLong → ⊥
+    memory-long e = cc
+own-end handed (inr is) = ((λ other. end-link (sym is ∙ other)), (λ other. end-long (sym is ∙ other)))
+  where
+    end-link : fate.ProgramEnd ≡ fate.LinkFault → ⊥
+    end-link e = cc
+
+    end-long : fate.ProgramEnd ≡ fate.TooLong → ⊥
+    end-long e = cc
+
+-- Nobody asks for it.
+pub never-asked : (handed : Fate) → (handed ≡ fate.OutOfMemory) ⊎ (handed ≡ fate.ProgramEnd) → (conn : ℕ) → handed ≢ fate.Requested conn
+never-asked handed (inl is) conn other = memory-asked (sym is ∙ other)
+  where
+    memory-asked : fate.OutOfMemory ≡ fate.Requested conn → ⊥
+    memory-asked e = cc
+never-asked handed (inr is) conn other = end-asked (sym is ∙ other)
+  where
+    end-asked : fate.ProgramEnd ≡ fate.Requested conn → ⊥
+    end-asked e = cc
+
+-- Out of memory is a fault, and is not the program's end.
+pub faulty-memory : (handed : Fate) → handed ≡ fate.OutOfMemory → is_fault handed ≡ false → ⊥
+faulty-memory handed is sound = true-false (sym (ap is_fault is) ∙ sound)
+  where
+    true-false : true ≡ false → ⊥
+    true-false e = cc
+
+pub memory-apart : (handed : Fate) → handed ≡ fate.OutOfMemory → handed ≡ fate.ProgramEnd → ⊥
+memory-apart handed is other = apart (sym is ∙ other)
+  where
+    apart : fate.OutOfMemory ≡ fate.ProgramEnd → ⊥
+    apart e = cc
+
+-- ---- what it comes to
 
 module _ {S : Type 0} (side : Sink S) (run : RunState) (events : List EventDef) (writes : ℕ → List Write) where
   -- The session as one of the run.

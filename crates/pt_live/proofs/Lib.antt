@@ -1,7 +1,7 @@
 pub mod Load
 pub mod Lists
 pub mod Opening
-pub mod Threads
+pub mod Firsts
 pub mod Ending
 pub mod Long
 pub mod Answering

@@ -103,3 +103,17 @@ module _ (run : RunState) (rows : ℕ) where
       get_or_default stream.places k d no_place small ∙ ap (λ (i : ℕ). slice_index_or stream.places i no_place) (sym down) ∙ place
       in
       ap (λ (p : Place). nat_lt 0 p.next) read)
+
+  -- The threads' halves are taken back, or lent.
+  pub open-moved : (low high : ℕ) (stream : StreamState) (stands : Option ℕ) → IsOpenOn run rows low high stream → IsOpenOn run rows low high (record stream { stands = stands })
+  open-moved low high stream stands o =
+      record {
+        id_is = o.id_is;
+        config_is = o.config_is;
+        count = o.count;
+        ordered = o.ordered;
+        closed = o.closed;
+        opened = o.opened;
+        none = o.none;
+        early = o.early;
+      }

@@ -82,10 +82,10 @@ pub(crate) fn streamed<
         return (end.sink, Err(AllocError));
     }
     let (streaming, rows) = with_threads(alloc, around, streaming, kit);
-    let (end, seat) = ended(alloc, around, streaming, opened, Fate::ProgramEnd);
+    let (last, seat) = ended(alloc, around, streaming, opened, Fate::ProgramEnd);
     let SessionEnd {
         marks, fate, sink, ..
-    } = end;
+    } = last;
     let seat = Some(seat);
     (sink, Ok(TraceEnd { rows, marks, fate, seat }))
 }
