@@ -11,7 +11,7 @@ use Rattle.pt_cli.specs.declared.trace_words.Asked.{Asked}
 use Rattle.pt_cli.specs.Traced.{IsEndOf, TracesTo}
 
 pub traces-to : {O : Type 0} (sink : Sink O) (asked : Asked) (old new : O) (run : TraceEnd) (fate : Fate) (end : End) → run.fate ≡ fate → IsEndOf fate end
-    → Traced sink (standard_info_of 1 1) asked.plan asked.config old new run → TracesTo sink asked old new run.rows.items run.marks end
+    → Traced sink (standard_info_of 1 1) asked.plan asked.config old new run → TracesTo sink asked old new run.rows.items run.seat run.marks end
 traces-to sink asked old new run fates.ProgramEnd end fate_is is traced =
     record {
       done = λ _. traced.whole fate_is;
@@ -20,6 +20,7 @@ traces-to sink asked old new run fates.ProgramEnd end fate_is is traced =
         | inr other ↦ absurd (cc)
       ];
       memory = λ other. absurd (cc);
+      spent = traced.spent;
       written = λ _. traced.rows;
       whole = λ _. elim traced.marks [
         | inl whole ↦ whole
@@ -40,6 +41,7 @@ traces-to sink asked old new run fates.LinkFault end fate_is is traced =
       done = λ other. absurd (cc);
       part = λ _. traced.part (rw fate_is refl);
       memory = λ other. absurd (cc);
+      spent = traced.spent;
       written = λ _. traced.rows;
       whole = λ either. elim either [
         | inl other ↦ absurd (cc)
@@ -64,6 +66,7 @@ traces-to sink asked old new run fates.TooLong end fate_is is traced =
       done = λ other. absurd (cc);
       part = λ _. traced.part (rw fate_is refl);
       memory = λ other. absurd (cc);
+      spent = traced.spent;
       written = λ _. traced.rows;
       whole = λ _. elim traced.marks [
         | inl whole ↦ whole
@@ -87,6 +90,7 @@ traces-to sink asked old new run fates.OutOfMemory end fate_is is traced =
         | inr other ↦ absurd (cc)
       ];
       memory = λ _ tells. inl (traced.part (rw fate_is refl) tells);
+      spent = traced.spent;
       written = λ other. absurd (other is);
       whole = λ either. elim either [
         | inl other ↦ absurd (cc)

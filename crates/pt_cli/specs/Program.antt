@@ -1,6 +1,7 @@
 -- What the program comes to, and what holds of it whatever the command is.
 use Rattle.std.specs.Prelude.{◌≡◌, ◌≢◌, ℕ, ◌⊎◌, true, false, List, [], Option, Some, None}
 use Rattle.ep_defs.specs.declared.session.Marks.{Marks}
+use Rattle.ep_pool.specs.Shared.{SeatState}
 use Rattle.pt_io.specs.declared.caller.Caller.{Ghosts as Caller}
 use Rattle.pt_io.specs.declared.sink.Sink.{Ghosts as Sink}
 use Rattle.pt_io.specs.declared.source.Source.{Ghosts as Source}
@@ -42,13 +43,14 @@ pub record Around (I O D K L : Type 0) : Type 0 where
   pub caller_new : K
   pub peer : Option L
   pub rows : List (ℕ × ℕ)
+  pub seat : Option SeatState
   pub marks : List Marks
   pub live : Option (LiveEnd L)
 
 -- What any command comes to, where the program says this of itself.
 abbrev pub ComesTo : {I O D K L : Type 0} → Source I → Sink O → Dock D L → Caller K L → Source L → Sink L → (L → ReadSide) → (L → WriteSide) → Facts → Option Command
     → Around I O D K L → End → Type 0
-ComesTo source sink dock caller reads takes gave took facts (Some (command.Trace asked)) a end = TracesTo sink asked a.output_old a.output_new a.rows a.marks end
+ComesTo source sink dock caller reads takes gave took facts (Some (command.Trace asked)) a end = TracesTo sink asked a.output_old a.output_new a.rows a.seat a.marks end
 ComesTo source sink dock caller reads takes gave took facts (Some (command.Run asked)) a end =
     RunsTo sink dock takes gave took asked facts a.output_old a.output_new a.dock_old a.dock_new a.live end
 ComesTo source sink dock caller reads takes gave took facts (Some (command.Client asked)) a end =
@@ -66,8 +68,8 @@ pub record HasFaults {I O : Type 0} (source : Source I) (sink : Sink O) (asked :
 
 -- What a command has no use for is left alone.
 pub record LeavesAlone {I D K L : Type 0} (asked : Option Command) (input_old input_new : I) (dock_old dock_new : D) (caller_old caller_new : K) (peer : Option L)
-    (live : Option (LiveEnd L)) (rows : List (ℕ × ℕ)) (marks : List Marks) : Type 0 where
+    (live : Option (LiveEnd L)) (rows : List (ℕ × ℕ)) (seat : Option SeatState) (marks : List Marks) : Type 0 where
   pub unread : reads_input asked ≡ false → input_new ≡ input_old
   pub unserved : runs_server asked ≡ false → (live ≡ None) × (dock_new ≡ dock_old)
   pub nobody : calls_peer asked ≡ false → (peer ≡ None) × (caller_new ≡ caller_old)
-  pub untraced : runs_threads asked ≡ false → (rows ≡ []) × (marks ≡ [])
+  pub untraced : runs_threads asked ≡ false → (rows ≡ []) × (seat ≡ None) × (marks ≡ [])

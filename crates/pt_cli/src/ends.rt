@@ -3,6 +3,7 @@ ghost use Rattle.std.specs.Prelude.{◌≡◌, [], None};
 ghost use Rattle.pt_cli.specs.Ends.{Ended};
 
 use ep_defs::{Items, MarkList};
+use ep_pool::PoolSeat;
 use pt_command::End;
 use pt_roles::LiveEnd;
 use std::alloc::Global;
@@ -21,6 +22,9 @@ pub struct Finished<L> {
     /// Each thread of the sample program that `trace` ran, from 1, and how many writes it has made; none for all other
     /// commands.
     pub rows: Vec<(u64, u32)>,
+    /// A seat, with all shares, of the pool of the session of `trace`; none where its stream could not be begun, and for all
+    /// other commands.
+    pub seat: Option<PoolSeat>,
     /// What the session of `trace` had of each thread, ascending by thread; none for all other commands.
     pub marks: MarkList,
     /// What is left of the run of `run`; none for all other commands, and where there was no memory for it to begin.
@@ -41,6 +45,7 @@ pub(crate) fn ended_with<L>(alloc: Global, end: End, peer: Option<L>) -> Finishe
     ensures ended { Ended end result.status result.code result.at }
     ensures peer { result.peer ≡ peer }
     ensures rows { result.rows.items ≡ [] }
+    ensures seat { result.seat ≡ None }
     ensures marks { result.marks ≡ [] }
     ensures live { result.live ≡ None }
 {
@@ -50,6 +55,7 @@ pub(crate) fn ended_with<L>(alloc: Global, end: End, peer: Option<L>) -> Finishe
         at: end.at(),
         peer,
         rows: Vec::new(alloc),
+        seat: None,
         marks: Items::new(Vec::new(alloc)),
         live: None,
     }

@@ -88,7 +88,7 @@ pub fn tracepipe<
         → EndsSo result.status result.code result.at (Generates O.Sink asked output.old output.new) }
     ensures traced { (asked : TraceAsked) → meant (map string_bytes words.now) ≡ Some (commands.Trace asked)
         → EndsSo result.status result.code result.at
-        (TracesTo O.Sink asked output.old output.new result.rows.items result.marks) }
+        (TracesTo O.Sink asked output.old output.new result.rows.items result.seat result.marks) }
     ensures ran { (asked : RunAsked) → meant (map string_bytes words.now) ≡ Some (commands.Run asked)
         → EndsSo result.status result.code result.at
         (RunsTo O.Sink D.Dock L.Sink L.read_side L.write_side asked facts.now
@@ -101,7 +101,7 @@ pub fn tracepipe<
     ensures faults { EndsSo result.status result.code result.at
         (HasFaults I.Source O.Sink (meant (map string_bytes words.now)) input.old input.new output.old output.new) }
     ensures alone { LeavesAlone (meant (map string_bytes words.now)) input.old input.new dock.old dock.new
-        caller.old caller.new result.peer result.live result.rows.items result.marks }
+        caller.old caller.new result.peer result.live result.rows.items result.seat result.marks }
 {
     match command_of(alloc, words) {
         Ok(command) => carry_out(
@@ -147,11 +147,12 @@ fn carry_out<
           caller_new = caller.new;
           peer = result.peer;
           rows = result.rows.items;
+          seat = result.seat;
           marks = result.marks;
           live = result.live;
         })) }
     ensures alone { LeavesAlone command.entry input.old input.new dock.old dock.new caller.old caller.new
-        result.peer result.live result.rows.items result.marks }
+        result.peer result.live result.rows.items result.seat result.marks }
 {
     match command {
         Some(Command::Trace(asked)) => traced(rt, alloc, asked, output, clock, gate),
@@ -185,7 +186,7 @@ fn ran<
         (RunsTo O.Sink D.Dock L.Sink L.read_side L.write_side asked facts.now
         output.old output.new dock.old dock.new result.live) }
     ensures nobody { result.peer ≡ None }
-    ensures untraced { (result.rows.items ≡ []) × (result.marks ≡ []) }
+    ensures untraced { (result.rows.items ≡ []) × (result.seat ≡ None) × (result.marks ≡ []) }
 {
     let Ran { end, live } = run(rt, alloc, asked, facts, output, dock, clock, gate);
     Finished {
@@ -194,6 +195,7 @@ fn ran<
         at: end.at(),
         peer: None,
         rows: Vec::new(alloc),
+        seat: None,
         marks: Items::new(Vec::new(alloc)),
         live,
     }
@@ -209,7 +211,7 @@ fn asked<K: Caller, O: Sink>(
     requires { ClientFits command.now }
     ensures asks { EndsSo result.status result.code result.at
         (Asks O.Sink K.Caller K.Link.Source K.Link.Sink command.now output.old output.new caller.old caller.new result.peer) }
-    ensures idle { (result.rows.items ≡ []) × (result.marks ≡ []) × (result.live ≡ None) }
+    ensures idle { (result.rows.items ≡ []) × (result.seat ≡ None) × (result.marks ≡ []) × (result.live ≡ None) }
 {
     let Called { end, peer } = client(alloc, command, output, caller);
     ended_with(alloc, end, peer)
@@ -227,7 +229,7 @@ fn told<L, I: Source, O: Sink>(
         (PlainComesTo I.Source O.Sink command.now input.old input.new output.old output.new) }
     ensures unread { reads_input command.now ≡ false → input.new ≡ input.old }
     ensures nobody { result.peer ≡ None }
-    ensures idle { (result.rows.items ≡ []) × (result.marks ≡ []) × (result.live ≡ None) }
+    ensures idle { (result.rows.items ≡ []) × (result.seat ≡ None) × (result.marks ≡ []) × (result.live ≡ None) }
 {
     let end = without_waiting(alloc, command, input, output);
     ended_with(alloc, end, None)

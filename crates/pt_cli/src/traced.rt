@@ -30,7 +30,7 @@ pub(crate) fn traced<L, R: Threads + Wait + time::Clock + Sync, O: Sink, C: Cloc
 ) -> Finished<L>
     requires { Fits asked }
     ensures traced { EndsSo result.status result.code result.at
-        (TracesTo O.Sink asked output.old output.new result.rows.items result.marks) }
+        (TracesTo O.Sink asked output.old output.new result.rows.items result.seat result.marks) }
     ensures nobody { result.peer ≡ None }
     ensures unserved { result.live ≡ None }
 {
@@ -45,7 +45,12 @@ pub(crate) fn traced<L, R: Threads + Wait + time::Clock + Sync, O: Sink, C: Cloc
         clock,
         gate,
     ) {
-        Ok(TraceEnd { rows, marks, fate }) => {
+        Ok(TraceEnd {
+            rows,
+            marks,
+            fate,
+            seat,
+        }) => {
             let end = end_of(fate);
             Finished {
                 status: end.status(),
@@ -53,6 +58,7 @@ pub(crate) fn traced<L, R: Threads + Wait + time::Clock + Sync, O: Sink, C: Cloc
                 at: end.at(),
                 peer: None,
                 rows,
+                seat,
                 marks,
                 live: None,
             }

@@ -13,18 +13,16 @@ use Rattle.nt_write.specs.declared.fault.Fault.{Fault}
 use Rattle.nt_write.specs.declared.fault.Fault.TheVariants.{WriteFault, TooLong, OutOfMemory}
 use Rattle.pt_io.specs.declared.sink.Sink.{Ghosts as Sink}
 use Rattle.pt_io.specs.Faults.{HasRisen}
-use Rattle.ep_stream.specs.Session.{TookStart, fault_of, sink_of}
-use Rattle.ep_stream.specs.declared.session.Session.{Session}
+use Rattle.ep_stream.specs.Session.{TookStart}
 use Rattle.ep_stream.specs.declared.session.Fate.{Fate}
 use Rattle.ep_stream.specs.declared.session.Fate.TheVariants as fate
 use Rattle.ep_live_laws.specs.Streams.{PartsAreFound, TracesAreFound}
-use Rattle.ep_live_laws.specs.Tracing.{is_fault, IsTracing, TookTraced, TookTracedPart}
+use Rattle.ep_live_laws.specs.Tracing.{is_fault, TookTraced, TookTracedPart}
 use Rattle.pt_load.specs.Sample.{sample}
 use Rattle.pt_load.specs.declared.plan.Plan.{Plan}
 use Rattle.pt_live.specs.declared.trace.TraceEnd.{TraceEnd}
-use Rattle.pt_live.specs.Trace.{AreUnwritten, AreWhole, TookPart, TookSome, TookTrace, TookUnwritten, Traced, Traces, rows_of, writes_of}
-use Rattle.pt_live.specs.state.Ended.{HasEnded}
-use Rattle.pt_live.specs.state.Open.{HasTold, SaysFaults, watch_of}
+use Rattle.pt_live.specs.Trace.{AreUnwritten, AreWhole, HasSpent, TookPart, TookSome, TookTrace, TookUnwritten, Traced, Traces, rows_of, writes_of}
+use Rattle.pt_live.specs.state.Ended.{HasEndedAt}
 use Rattle.pt_live.specs.state.Run.{IsLentTo, RunState}
 use Rattle.pt_live.proofs.Load.{count-writes}
 use Rattle.pt_live.proofs.Long.{is-long}
@@ -37,32 +35,11 @@ pub record Laws (plan : Plan) (config : Config) : Type 0 where
 -- ---- a session that was begun
 
 -- The program is the sample program.
-pub of-sample : {S : Type 0} (side : Sink S) (run : RunState) (events : List EventDef) (writes : ℕ → List Write) (opened to : ℕ) (marks : List Marks) (end : Fate) (sink : S)
-    → events ≡ sample → writes ≡ writes_of run.plan → HasEnded side run events writes opened to marks end sink → HasEnded side run sample (writes_of run.plan) opened to marks end sink
-of-sample side run events writes opened to marks end sink events_are writes_are e =
-    subst (λ (w : ℕ → List Write). HasEnded side run sample w opened to marks end sink) writes_are
-    (subst (λ (es : List EventDef). HasEnded side run es writes opened to marks end sink) events_are e)
-
-pub sound-says : {S : Type 0} (faults : S → ℕ) (was : ℕ) (session : Session S) → fault_of session ≡ None → faults (sink_of session) ≡ was → SaysFaults faults was session
-sound-says faults was session sound wrote = record { fault = λ is. absurd (no-fault (sym sound ∙ is)); wrote = λ not. wrote; later = omega (arith, wrote) }
-  where
-    no-fault : None ≡ Some WriteFault → ⊥
-    no-fault e = cc
-
--- It has told nothing yet.
-pub told-begun : {S : Type 0} (side : Sink S) (run : RunState) (events : List EventDef) (writes : ℕ → List Write) (session : Session S) (before : List ℕ) (info : TraceInfo) (config : Config)
-    → info ≡ run.info → config ≡ run.config → (IsTrue run.tells → before ≡ run.before)
-    → IsTracing side (record (watch_of run events writes before) { info = info; config = config }) [] [] session
-    → SaysFaults side.write_faults run.faults session → HasTold side run events writes 0 session
-told-begun side run events writes session before info config info_is config_is begins tracing says =
-    record {
-      before = before;
-      begins = begins;
-      told = [];
-      tracing = subst (λ (i : TraceInfo). IsTracing side (record (watch_of run events writes before) { info = i }) [] [] session) info_is
-          (subst (λ (c : Config). IsTracing side (record (watch_of run events writes before) { info = info; config = c }) [] [] session) config_is tracing);
-      says = says;
-    }
+pub of-sample : {S : Type 0} (side : Sink S) (run : RunState) (events : List EventDef) (writes : ℕ → List Write) (opened to : ℕ) (handed : Fate) (marks : List Marks) (end : Fate) (sink : S)
+    → events ≡ sample → writes ≡ writes_of run.plan → HasEndedAt side run events writes opened to handed marks end sink → HasEndedAt side run sample (writes_of run.plan) opened to handed marks end sink
+of-sample side run events writes opened to handed marks end sink events_are writes_are e =
+    subst (λ (w : ℕ → List Write). HasEndedAt side run sample w opened to handed marks end sink) writes_are
+    (subst (λ (es : List EventDef). HasEndedAt side run es writes opened to handed marks end sink) events_are e)
 
 module _ {O L : Type 0} (side : Sink L) (output : Sink O) (out : L → O) (run : RunState) (old : O) (loan : ℕ) (lent : IsLentTo output run loan old)
     (tells_is : (l : L) → side.tells_taken l ≡ run.tells) (taken_is : (l : L) → side.taken l ≡ output.taken (out l)) (faults_are : (l : L) → side.write_faults l ≡ output.write_faults (out l)) where
@@ -71,42 +48,42 @@ module _ {O L : Type 0} (side : Sink L) (output : Sink O) (out : L → O) (run :
   tells-so l told = subst IsTrue (lent.tells_is ∙ sym (tells_is l)) told
 
   -- What the output had is what the stream stands behind.
-  stands-behind : (before part : List ℕ) (l : L) → (IsTrue run.tells → before ≡ run.before) → IsTrue (output.tells_taken old) → side.taken l ≡ before ++ part → output.taken (out l) ≡ output.taken old ++ part
-  stands-behind before part l begins told took =
-      sym (taken_is l) ∙ took ∙ ap (λ (bytes : List ℕ). bytes ++ part) (begins (subst IsTrue lent.tells_is told) ∙ sym lent.before_is)
+  stands-behind : (part : List ℕ) (l : L) → side.taken l ≡ run.before ++ part → output.taken (out l) ≡ output.taken old ++ part
+  stands-behind part l took = sym (taken_is l) ∙ took ∙ ap (λ (bytes : List ℕ). bytes ++ part) (sym lent.before_is)
 
-  pub took-whole : (laws : Laws run.plan run.config) (before : List ℕ) (marks : List Marks) (l : L) → (IsTrue run.tells → before ≡ run.before)
-      → TookTraced side before run.info sample run.config (writes_of run.plan) marks l
+  pub took-whole : (laws : Laws run.plan run.config) (marks : List Marks) (l : L)
+      → TookTraced side run.before run.info sample run.config (writes_of run.plan) marks l
       → IsTrue (output.tells_taken old) → TookTrace run.info run.plan run.config marks (output.taken old) (output.taken (out l))
-  took-whole laws before marks l begins t told =
+  took-whole laws marks l t told =
       let stream = t.stream (tells-so l told) in
       record {
         stream = stream.0;
         trace = laws.traces run.info marks t.entries stream.0 stream.1 t.traced;
-        took = stands-behind before stream.0 l begins told stream.2;
+        took = stands-behind stream.0 l stream.2;
       }
 
-  pub took-part : (laws : Laws run.plan run.config) (before : List ℕ) (marks : List Marks) (l : L) → (IsTrue run.tells → before ≡ run.before)
-      → TookTracedPart side before run.info sample run.config (writes_of run.plan) marks l
+  pub took-part : (laws : Laws run.plan run.config) (marks : List Marks) (l : L)
+      → TookTracedPart side run.before run.info sample run.config (writes_of run.plan) marks l
       → IsTrue (output.tells_taken old) → TookPart run.info run.plan run.config marks (output.taken old) (output.taken (out l))
-  took-part laws before marks l begins t told =
+  took-part laws marks l t told =
       let stream = t.stream (tells-so l told) in
       record {
         part = stream.1;
         trace = laws.parts run.info marks t.entries stream.1 stream.0 stream.2 stream.3 t.part;
-        took = stands-behind before stream.1 l begins told stream.4;
+        took = stands-behind stream.1 l stream.4;
       }
 
   module _ (laws : Laws run.plan run.config) where
     -- It was open on all threads.
     pub traces-end : (end : TraceEnd) (opened : ℕ) (l : L) → run.plan.writes ≤ WRITES → end.rows.items ≡ rows_of run.plan → opened ≡ run.plan.threads
-        → HasEnded side run sample (writes_of run.plan) opened run.plan.writes end.marks end.fate l → Traced output run.info run.plan run.config old (out l) end
-    traces-end end opened l most rows all e =
+        → HasEndedAt side run sample (writes_of run.plan) opened run.plan.writes fate.ProgramEnd end.marks end.fate l → HasSpent run.config end.marks end.seat → Traced output run.info run.plan run.config old (out l) end
+    traces-end end opened l most rows all e spent =
         record {
           rows = rows;
           marks = inl whole;
-          whole = λ is. took-whole laws e.before end.marks l e.begins (e.outcome.whole (ap is_fault is) few);
-          part = λ is told. inr (took-part laws e.before end.marks l e.begins e.outcome.part told);
+          spent = spent;
+          whole = λ is. took-whole laws end.marks l (e.outcome.whole (ap is_fault is) few);
+          part = λ is told. inr (took-part laws end.marks l e.outcome.part told);
           not_asked = e.well.not_asked;
           link_fault = λ is.
               subst (λ (n : ℕ). HasRisen n (output.write_faults (out l))) (sym lent.faults_are)
@@ -124,18 +101,18 @@ module _ {O L : Type 0} (side : Sink L) (output : Sink O) (out : L → O) (run :
         whole : AreWhole run.plan run.config end.marks
         whole =
             record {
-              threads = e.outcome.marks_are.threads ∙ ap (λ (n : ℕ). range_with_len 1 n) all;
+              threads = e.threads ∙ ap (λ (n : ℕ). range_with_len 1 n) all;
               whole = e.whole;
               counted = e.outcome.marks_are.counted;
             }
 
     -- It was closed before a thread made a write.
-    pub unwritten-end : (opened : ℕ) (marks : List Marks) (end : Fate) (l : L) → run.plan.writes ≤ WRITES → opened ≤ run.plan.threads → HasEnded side run sample (writes_of run.plan) opened 0 marks end l
+    pub unwritten-end : (opened : ℕ) (marks : List Marks) (end : Fate) (l : L) → run.plan.writes ≤ WRITES → opened ≤ run.plan.threads → HasEndedAt side run sample (writes_of run.plan) opened 0 fate.OutOfMemory marks end l
         → IsTrue (output.tells_taken old) → TookUnwritten run.info run.plan run.config (output.taken old) (output.taken (out l))
     unwritten-end opened marks end l most few e told =
         record {
           marks = marks;
-          unwritten = record { count = opened; few = few; threads = e.outcome.marks_are.threads; whole = e.whole };
+          unwritten = record { count = opened; few = few; threads = e.threads; whole = e.whole };
           took = by (is_fault end) refl;
         }
       where
@@ -144,8 +121,8 @@ module _ {O L : Type 0} (side : Sink L) (output : Sink O) (out : L → O) (run :
 
         by : (b : Bool) → is_fault end ≡ b
             → TookSome run.info run.plan run.config marks (output.taken old) (output.taken (out l)) ⊎ TookTrace run.info run.plan run.config marks (output.taken old) (output.taken (out l))
-        by true is = inl (inr (took-part laws e.before marks l e.begins e.outcome.part told))
-        by false is = inr (took-whole laws e.before marks l e.begins (e.outcome.whole is few_writes) told)
+        by true is = inl (inr (took-part laws marks l e.outcome.part told))
+        by false is = inr (took-whole laws marks l (e.outcome.whole is few_writes) told)
 
 -- ---- a session that was not begun
 
@@ -180,12 +157,13 @@ module _ {O : Type 0} (run : RunState) (laws : Laws run.plan run.config) (output
   pub unwritten-start : TookStart (λ _. run.tells) output.taken [] run.info old new → IsTrue (output.tells_taken old) → TookUnwritten run.info run.plan run.config (output.taken old) (output.taken new)
   unwritten-start start told = record { marks = []; unwritten = no-marks run.plan; took = inl (start-some start told) }
 
-  pub traces-none : (end : TraceEnd) → end.rows.items ≡ rows_of run.plan → end.marks ≡ [] → end.fate ≡ fate.LinkFault → HasRisen (output.write_faults old) (output.write_faults new)
+  pub traces-none : (end : TraceEnd) → end.rows.items ≡ rows_of run.plan → end.marks ≡ [] → end.seat ≡ None → end.fate ≡ fate.LinkFault → HasRisen (output.write_faults old) (output.write_faults new)
       → TookStart (λ _. run.tells) output.taken [] run.info old new → Traced output run.info run.plan run.config old new end
-  traces-none end rows none link risen start =
+  traces-none end rows none no_seat link risen start =
       record {
         rows = rows;
         marks = inr (link, none);
+        spent = subst (HasSpent run.config end.marks) (sym no_seat) none;
         whole = λ is. absurd (not-ended (sym link ∙ is));
         part = λ is told. subst (λ (ms : List Marks). TookSome run.info run.plan run.config ms (output.taken old) (output.taken new)) (sym none) (start-some start told);
         not_asked = λ conn is. not-asked conn (sym link ∙ is);
@@ -217,9 +195,9 @@ pub traces-memory : {O E : Type 0} (output : Sink O) (info : TraceInfo) (plan : 
 traces-memory output info plan config old new error unwritten = record { ended = tt; memory = unwritten }
 
 -- What was said of the session says what is answered.
-pub traces-by : {O E : Type 0} (output : Sink O) (info : TraceInfo) (plan : Plan) (config : Config) (old new : O) (result : Result TraceEnd E) (Rows Ends : TraceEnd → Type 0) (Begins : Type 0)
-    → ((end : TraceEnd) → Rows end → Ends end → Traced output info plan config old new end)
+pub traces-by : {O E : Type 0} (output : Sink O) (info : TraceInfo) (plan : Plan) (config : Config) (old new : O) (result : Result TraceEnd E) (Rows Ends Spent : TraceEnd → Type 0) (Begins : Type 0)
+    → ((end : TraceEnd) → Rows end → Ends end → Spent end → Traced output info plan config old new end)
     → (Begins → IsTrue (output.tells_taken old) → TookUnwritten info plan config (output.taken old) (output.taken new))
-    → IfOk result Rows → IfOk result Ends → OnErr result Begins → Traces output info plan config old new result
-traces-by output info plan config old new (Ok end) Rows Ends Begins traced unwritten rows ends begins = record { ended = traced end rows ends; memory = tt }
-traces-by output info plan config old new (Err error) Rows Ends Begins traced unwritten rows ends begins = record { ended = tt; memory = unwritten begins }
+    → IfOk result Rows → IfOk result Ends → IfOk result Spent → OnErr result Begins → Traces output info plan config old new result
+traces-by output info plan config old new (Ok end) Rows Ends Spent Begins traced unwritten rows ends spent begins = record { ended = traced end rows ends spent; memory = tt }
+traces-by output info plan config old new (Err error) Rows Ends Spent Begins traced unwritten rows ends spent begins = record { ended = tt; memory = unwritten begins }

@@ -1,69 +1,114 @@
--- What a run's session is once it is closed on all rows, and how it ends.
-use Rattle.std.proofs.Common.{◌≡◌, ◌≢◌, ℕ, ◌≤◌, ⊎_elim, true, false, List, None, Some, refl, sym, ap, ◌∙◌}
-use Rattle.std.specs.Prelude.{Bool, ◌==◌, Result, Ok, Err}
-use Rattle.std.proofs.lemmas.Bool.{cases_lt, eqb-true, eqb-false}
-use Rattle.nt_write.specs.declared.fault.Fault.{Fault}
-use Rattle.nt_write.specs.declared.fault.Fault.TheVariants.{WriteFault, TooLong, OutOfMemory}
+-- What a run's session is at its end, by what its stream says of it.
+use Rattle.std.proofs.Common.{◌≡◌, ◌≢◌, ◌∙◌, ◌⊎◌, inl, inr, ℕ, ◌≤◌, true, false, List, map, sym, ap, subst}
+use Rattle.std.specs.List.{range_with_len, sum_by, AllByRecursion}
+use Rattle.ep_defs.specs.declared.event.EventDef.{EventDef}
+use Rattle.ep_defs.specs.declared.session.Config.{Config}
+use Rattle.ep_defs.specs.declared.session.Marks.{Marks}
+use Rattle.ep_defs.specs.declared.session.Write.{Write}
+use Rattle.pt_io.specs.declared.sink.Sink.{Ghosts as Sink}
+use Rattle.ep_live.specs.Free.{EndedState}
+use Rattle.ep_pool.specs.Shared.{SeatState}
 use Rattle.ep_stream.specs.declared.session.Fate.{Fate}
 use Rattle.ep_stream.specs.declared.session.Fate.TheVariants as fate
-use Rattle.ep_stream.specs.declared.session.Session.{Session}
-use Rattle.ep_stream.specs.Fates.{fate_after}
-use Rattle.ep_stream.specs.Session.{Ended, sink_of, hand_on}
-use Rattle.ep_live.specs.RowSet.{LiveRowsState, expected_in, out_in}
-use Rattle.pt_live.specs.state.Ended.{EndsWell}
-use Rattle.pt_live.specs.state.Open.{IsOpen, SaysFaults}
-use Rattle.ep_stream.proofs.Telling.{later_risen, risen_later}
+use Rattle.ep_stream.specs.declared.session.SessionEnd.{SessionEnd}
+use Rattle.ep_live_laws.specs.Calls.{IsOutcome}
+use Rattle.ep_live_laws.specs.Tracing.{is_fault}
+use Rattle.pt_stream.specs.End.{HasEnded, Leaves}
+use Rattle.pt_stream.specs.Setting.{Setting, watch_of}
+use Rattle.pt_stream.specs.State.{EndsAt, StreamState}
+use Rattle.pt_live.specs.Trace.{IsSpent}
+use Rattle.pt_live.specs.state.Ended.{HasEndedAt}
+use Rattle.pt_live.specs.state.Open.{IsOpenOn}
+use Rattle.pt_live.specs.state.Run.{RunState, setting_of}
+use Rattle.pt_live.proofs.Firsts.{few-threads, threads-opened, whole-marks}
 
--- ---- the rows
+-- ---- what it was to end by
 
-pub closed-hands : {S : Type 0} (rows high : ℕ) (set : LiveRowsState) (session : Session S) → IsOpen rows high high set session → (row : ℕ) → hand_on session row ≡ None
-closed-hands rows high set session o row = ⊎_elim (λ over. o.hands.above row over) (λ under. o.hands.below row under) (cases_lt high row)
+-- It was to end out of memory, or with the program.
+pub own-end : (handed : Fate) → (handed ≡ fate.OutOfMemory) ⊎ (handed ≡ fate.ProgramEnd) → (handed ≢ fate.LinkFault) × (handed ≢ fate.TooLong)
+own-end handed (inl is) = ((λ other. memory-link (sym is ∙ other)), (λ other. memory-long (sym is ∙ other)))
+  where
+    memory-link : fate.OutOfMemory ≡ fate.LinkFault → ⊥
+    memory-link e = cc
 
-by-slot : (P : Type 0) (slot : ℕ) → (slot ≡ 0 → P) → (slot ≢ 0 → P) → P
-by-slot P slot own other =
-    elim (slot == 0) as (λ v. (slot == 0) ≡ v → P) [
-      | true ↦ λ e. own (eqb-true slot 0 e)
-      | false ↦ λ e. other (eqb-false slot 0 e)
-    ]
-    refl
+    memory-long : fate.OutOfMemory ≡ fate.TooLong → ⊥
+    memory-long e = cc
+own-end handed (inr is) = ((λ other. end-link (sym is ∙ other)), (λ other. end-long (sym is ∙ other)))
+  where
+    end-link : fate.ProgramEnd ≡ fate.LinkFault → ⊥
+    end-link e = cc
 
-pub closed-expected : {S : Type 0} (rows high : ℕ) (set : LiveRowsState) (session : Session S) → IsOpen rows high high set session → (row slot : ℕ) → expected_in set row slot ≡ None
-closed-expected rows high set session o row slot =
-    by-slot (expected_in set row slot ≡ None) slot
-    (λ is. ap (λ (s : ℕ). expected_in set row s) (is ∙ sym o.slot) ∙ o.own.hands row ∙ closed-hands rows high set session o row)
-    (λ not. o.no_hands row slot not)
+    end-long : fate.ProgramEnd ≡ fate.TooLong → ⊥
+    end-long e = cc
 
-pub none-out : {S : Type 0} (rows low high : ℕ) (set : LiveRowsState) (session : Session S) → IsOpen rows low high set session → (slot : ℕ) → out_in set slot ≡ 0
-none-out rows low high set session o slot =
-    by-slot (out_in set slot ≡ 0) slot
-    (λ is. ap (λ (s : ℕ). out_in set s) (is ∙ sym o.slot) ∙ o.own.chunks ∙ o.empty)
-    (λ not. o.none_out slot not)
+-- Nobody asks for it.
+pub never-asked : (handed : Fate) → (handed ≡ fate.OutOfMemory) ⊎ (handed ≡ fate.ProgramEnd) → (conn : ℕ) → handed ≢ fate.Requested conn
+never-asked handed (inl is) conn other = memory-asked (sym is ∙ other)
+  where
+    memory-asked : fate.OutOfMemory ≡ fate.Requested conn → ⊥
+    memory-asked e = cc
+never-asked handed (inr is) conn other = end-asked (sym is ∙ other)
+  where
+    end-asked : fate.ProgramEnd ≡ fate.Requested conn → ⊥
+    end-asked e = cc
 
--- ---- the fate
+-- Out of memory is a fault, and is not the program's end.
+pub faulty-memory : (handed : Fate) → handed ≡ fate.OutOfMemory → is_fault handed ≡ false → ⊥
+faulty-memory handed is sound = true-false (sym (ap is_fault is) ∙ sound)
+  where
+    true-false : true ≡ false → ⊥
+    true-false e = cc
 
-link-answer : (answer : Result (Unit {0}) Fault) → fate_after answer fate.ProgramEnd ≡ fate.LinkFault → answer ≡ Err WriteFault
-link-answer (Ok u) is = cc
-link-answer (Err WriteFault) is = refl
-link-answer (Err TooLong) is = cc
-link-answer (Err OutOfMemory) is = cc
+pub memory-apart : (handed : Fate) → handed ≡ fate.OutOfMemory → handed ≡ fate.ProgramEnd → ⊥
+memory-apart handed is other = apart (sym is ∙ other)
+  where
+    apart : fate.OutOfMemory ≡ fate.ProgramEnd → ⊥
+    apart e = cc
 
-never-asked : (answer : Result (Unit {0}) Fault) (conn : ℕ) → fate_after answer fate.ProgramEnd ≡ fate.Requested conn → ⊥
-never-asked (Ok u) conn is = cc
-never-asked (Err WriteFault) conn is = cc
-never-asked (Err TooLong) conn is = cc
-never-asked (Err OutOfMemory) conn is = cc
+-- ---- what it comes to
 
-pub ends-well : {S : Type 0} (tells : S → Bool) (taken : S → List ℕ) (faults : S → ℕ) (was stamp : ℕ) (session : Session S) (end : Fate) (sink : S)
-    → Ended tells taken faults stamp fate.ProgramEnd session end sink → faults (sink_of session) ≤ faults sink → SaysFaults faults was session → EndsWell faults was end sink
-ends-well tells taken faults was stamp session end sink e up says =
+module _ {S : Type 0} (side : Sink S) (run : RunState) (events : List EventDef) (writes : ℕ → List Write) where
+  -- The session as one of the run.
+  of-run : (rows : ℕ) (setting : Setting) (config : Config) (id : ℕ) (stream : StreamState) (handed : Fate) (end : SessionEnd S) → rows ≡ run.plan.threads → setting ≡ setting_of run → config ≡ run.config
+      → HasEnded side (watch_of rows events writes setting config id) rows setting.lives (setting.faults id) stream handed end
+      → HasEnded side (watch_of run.plan.threads events writes (setting_of run) run.config 1) rows 1 run.faults stream handed end
+  of-run rows setting config id stream handed end rows_are setting_is config_is e =
+      subst (λ (n : ℕ). HasEnded side (watch_of n events writes (setting_of run) run.config 1) rows 1 run.faults stream handed end) rows_are
+      (subst (λ (c : Config). HasEnded side (watch_of rows events writes (setting_of run) c id) rows 1 run.faults stream handed end) config_is
+      (subst (λ (s : Setting). HasEnded side (watch_of rows events writes s config id) rows s.lives (s.faults id) stream handed end) setting_is e))
+
+  -- It was open on the first rows, each in its first life, and was closed there when each thread had made so many writes.
+  pub ended-at : (rows opened to : ℕ) (setting : Setting) (stream : StreamState) (handed : Fate) (end : SessionEnd S) → rows ≡ run.plan.threads → setting ≡ setting_of run → opened ≤ rows
+      → IsOpenOn run rows opened opened stream → AllByRecursion (EndsAt to) stream.marks → ((conn : ℕ) → handed ≢ fate.Requested conn)
+      → HasEnded side (watch_of rows events writes setting stream.config stream.id) rows setting.lives (setting.faults stream.id) stream handed end
+      → HasEndedAt side run events writes opened to handed end.marks end.fate end.sink
+  ended-at rows opened to setting stream handed end rows_are setting_is few o ends not_asked has =
+      let e = of-run rows setting stream.config stream.id stream handed end rows_are setting_is o.config_is has in
+      let early = e.early o.early in
+      let threads = threads-opened run rows opened stream (map (λ mark. mark.thread) stream.marks) o e.served early.first in
+      subst (λ (ms : List Marks). HasEndedAt side run events writes opened to handed ms end.fate end.sink) (sym e.marks_are)
+      (record {
+        threads = threads;
+        whole = whole-marks rows to stream.marks (few-threads rows opened (map (λ mark. mark.thread) stream.marks) few threads) early.from ends;
+        outcome = subst
+            (λ (ts : List ℕ). IsOutcome side (watch_of run.plan.threads events writes (setting_of run) run.config 1) ts handed stream.marks end.fate end.sink)
+            threads
+            e.outcome;
+        well =
+            record {
+              link_fault = e.link_fault;
+              wrote = e.wrote;
+              not_asked = λ conn is. not_asked conn (sym (e.fate_is (ap is_fault is)) ∙ is);
+            };
+      })
+
+-- Its pool has the chunks that were asked for, all of them back, and was found dry as often as the marks tell.
+pub spent-so : {S : Type 0} (config : Config) (stream : StreamState) (end : SessionEnd S) (left : EndedState) (seat : SeatState) → stream.config ≡ config → end.marks ≡ stream.marks → Leaves stream left
+    → seat ≡ left.seat → seat.share ≡ seat.seats → seat.taken ≡ seat.given → seat.total ≡ left.grant.config.chunks → IsSpent config end.marks seat
+spent-so config stream end left seat config_is marks_are leaves seat_is alone back chunks =
     record {
-      link_fault = λ is.
-          ⊎_elim
-          (λ before. later_risen was (faults (sink_of session)) (faults sink) up (says.fault before))
-          (λ rose. risen_later was (faults (sink_of session)) (faults sink) says.later rose)
-          (e.write_fault (link-answer e.answer (sym e.fate_is ∙ is)));
-      wrote = λ not.
-          let sound : e.answer ≢ Err WriteFault = λ is. not (e.fate_is ∙ ap (λ (a : Result (Unit {0}) Fault). fate_after a fate.ProgramEnd) is) in
-          e.wrote sound ∙ says.wrote (λ is. sound (e.stays WriteFault is));
-      not_asked = λ conn is. never-asked e.answer conn (sym e.fate_is ∙ is);
+      alone = alone;
+      back = back;
+      chunks = chunks ∙ ap (λ (c : Config). c.chunks) (leaves.config_is ∙ config_is);
+      dry = ap (λ (s : SeatState). s.dry) seat_is ∙ leaves.spent ∙ ap (λ (ms : List Marks). sum_by (λ mark. mark.refused) ms) (sym marks_are);
     }

@@ -1,101 +1,122 @@
--- Threads in their first lives, opened one after the other.
-use Rattle.std.proofs.Common.{◌≡◌, ◌∙◌, ℕ, zero, suc, ◌+◌, ◌-◌, ◌<◌, ◌≤◌, ⊎_elim, Bool, true, false, List, [], ◌∷◌, None, refl, sym, ap, subst, arith}
-use Rattle.std.specs.Prelude.{◌==◌, ◌||◌, nat_lt, if◌then◌else◌, replicate, slice_index}
-use Rattle.std.specs.List.{list_any, range_with_len}
-use Rattle.std.proofs.lemmas.Bool.{cases_lt, eqb-true, ltb-true}
-use Rattle.std.proofs.lemmas.List.{get_or-replicate, get_or_past, length-replicate}
-use Rattle.std.proofs.lemmas.Option.{none-some}
-use Rattle.ep_defs.specs.declared.session.Config.{Config}
+-- The threads of a session that was open on the first rows, each in its first life.
+use Rattle.std.proofs.Common.{◌≡◌, ◌∙◌, ℕ, zero, suc, ◌+◌, ◌-◌, ◌<◌, ◌≤◌, ⊎_elim, inl, inr, true, false, List, [], ◌∷◌, length, map, refl, sym, ap, subst, arith}
+use Rattle.std.specs.Prelude.{◌==◌}
+use Rattle.std.specs.List.{list_any, range_with_len, AllByRecursion}
+use Rattle.std.proofs.lemmas.Bool.{cases_lt, eq-eqb, eqb-true, or_cases, or_left, or_right}
+use Rattle.ep_defs.specs.declared.session.Marks.{Marks}
+use Rattle.ep_defs.specs.declared.session.Write.{Write}
 use Rattle.ep_guarded.specs.Tied.{thread_of}
-use Rattle.ep_guarded.proofs.Lives.{first-life}
-use Rattle.ep_live.specs.RowSet.{LiveRowsState, life_at}
-use Rattle.ep_model.specs.History.{insert_ascending}
-use Rattle.pt_io.specs.declared.sink.Sink.{Ghosts as Sink}
-use Rattle.ep_stream.specs.declared.session.Seat.{Seat}
-use Rattle.ep_stream.specs.declared.session.Session.{Session}
-use Rattle.ep_stream.specs.Session.{Rest, hand_on, new_rest, rest_of}
-use Rattle.ep_live_laws.specs.Calls.{TellsSame}
-use Rattle.ep_live_laws.specs.Tracing.{IsOneOf, Watch}
-use Rattle.pt_live.specs.state.Open.{AreFirst, IsOpen}
+use Rattle.ep_live_laws.specs.Tracing.{AreAscending, IsOneOf}
+use Rattle.pt_stream.specs.declared.place.Place.{Place}
+use Rattle.pt_stream.specs.End.{AreServed, IsFromFirst}
+use Rattle.pt_stream.specs.State.{EndsAt, IsDone, StreamState, place_at}
+use Rattle.pt_stream.proofs.Lives.{first-of}
+use Rattle.pt_live.specs.Trace.{IsWhole}
+use Rattle.pt_live.specs.state.Open.{IsOpenOn}
+use Rattle.pt_live.specs.state.Run.{RunState}
 
--- A number that is in a range is below its end.
-in-range : (first n t : ℕ) → IsOneOf (range_with_len first n) t → t < first + n
-in-range first zero t is = cc
-in-range first (suc n) t is =
-    elim (first == t) as (λ v. (first == t) ≡ v → (v || list_any (λ x. x == t) (range_with_len (first + 1) n)) ≡ true → t < first + suc n) [
-      | true ↦ λ e _. let same = eqb-true first t e in omega (arith, same)
-      | false ↦ λ e rest. let below = in-range (first + 1) n t rest in omega (arith, below)
+-- ---- lists of threads
+
+one-first : (t : ℕ) (threads : List ℕ) → IsOneOf (t ∷ threads) t
+one-first t threads = or_left (t == t) (list_any (λ x. x == t) threads) (eq-eqb t t refl)
+
+one-later : (first t : ℕ) (threads : List ℕ) → IsOneOf threads t → IsOneOf (first ∷ threads) t
+one-later first t threads is = or_right (first == t) (list_any (λ x. x == t) threads) is
+
+one-behind : (first t : ℕ) (threads : List ℕ) → (first ≡ t → ⊥) → IsOneOf (first ∷ threads) t → IsOneOf threads t
+one-behind first t threads other is =
+    elim (or_cases (first == t) (list_any (λ x. x == t) threads) is) [
+      | inl same ↦ absurd (other (eqb-true first t same))
+      | inr later ↦ later
     ]
-    refl
-    is
 
--- The next thread is none of those before it.
-pub next-apart : (n : ℕ) → IsOneOf (range_with_len 1 n) (n + 1) → ⊥
-next-apart n is = let below = in-range 1 n (n + 1) is in absurd (omega (arith, below))
-
-not-below : (a b : ℕ) → b ≤ a → nat_lt a b ≡ false
-not-below a b high =
-    elim (nat_lt a b) as (λ v. nat_lt a b ≡ v → v ≡ false) [
-      | true ↦ λ e. let low = ltb-true a b e in absurd (omega (arith, low, high))
-      | false ↦ λ e. refl
+above : (first t : ℕ) (threads : List ℕ) → AllByRecursion (λ m. first < m) threads → IsOneOf threads t → first < t
+above first t [] up is = cc
+above first t (x ∷ threads) up is =
+    elim (or_cases (x == t) (list_any (λ y. y == t) threads) is) [
+      | inl same ↦ subst (λ (m : ℕ). first < m) (eqb-true x t same) up.0
+      | inr later ↦ above first t threads up.1 later
     ]
-    refl
 
-insert-next : (first n : ℕ) → insert_ascending (first + n) (range_with_len first n) ≡ range_with_len first (suc n)
-insert-next first zero = ap (λ (k : ℕ). k ∷ []) (omega arith)
-insert-next first (suc n) =
-    let up : (first + 1) + n ≡ first + suc n = omega arith in
-    ap (λ (v : Bool). if v then (first + suc n) ∷ first ∷ range_with_len (first + 1) n else first ∷ insert_ascending (first + suc n) (range_with_len (first + 1) n)) (not-below (first + suc n) first (omega arith))
-    ∙ ap (λ (k : ℕ). first ∷ insert_ascending k (range_with_len (first + 1) n)) (sym up)
-    ∙ ap (λ ks. first ∷ ks) (insert-next (first + 1) n)
-
--- With the next thread the session was opened on one more.
-pub opens-next : {S : Type 0} (side : Sink S) (watch : Watch) (n : ℕ) (old new : Session S)
-    → TellsSame side watch (range_with_len 1 n) (insert_ascending (n + 1) (range_with_len 1 n)) old new → TellsSame side watch (range_with_len 1 n) (range_with_len 1 (n + 1)) old new
-opens-next side watch n old new same =
-    let place : n + 1 ≡ 1 + n = omega arith in
-    let count : suc n ≡ n + 1 = omega arith in
-    let next : insert_ascending (n + 1) (range_with_len 1 n) ≡ range_with_len 1 (n + 1) =
-    ap (λ (k : ℕ). insert_ascending k (range_with_len 1 n)) place ∙ insert-next 1 n ∙ ap (λ (k : ℕ). range_with_len 1 k) count
-    in
-    subst (λ (threads : List ℕ). TellsSame side watch (range_with_len 1 n) threads old new) next same
-
--- A row in its first life serves the thread with its number.
-pub served : (rows : ℕ) (set : LiveRowsState) (place : ℕ) → ((row : ℕ) → life_at set row ≡ 0) → thread_of rows (place + 1 - 1) (life_at set (place + 1)) ≡ place + 1
-served rows set place lives =
-    ap (λ (life : ℕ). thread_of rows (place + 1 - 1) life) (lives (place + 1)) ∙ first-life rows (place + 1 - 1) ∙ omega arith
-
--- A session that was just started, over rows on which none was open.
-pub open-first : {S : Type 0} (rows : ℕ) (set : LiveRowsState) (session : Session S) (seat : Seat) (config : Config)
-    → seat.slot ≡ 0 → ((row : ℕ) → hand_on session row ≡ None) → rest_of session ≡ new_rest seat config → AreFirst rows set → IsOpen rows 0 0 set session
-open-first rows set session seat config slot none rest first =
-    let empty = ap (λ (r : Rest). r.in_hand) rest in
-    record {
-      ordered = omega arith;
-      hands =
-          record {
-            some = λ row low top. absurd (omega (arith, low, top));
-            below = λ row low. none row;
-            above = λ row top. none row;
-            from = λ row hand is. absurd (none-some hand (sym (none row) ∙ is));
-          };
-      own =
-          record {
-            hands = λ row. first.closed row _ ∙ sym (none row);
-            configs = λ row hand is. absurd (none-some hand (sym (none row) ∙ is));
-            chunks = first.given _ ∙ sym empty;
-          };
-      count = first.count;
-      slot = ap (λ (r : Rest). r.seat.slot) rest ∙ slot;
-      empty = empty;
-      no_hands = λ row s not. first.closed row s;
-      none_out = λ s not. first.given s;
-    }
-
--- Where all are 0 each is.
-pub none-first : (rows k : ℕ) → slice_index (replicate rows 0) k ≡ 0
-none-first rows k =
+-- An ascending list that has each number of a range, and no other, is the range.
+range-of : (first n : ℕ) (threads : List ℕ) → AreAscending threads → ((t : ℕ) → IsOneOf threads t → (first ≤ t) × (t < first + n)) → ((t : ℕ) → first ≤ t → t < first + n → IsOneOf threads t)
+    → threads ≡ range_with_len first n
+range-of first zero [] up each all = refl
+range-of first zero (t ∷ threads) up each all = let in_range = each t (one-first t threads) in absurd (omega (arith, in_range.0, in_range.1))
+range-of first (suc n) [] up each all = absurd (none (all first (omega arith) (omega arith)))
+  where
+    none : IsOneOf [] first → ⊥
+    none is = cc
+range-of first (suc n) (t ∷ threads) up each all =
+    let in_range = each t (one-first t threads) in
+    let low : t ≤ first =
     ⊎_elim
-    (λ (small : k < rows). get_or-replicate rows k 0 0 small)
-    (λ (past : rows ≤ k). get_or_past (replicate rows 0) k 0 (let long = length-replicate {A = ℕ} rows 0 in omega (arith, long, past)))
-    (cases_lt k rows)
+    (λ (over : first < t). absurd (let past = above t first threads up.0 (one-behind t first threads (λ (is : t ≡ first). omega (arith, over, is)) (all first (omega arith) (omega arith))) in omega (arith, over, past)))
+    (λ (under : t ≤ first). under)
+    (cases_lt first t)
+    in
+    let is : t ≡ first = omega (arith, low, in_range.0) in
+    let rest = range-of (first + 1) n threads up.1
+    (λ x here.
+    let past = above t x threads up.0 here in
+    let within = each x (one-later t x threads here) in (
+      omega (arith, past, is),
+      omega (arith, within.1),
+    ))
+    (λ x from to. one-behind t x threads (λ (same : t ≡ x). omega (arith, same, from, is)) (all x (omega (arith, from)) (omega (arith, to))))
+    in
+    ap (λ (k : ℕ). k ∷ threads) is ∙ ap (λ (ks : List ℕ). first ∷ ks) rest
+
+-- ---- a session that was open on the first rows
+
+-- Its threads are those of the rows on which it was open.
+pub threads-opened : (run : RunState) (rows opened : ℕ) (stream : StreamState) (threads : List ℕ) → IsOpenOn run rows opened opened stream → AreServed rows stream.places threads
+    → ((row : ℕ) → 0 < row → 0 < (place_at stream.places row).next → IsOneOf threads row) → threads ≡ range_with_len 1 opened
+threads-opened run rows opened stream threads o served first =
+    range-of 1 opened threads served.ascending
+    (λ t is.
+    let s = served.each t is in
+    let within : s.row ≤ opened =
+    ⊎_elim
+    (λ (past : opened < s.row). absurd (let none : (place_at stream.places s.row).next ≡ 0 = ap (λ (p : Place). p.next) (o.none s.row past) in let life = s.opened in omega (arith, none, life)))
+    (λ (under : s.row ≤ opened). under)
+    (cases_lt opened s.row)
+    in
+    let next : (place_at stream.places s.row).next ≡ 1 = ap (λ (p : Place). p.next) (o.closed s.row s.some within) in
+    let life : s.life ≡ 0 = let below = s.opened in omega (arith, next, below) in
+    let row : t ≡ s.row = s.thread_is ∙ ap (λ (l : ℕ). thread_of rows (s.row - 1) l) life ∙ first-of rows s.row s.some in
+    let some = s.some in (
+      omega (arith, row, some),
+      omega (arith, row, within),
+    ))
+    (λ t low high. first t (omega (arith, low)) (subst (λ (p : Place). 0 < p.next) (sym (o.closed t (omega (arith, low)) (omega (arith, high)))) (omega arith)))
+
+-- Each of them is one of the rows' first threads.
+pub few-threads : (rows opened : ℕ) (threads : List ℕ) → opened ≤ rows → threads ≡ range_with_len 1 opened → (t : ℕ) → IsOneOf threads t → t ≤ rows
+few-threads rows opened threads few is t one =
+    let below = in-range 1 opened t (subst (λ (ts : List ℕ). IsOneOf ts t) is one) in
+    omega (arith, few, below)
+  where
+    in-range : (first n x : ℕ) → IsOneOf (range_with_len first n) x → x < first + n
+    in-range first zero x there = cc
+    in-range first (suc n) x there =
+        elim (or_cases (first == x) (list_any (λ y. y == x) (range_with_len (first + 1) n)) there) [
+          | inl same ↦ let here = eqb-true first x same in omega (arith, here)
+          | inr later ↦ let low = in-range (first + 1) n x later in omega (arith, low)
+        ]
+
+-- ---- marks
+
+-- The marks of threads of a first life, which were opened before their first write, are from there.
+pub whole-marks : (rows to : ℕ) (marks : List Marks) → ((t : ℕ) → IsOneOf (map (λ mark. mark.thread) marks) t → t ≤ rows) → AllByRecursion (IsFromFirst rows) marks → AllByRecursion (EndsAt to) marks
+    → AllByRecursion (IsWhole to) marks
+whole-marks rows to [] few from ends = tt
+whole-marks rows to (mark ∷ marks) few from ends = (
+  record { from = from.0 (few mark.thread (one-first mark.thread (map (λ (m : Marks). m.thread) marks))); to_is = ends.0 },
+  whole-marks rows to marks (λ t is. few t (one-later mark.thread t (map (λ (m : Marks). m.thread) marks) is)) from.1 ends.1,
+)
+
+-- Where each thread makes so many writes, marks that end there are of threads that made all.
+pub all-done : (writes : ℕ → List Write) (to : ℕ) (marks : List Marks) → ((thread : ℕ) → length (writes thread) ≡ to) → AllByRecursion (EndsAt to) marks → AllByRecursion (IsDone writes) marks
+all-done writes to [] long ends = tt
+all-done writes to (mark ∷ marks) long ends = (ends.0 ∙ sym (long mark.thread), all-done writes to marks long ends.1)

@@ -1,8 +1,7 @@
 pub mod Load
 pub mod Lists
-pub mod Hands
-pub mod Steps
-pub mod Ending
+pub mod Opening
 pub mod Firsts
+pub mod Ending
 pub mod Long
 pub mod Answering

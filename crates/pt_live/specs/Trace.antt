@@ -1,5 +1,5 @@
 -- What a run of the sample program comes to (this project's theorem).
-use Rattle.std.specs.Prelude.{◌≡◌, ◌≢◌, ℕ, ◌*◌, ◌<◌, ◌≤◌, ◌⊎◌, true, List, [], ◌++◌, length, map, Some, IsTrue, Result, IfOk, OnErr}
+use Rattle.std.specs.Prelude.{◌≡◌, ◌≢◌, ℕ, ◌*◌, ◌<◌, ◌≤◌, ◌⊎◌, true, List, [], ◌++◌, length, map, Option, None, Some, IsTrue, Result, IfOk, OnErr}
 use Rattle.std.specs.List.{range_with_len, sum_by, AllByRecursion}
 use Rattle.ep_defs.specs.declared.session.Config.{Config}
 use Rattle.ep_defs.specs.declared.session.Marks.{Marks}
@@ -10,6 +10,7 @@ use Rattle.pt_io.specs.declared.sink.Sink.{Ghosts as Sink}
 use Rattle.pt_io.specs.Faults.{HasRisen}
 use Rattle.nt_write.specs.declared.limits.TheConstants.{FRAMED_EVENTS}
 use Rattle.ep_guarded.specs.Tied.{AreCounted}
+use Rattle.ep_pool.specs.Shared.{SeatState}
 use Rattle.ep_stream.specs.declared.session.Fate.{Fate}
 use Rattle.ep_stream.specs.declared.session.Fate.TheVariants as fate
 use Rattle.ep_live_laws.specs.Streams.{IsPartOf, IsTraceOf}
@@ -65,6 +66,27 @@ pub record IsLong (plan : Plan) (config : Config) (marks : List Marks) : Type 0 
   pub admitted : taken_of marks ≤ sum_by (admitted_of plan config) (threads_of plan)
   pub written : sum_by (admitted_of plan config) (threads_of plan) ≤ plan.threads * plan.writes
 
+-- ---- why it had no more
+
+-- How many events were refused of all threads.
+abbrev pub refused_of : List Marks → ℕ
+refused_of marks = sum_by (λ mark. mark.refused) marks
+
+-- A seat that has all shares of a pool, to which each chunk has come back. The pool had the chunks of the session's budget, and
+-- was found dry once for each event that was refused.
+pub record IsSpent (config : Config) (marks : List Marks) (seat : SeatState) : Type 0 where
+  pub alone : seat.share ≡ seat.seats
+  pub back : seat.taken ≡ seat.given
+  pub chunks : seat.total ≡ config.chunks
+  pub dry : seat.dry ≡ refused_of marks
+
+-- There is such a seat, but where the session was open on no thread.
+abbrev pub HasSpent : Config → List Marks → Option SeatState → Type 0
+HasSpent config marks None = marks ≡ []
+HasSpent config marks (Some seat) = IsSpent config marks seat
+
+-- ---- a session that was not open to the end
+
 -- The session was open on some of the threads, the first ones, and none of them had made a write.
 pub record AreUnwritten (plan : Plan) (marks : List Marks) : Type 0 where
   pub count : ℕ
@@ -104,6 +126,8 @@ pub record Traced {O : Type 0} (sink : Sink O) (info : TraceInfo) (plan : Plan) 
   -- each thread has made all its writes
   pub rows : end.rows.items ≡ rows_of plan
   pub marks : HasMarks plan config end.fate end.marks
+  -- the session's pool had the budget's chunks, all of them back, and was found dry once for each event that was refused
+  pub spent : HasSpent config end.marks end.seat
   -- where nothing failed the output took the whole stream, and else a part of one
   pub whole : end.fate ≡ fate.ProgramEnd → IsTrue (sink.tells_taken old) → TookTrace info plan config end.marks (sink.taken old) (sink.taken new)
   pub part : is_fault end.fate ≡ true → IsTrue (sink.tells_taken old) → TookSome info plan config end.marks (sink.taken old) (sink.taken new)

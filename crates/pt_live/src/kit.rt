@@ -2,7 +2,7 @@
 ghost use Rattle.std.specs.Prelude.{◌≡◌, ◌≤◌, [], vec_len, vec_capacity};
 ghost use Rattle.pt_live.specs.state.Writers.{AreDrafts};
 
-use crate::run::{Around, Run};
+use crate::run::{Around, TraceRun};
 use crate::writers::{Writer, drafts_of};
 use ep_guarded::Agreed;
 use ep_live::Live;
@@ -12,7 +12,7 @@ use std::alloc::{AllocError, Global};
 
 /// A draft for each thread, and memory for their writers, for the writers' halves, and for what is left of each row.
 #[derive(Drop)]
-pub(crate) struct Kit<'w, 'g, P: Run> {
+pub(crate) struct Kit<'w, 'g, P: TraceRun> {
     pub(crate) live: &'w Live<'g, P>,
     pub(crate) drafts: Vec<Draft>,
     pub(crate) writers: Vec<Writer<'w, 'g, P>>,
@@ -26,7 +26,7 @@ pub(crate) struct Kit<'w, 'g, P: Run> {
     ghost row_room: { P.run.plan.threads ≤ vec_capacity rows },
 }
 
-impl<'w, 'g, P: Run> Kit<'w, 'g, P> {
+impl<'w, 'g, P: TraceRun> Kit<'w, 'g, P> {
     pub(crate) fn new<R, C, G>(
         alloc: Global,
         around: &Around<'_, P, R, C, G>,

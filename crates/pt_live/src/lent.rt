@@ -3,7 +3,7 @@ ghost use Rattle.std.specs.Prelude.{◌≡◌, ◌≤◌, ◌++◌, IsTrue, OnOk
 ghost use Rattle.pt_io.specs.Faults.{HasRisen};
 ghost use Rattle.pt_io.specs.Taken.{TookPartOf};
 
-use crate::run::Run;
+use crate::run::TraceRun;
 use pt_io::{Failed, Sink};
 use std::marker::PhantomData;
 
@@ -45,14 +45,14 @@ impl<O: Sink> Lent<'_, O> {
 /// The output that a run is lent, as the sink of its session's stream. Its type says by which reference, and whether it
 /// tells what it takes, so that what a session hands back at its end is known to be that one.
 #[derive(Drop)]
-pub(crate) struct RunOutput<'o, O: Sink, P: Run> {
+pub(crate) struct RunOutput<'o, O: Sink, P: TraceRun> {
     pub(crate) lent: Lent<'o, O>,
     pub(crate) name: PhantomData<P>,
     ghost same: { lent.output.ghost_name ≡ P.run.loan },
     ghost tells: { O.tells_taken lent.output.now ≡ P.run.tells },
 }
 
-impl<O: Sink, P: Run> Sink for RunOutput<'_, O, P> {
+impl<O: Sink, P: TraceRun> Sink for RunOutput<'_, O, P> {
     ghost tells_taken = { λ _. P.run.tells };
 
     ghost taken = { λ o. O.taken o.lent.output.now };

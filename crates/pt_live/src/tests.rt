@@ -103,6 +103,10 @@ fn two_threads_write_and_all_is_told(rt: HostRuntime) -> Result<(), Fail> {
     };
     assert_eq!(rt; end.marks.as_slice(), [mark(1), mark(2)].as_slice());
     assert!(rt; output.taken().starts_with(b"Nettrace"));
+    let Some(seat) = end.seat else {
+        return Err("a session has a pool")?;
+    };
+    assert!(rt; seat.share() == 3 && seat.taken() == seat.given());
     Ok(())
 }
 
@@ -144,6 +148,7 @@ fn each_failing_write_ends_the_session_and_no_thread(rt: HostRuntime) -> Result<
         assert_eq!(rt; gate.made.load(Ordering::SeqCst), 32);
         let threads = if failing == 1 { 0 } else { 2 };
         assert!(rt; is_whole(end.marks.as_slice(), threads, 16, 16));
+        assert_eq!(rt; end.seat.is_some(), failing > 1);
         if end.fate == Fate::ProgramEnd {
             assert!(rt; failing > 4);
             return Ok(());

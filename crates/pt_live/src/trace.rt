@@ -3,59 +3,54 @@ ghost use Rattle.std.specs.Prelude.{◌≡◌, ◌+◌, ◌*◌, ◌<◌, ◌≤
 ghost use Rattle.ep_defs.specs.declared.limits.TheConstants.{SESSIONS, THREADS as MOST_THREADS, WRITES};
 ghost use Rattle.ep_defs.specs.Session.{is_valid_config};
 ghost use Rattle.ep_guarded.specs.Granted.{IsGrantFor};
-ghost use Rattle.ep_live.specs.Made.{AreHandTies};
+ghost use Rattle.ep_live.specs.Made.{AreHandTies, AreStands};
+ghost use Rattle.pt_stream.specs.State.{first_seat};
 ghost use Rattle.pt_live.specs.Trace.{Traces, writes_of};
-ghost use Rattle.pt_live.specs.state.Open.{AreFirst};
-ghost use Rattle.pt_live.specs.state.Run.{IsLentTo, IsRunOf, TracesOver, first_seat};
+ghost use Rattle.pt_live.specs.state.Run.{IsLentTo, IsRunOf, TracesOver, setting_of};
 
 use crate::kit::Kit;
 use crate::lent::{Lent, RunOutput};
-use crate::run::{Around, Run};
+use crate::run::{Around, TraceRun};
 use crate::session::{streamed, untold};
-use crate::streaming::SESSION;
-use ep_defs::{Config, Duplicate, EventDef, Items, MarkList, TraceInfo};
+use crate::streaming::{SESSION, Streaming};
+use ep_defs::{Config, EventDef, Items, MarkList, TraceInfo};
 use ep_guarded::{Agreed, Grant};
-use ep_live::{Live, LiveRows, ROW_TIES, Stands, free_slots};
-use ep_live_laws::{a_part_is_found, a_session_starts_with_no_trace, a_traced_stream_is_found};
+use ep_live::{Free, Live, ROW_TIES, free_slots};
+use ep_live_laws::{a_part_is_found, a_traced_stream_is_found};
 use ep_pool::{Pool, PoolSeat};
-use ep_stream::{Fate, Seat, Session};
+use ep_stream::Fate;
 use ep_tie::{Blank, Right};
 use nt_write::Fault;
 use pt_io::{Clock, Gate, Sink};
 use pt_load::laws::sample_events_are_valid;
 use pt_load::{Plan, sample_events};
+use pt_stream::{Accepted, NotStarted, Stream};
 use std::alloc::{AllocError, Global};
 use std::marker::{Brand, PhantomData};
 use std::sync::Wait;
 use std::thread::Threads;
 use std::time::Clock as Timer;
 
-/// Where the run's one session is: nobody has asked for it.
-const SEAT: Seat = Seat {
-    slot: 0,
-    id: SESSION,
-    conn: 0,
-};
-
 /// What is left of a run once its threads have ended.
-#[derive(Debug, PartialEq, Eq, Drop)]
+#[derive(Drop)]
 pub struct TraceEnd {
     /// Each row's thread, and how many writes it has made.
     pub rows: Vec<(u64, u32)>,
     /// What the session had of each thread, ascending by thread. There is none where its stream could not be begun.
     pub marks: MarkList,
     pub fate: Fate,
+    /// A seat of the session's pool that has all its shares. There is none where its stream could not be begun.
+    pub seat: Option<PoolSeat>,
 }
 
-// What a run is made of before it has a name: how much is written, the runtime, the clock and the gate, what its session
-// is asked for, the seat of its pool, the ties, and the definitions of the events.
+// What a run is made of before it has a name: how much is written, the runtime, the clock and the gate, the seat of its
+// session's pool, the ties, and the definitions of the events.
 #[derive(Drop)]
 struct Parts<'r, 'g, R, C, G> {
     plan: &'r Plan,
     rt: &'r R,
     clock: &'r C,
     gate: &'r G,
-    config: Config,
     seat: PoolSeat,
     blank: Blank<Agreed<'g>>,
     events: Vec<EventDef>,
@@ -81,13 +76,12 @@ pub fn run_trace<'r, R: Threads + Wait + Timer + Sync, O: Sink, C: Clock, G: Gat
 {
     let events = sample_events(alloc)?;
     let (pool, seat) = Pool::new(rt, alloc, config.chunks, plan.threads + 1)?;
-    let grant = Grant::new(alloc, config.copy(alloc)?, pool, events.as_slice())?;
+    let grant = Grant::new(alloc, config, pool, events.as_slice())?;
     let parts = Parts {
         plan,
         rt,
         clock,
         gate,
-        config,
         seat,
         blank: Blank::new(alloc, plan.threads * (ROW_TIES as u32 + 1))?,
         events,
@@ -102,7 +96,7 @@ pub fn run_trace<'r, R: Threads + Wait + Timer + Sync, O: Sink, C: Clock, G: Gat
 fn run_named<
     'o,
     'g,
-    P: Run + Send + Sync,
+    P: TraceRun + Send + Sync,
     R: Threads + Wait + Timer + Sync,
     O: Sink,
     C: Clock,
@@ -117,14 +111,14 @@ fn run_named<
 ) -> Lent<'o, O>
     requires run { IsRunOf parts.plan.now P.rows P.events P.writes }
     requires writes { P.writes ≡ writes_of P.run.plan }
+    requires setting { P.setting ≡ setting_of P.run }
     requires lent { IsLentTo O.Sink P.run lent.output.ghost_name lent.output.now }
     requires plan { parts.plan.now ≡ P.run.plan }
-    requires asked { (info.now ≡ P.run.info) × (parts.config ≡ P.run.config) }
+    requires asked { (info.now ≡ P.run.info) × (grant.now.config ≡ P.run.config) }
     requires ties { (parts.blank.ties ≡ P.ties) × (parts.blank.places ≡ P.rows + 128 * P.rows) }
     requires events { parts.events.items ≡ P.events }
     requires admitted { IsGrantFor P.events grant.now }
     requires seat { parts.seat ≡ first_seat grant.now.pool (P.rows + 1) }
-    requires granted { grant.now.config ≡ parts.config }
     ensures same { result.output.ghost_name ≡ lent.entry.output.ghost_name }
     ensures traces { TracesOver O.Sink P.run lent.entry.output.now result.output.now answer.new }
 {
@@ -134,7 +128,6 @@ fn run_named<
         rt,
         clock,
         gate,
-        config,
         seat,
         blank,
         events,
@@ -151,59 +144,48 @@ fn run_named<
         clock,
         gate,
         plan,
-        events: live.events(),
         name: PhantomData,
     };
-    let rows = match first_rows(
-        alloc,
-        &around,
-        &live,
-        grant,
-        seat,
-        Stands::new(stands, 0),
-        hands,
-    ) {
-        Ok(rows) => rows,
+    let free = match first_slot(alloc, hands) {
+        Ok(free) => free,
         Err(error) => {
             *answer = Err(error);
             return lent;
         }
     };
-    let (lent, end) = run_over(alloc, &around, &live, rows, config, info, lent);
+    let started = Started {
+        free,
+        grant,
+        pool: seat,
+        threads: stands,
+    };
+    let (lent, end) = run_over(alloc, &around, &live, started, info, lent);
     *answer = end;
     lent
 }
 
-// The life in which each row is expected: its first one.
-fn first_lives(alloc: Global, rows: u32) -> Result<Vec<u32>, AllocError>
-    ensures count { IfOk result (λ lives. vec_len lives ≡ rows) }
-    ensures first { IfOk result (λ lives. lives.items ≡ replicate rows 0) }
-{
-    vec![in alloc; 0u32; rows as usize]
-}
-
-// The rows of the session's slot, on which none was open, each expected in its first life.
-fn first_rows<'r, 'g, P: Run, R: Wait, C, G>(
+// The slot of the run's one session.
+fn first_slot<'g, P: TraceRun>(
     alloc: Global,
-    around: &Around<'r, P, R, C, G>,
-    live: &'r Live<'g, P>,
-    grant: &'g Grant,
-    seat: PoolSeat,
-    stands: Stands<'g, P>,
     hands: Vec<Right<P, Agreed<'g>>>,
-) -> Result<LiveRows<'r, 'g, P, R>, AllocError>
-    requires admitted { IsGrantFor P.events grant.now }
-    requires seat { seat ≡ first_seat grant.now.pool (P.rows + 1) }
-    requires stands { stands ≡ Some 0 }
+) -> Result<Free<'g, P>, AllocError>
     requires count { vec_len hands ≡ P.rows * SESSIONS }
     requires hands { AreHandTies P.rows hands.items }
-    ensures first { IfOk result (AreFirst P.rows) }
-    ensures own { IfOk result (λ rows. (rows.slot ≡ 0) × (rows.grant ≡ grant.now)) }
+    ensures { IfOk result (λ free. free ≡ 0) }
 {
     let mut slots = free_slots(alloc, hands)?;
-    let free = slots.swap_remove(SEAT.slot as usize);
-    let lives = first_lives(alloc, live.threads())?;
-    Ok(LiveRows::new(around.rt, live, free, grant, seat, stands, lives))
+    Ok(slots.swap_remove(0))
+}
+
+// What a run's session is started with, and the halves of the threads, by row, none of which has made a write.
+#[derive(Drop)]
+struct Started<'g, P: TraceRun> {
+    free: Free<'g, P>,
+    grant: &'g Grant,
+    pool: PoolSeat,
+    threads: Vec<Right<P, Agreed<'g>>>,
+    ghost count: { vec_len threads ≡ P.rows },
+    ghost threads_are: { AreStands 0 threads.items },
 }
 
 // The run over rows that no thread and no session has used.
@@ -211,7 +193,7 @@ fn run_over<
     'o,
     'w,
     'g,
-    P: Run + Send + Sync,
+    P: TraceRun + Send + Sync,
     R: Threads + Wait + Timer + Sync,
     O: Sink,
     C: Clock,
@@ -220,45 +202,64 @@ fn run_over<
     alloc: Global,
     around: &Around<'_, P, R, C, G>,
     live: &'w Live<'g, P>,
-    rows: LiveRows<'w, 'g, P, R>,
-    config: Config,
+    started: Started<'g, P>,
     info: &TraceInfo,
     lent: Lent<'o, O>,
 ) -> (Lent<'o, O>, Result<TraceEnd, AllocError>)
     requires writes { P.writes ≡ writes_of P.run.plan }
     requires lent { IsLentTo O.Sink P.run lent.output.ghost_name lent.output.now }
-    requires asked { (info.now ≡ P.run.info) × (config ≡ P.run.config) }
-    requires first { AreFirst P.rows rows }
-    requires granted { (rows.slot ≡ 0) × (rows.grant.config ≡ config) }
+    requires asked { (info.now ≡ P.run.info) × (started.grant.now.config ≡ P.run.config) }
+    requires admitted { IsGrantFor P.events started.grant.now }
+    requires pool { started.pool ≡ first_seat started.grant.now.pool (P.rows + 1) }
     ensures same { result.0.output.ghost_name ≡ lent.entry.output.ghost_name }
     ensures traces { TracesOver O.Sink P.run lent.entry.output.now result.0.output.now result.1 }
 {
-    a_session_starts_with_no_trace::<RunOutput<'o, O, P>>();
     a_traced_stream_is_found();
     a_part_is_found();
     let kit = match Kit::new(alloc, around, live) {
         Ok(kit) => kit,
         Err(error) => return (lent, Err(error)),
     };
-    let output: RunOutput<'o, O, P> = RunOutput {
+    let Started {
+        free,
+        grant,
+        pool,
+        threads,
+    } = started;
+    let sink: RunOutput<'o, O, P> = RunOutput {
         lent,
         name: PhantomData,
     };
-    match Session::start(alloc, output, &[], SEAT, config, info, around.plan.threads) {
-        Ok(session) => {
-            let (output, end) = streamed(alloc, around, rows, session, kit);
+    let accepted = Accepted {
+        free,
+        grant,
+        pool,
+        sink,
+        id: SESSION,
+        conn: 0,
+    };
+    match Stream::start(alloc, around.rt, live, accepted, &[], info) {
+        Ok(stream) => {
+            let stream = stream.take_back(around.rt, live, threads, 0);
+            let (output, end) = streamed(alloc, around, Streaming { live, stream }, kit);
             let RunOutput { lent, name: _ } = output;
             (lent, end)
         }
-        Err((output, fault)) => {
-            let RunOutput { lent, name: _ } = output;
+        Err(failed) => {
+            let NotStarted { sink, fault, .. } = failed;
+            let RunOutput { lent, name: _ } = sink;
             match fault {
                 Fault::OutOfMemory => (lent, Err(AllocError)),
                 _ => {
-                    let rows = untold(around, rows, kit);
+                    let rows = untold(around, threads, kit);
                     let marks = Items::new(Vec::new(alloc));
-                    let fate = Fate::LinkFault;
-                    (lent, Ok(TraceEnd { rows, marks, fate }))
+                    let end = TraceEnd {
+                        rows,
+                        marks,
+                        fate: Fate::LinkFault,
+                        seat: None,
+                    };
+                    (lent, Ok(end))
                 }
             }
         }

@@ -5,7 +5,7 @@ ghost use Rattle.ep_live.specs.Made.{AreStands};
 ghost use Rattle.pt_live.specs.Trace.{rows_of};
 ghost use Rattle.pt_live.specs.state.Writers.{AreDrafts, AreReady, StandsAt};
 
-use crate::run::{Around, Run};
+use crate::run::{Around, TraceRun};
 use ep_guarded::{Agreed, Program};
 use ep_live::Live;
 use ep_tie::Right;
@@ -48,7 +48,7 @@ pub(crate) fn drafts_of(alloc: Global, plan: &Plan) -> Result<Vec<Draft>, AllocE
 }
 
 /// The writers, each with its half of the tie, in memory that is there.
-pub(crate) fn writers_of<'w, 'a, P: Run>(
+pub(crate) fn writers_of<'w, 'a, P: TraceRun>(
     live: &'w Live<'a, P>,
     halves: Vec<Right<P, Agreed<'a>>>,
     drafts: Vec<Draft>,
@@ -67,7 +67,7 @@ pub(crate) fn writers_of<'w, 'a, P: Run>(
     }
 }
 
-impl<'w, 'a, P: Run> Writer<'w, 'a, P> {
+impl<'w, 'a, P: TraceRun> Writer<'w, 'a, P> {
     /// Makes all writes of the thread.
     fn write_all<R: Wait, C: Clock, G: Gate>(
         &mut self,
@@ -101,17 +101,21 @@ impl<'w, 'a, P: Run> Writer<'w, 'a, P> {
 
 /// The writers of a run in which each has made all its writes.
 #[derive(Drop)]
-pub(crate) struct AtEnd<'w, 'a, P: Run> {
+pub(crate) struct AtEnd<'w, 'a, P: TraceRun> {
     writers: Vec<Writer<'w, 'a, P>>,
     ghost count: { vec_len writers ≡ P.run.plan.threads },
     ghost ended: { AreReady P.run.plan P.run.plan.writes writers.items },
 }
 
 /// Lets each writer make its writes, in a thread of its own where one can be made.
-pub(crate) fn write_all<'w, 'a, P: Run + Send + Sync, R: Threads + Wait + Sync, C: Clock, G: Gate>(
-    around: &Around<'_, P, R, C, G>,
-    writers: Vec<Writer<'w, 'a, P>>,
-) -> AtEnd<'w, 'a, P>
+pub(crate) fn write_all<
+    'w,
+    'a,
+    P: TraceRun + Send + Sync,
+    R: Threads + Wait + Sync,
+    C: Clock,
+    G: Gate,
+>(around: &Around<'_, P, R, C, G>, writers: Vec<Writer<'w, 'a, P>>) -> AtEnd<'w, 'a, P>
     requires rows { vec_len writers ≡ P.rows }
     requires ready { AreReady P.run.plan 0 writers.items }
 {
@@ -121,7 +125,7 @@ pub(crate) fn write_all<'w, 'a, P: Run + Send + Sync, R: Threads + Wait + Sync, 
 }
 
 // The same of writers that are lent.
-fn write_each<'w, 'a, P: Run + Send + Sync, R: Threads + Wait + Sync, C: Clock, G: Gate>(
+fn write_each<'w, 'a, P: TraceRun + Send + Sync, R: Threads + Wait + Sync, C: Clock, G: Gate>(
     around: &Around<'_, P, R, C, G>,
     writers: &mut [Writer<'w, 'a, P>],
 )
@@ -137,7 +141,7 @@ fn write_each<'w, 'a, P: Run + Send + Sync, R: Threads + Wait + Sync, C: Clock, 
     thread::for_each_mut(around.rt, writers, threads, &writing);
 }
 
-impl<'w, 'a, P: Run> AtEnd<'w, 'a, P> {
+impl<'w, 'a, P: TraceRun> AtEnd<'w, 'a, P> {
     /// Reads from each row how far its thread has come, and gives the halves of the writers, both by row and in memory
     /// that is there. It waits for the rows.
     pub(crate) fn give_back<R: Wait, C: Clock, G: Gate>(

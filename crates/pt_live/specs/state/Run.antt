@@ -6,8 +6,8 @@ use Rattle.ep_defs.specs.declared.limits.TheConstants.{THREADS, WRITES}
 use Rattle.ep_defs.specs.declared.session.Config.{Config}
 use Rattle.ep_defs.specs.declared.session.TraceInfo.{TraceInfo}
 use Rattle.ep_defs.specs.Session.{standard_info_of}
-use Rattle.ep_pool.specs.Shared.{SharedPool, SeatState}
 use Rattle.pt_io.specs.declared.sink.Sink.{Ghosts as Sink}
+use Rattle.pt_stream.specs.Setting.{Setting}
 use Rattle.pt_load.specs.Sample.{sample}
 use Rattle.pt_load.specs.declared.plan.Plan.{Plan}
 use Rattle.pt_live.specs.Trace.{Traces, writes_of}
@@ -37,6 +37,10 @@ no_run =
       faults = 0;
     }
 
+-- What is fixed of the one session's stream of such a run: each row has one life.
+abbrev pub setting_of : RunState → Setting
+setting_of run = record { lives = 1; info = run.info; before = λ _. run.before; faults = λ _. run.faults }
+
 -- The program is the sample program, as the plan says, in its bounds.
 pub record IsRunOf (plan : Plan) (rows : ℕ) (events : List EventDef) (writes : ℕ → List Write) : Type 0 where
   pub rows_are : rows ≡ plan.threads
@@ -56,7 +60,3 @@ pub record IsLentTo {O : Type 0} (sink : Sink O) (run : RunState) (loan : ℕ) (
 -- What a run answers whose output was the first and is the second.
 abbrev pub TracesOver : {O E : Type 0} → Sink O → RunState → O → O → Result TraceEnd E → Type 0
 TracesOver sink run = Traces sink run.info run.plan run.config
-
--- The first seat of a pool has all of so many shares.
-abbrev pub first_seat : SharedPool → ℕ → SeatState
-first_seat pool seats = record { pool = pool.pool; total = pool.total; seats = seats; share = seats; taken = 0; given = 0; dry = 0 }

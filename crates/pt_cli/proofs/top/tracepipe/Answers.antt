@@ -44,6 +44,7 @@ returns-in-Ok-clause-faults g c =
       caller_new = c.carry_out.new.caller;
       peer = result.peer;
       rows = result.rows.items;
+      seat = result.seat;
       marks = result.marks;
       live = result.live;
     } in

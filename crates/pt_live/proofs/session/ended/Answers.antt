@@ -1,37 +1,60 @@
-use Rattle.std.proofs.Common.{List, sym, subst}
-use Rattle.std.specs.List.{range_with_len, AllByRecursion}
+use Rattle.std.proofs.Common.{◌≡◌, ◌∙◌, ◌⊎◌, inl, inr, ℕ, ◌≤◌, List, length, sym, ap, subst, arith}
+use Rattle.std.specs.List.{AllByRecursion}
 use Rattle.ep_defs.specs.declared.session.Marks.{Marks}
-use Rattle.ep_stream.specs.declared.session.Fate.TheVariants as fate
-use Rattle.ep_live_laws.specs.Calls.{IsOutcome}
-use Rattle.pt_live.specs.Trace.{IsWhole}
-use Rattle.pt_live.specs.state.Open.{watch_of}
-use Rattle.pt_live.proofs.Ending.{closed-hands, closed-expected, none-out, ends-well}
+use Rattle.ep_defs.specs.declared.session.Write.{Write}
+use Rattle.ep_stream.specs.declared.session.Fate.TheVariants as fates
+use Rattle.pt_load.specs.declared.plan.Plan.{Plan}
+use Rattle.pt_stream.specs.State.{EndsAt}
+use Rattle.pt_live.proofs.Ending.{ended-at, faulty-memory, memory-apart, never-asked, own-end, spent-so}
+use Rattle.pt_live.proofs.Firsts.{all-done}
+use Rattle.pt_live.proofs.Load.{count-writes}
+use Rattle.pt_live.proofs.Opening.{closed-all, opened-each}
 use Rattle.pt_live.proofs.session.ended.Goals as goal
 
-pub end-requires-clause-closed : goal.end-requires-clause-closed
-end-requires-clause-closed g c = closed-expected g.P.Program.rows c.args.opened c.close_all.new.rows c.close_all.new.session c.close_all.ensures.is_open
+pub end-end-requires-clause-shut : goal.end-end-requires-clause-shut
+end-end-requires-clause-shut g c = closed-all g.P.TraceRun.run g.P.Program.rows c.args.opened c.close_all-streaming.result.stream c.close_all-streaming.ensures.is_open
 
-pub end-requires-clause-given : goal.end-requires-clause-given
-end-requires-clause-given g c = none-out g.P.Program.rows c.args.opened c.args.opened c.close_all.new.rows c.close_all.new.session c.close_all.ensures.is_open
+pub end-end-requires-clause-own : goal.end-end-requires-clause-own
+end-end-requires-clause-own g c =
+    own-end c.args.fate (elim c.requires.why [
+      | inl why ↦ inl why.0
+      | inr why ↦ inr why.0
+    ])
 
-pub finish-requires-clause-closed : goal.finish-requires-clause-closed
-finish-requires-clause-closed g c = closed-hands g.P.Program.rows c.args.opened c.close_all.new.rows c.close_all.new.session c.close_all.ensures.is_open
+pub end-end-requires-clause-complete : goal.end-end-requires-clause-complete
+end-end-requires-clause-complete g c sound =
+    elim c.requires.why [
+      | inl why ↦ absurd (faulty-memory c.args.fate why.0 sound)
+      | inr why ↦ opened-each g.P.TraceRun.run g.P.Program.rows c.args.opened c.close_all-streaming.result.stream (let all = why.1 in omega (arith, all)) c.close_all-streaming.ensures.is_open
+    ]
 
-pub returns : goal.returns
-returns g c to is =
-    let session = c.close_all.new.session in
-    let run = g.P.Run.run in
-    let t = c.close_all.ensures.told in
-    let none = closed-hands g.P.Program.rows c.args.opened c.close_all.new.rows session c.close_all.ensures.is_open in
-    let marks = sym c.finish.ensures.marks in
-    record {
-      before = t.before;
-      begins = t.begins;
-      whole = subst (AllByRecursion (IsWhole to)) marks (c.close_all.ensures.marks to is (subst (AllByRecursion (IsWhole to)) (sym c.requires.marks) (record {})));
-      outcome = subst
-          (λ (ms : List Marks). IsOutcome g.S.Sink (watch_of run g.P.Program.events g.P.Program.writes t.before) (range_with_len 1 c.args.opened) fate.ProgramEnd ms c.finish.result.fate c.finish.result.sink)
-          marks
-          (c.a_session_that_ends_has_traced.ensures (watch_of run g.P.Program.events g.P.Program.writes t.before) (range_with_len 1 c.args.opened) fate.ProgramEnd c.finish.result.fate session c.finish.result.sink
-          (record { told = t.told; stamp = c.now.result; tracing = t.tracing; shut = none; ended = c.finish.ensures.ended }));
-      well = ends-well g.S.Sink.tells_taken g.S.Sink.taken g.S.Sink.write_faults run.faults c.now.result session c.finish.result.fate c.finish.result.sink c.finish.ensures.ended c.finish.ensures.later t.says;
-    }
+pub end-end-requires-clause-done : goal.end-end-requires-clause-done
+end-end-requires-clause-done g c is =
+    elim c.requires.why [
+      | inl why ↦ absurd (memory-apart c.args.fate why.0 is)
+      | inr why ↦
+          all-done g.P.Program.writes g.P.TraceRun.run.plan.writes c.close_all-streaming.result.stream.marks
+          (λ thread. ap (λ (ws : List Write). length ws) (c.args.around.now.is_run.writes_are thread) ∙ count-writes c.args.around.now.plan.now thread ∙ ap (λ (p : Plan). p.writes) c.args.around.now.plan_is)
+          (c.close_all-streaming.ensures.ends g.P.TraceRun.run.plan.writes why.2 (subst (λ (ms : List Marks). AllByRecursion (EndsAt g.P.TraceRun.run.plan.writes) ms) (sym c.requires.marks) tt))
+    ]
+
+pub returns-clause-ended : goal.returns-clause-ended
+returns-clause-ended g c to stands =
+    let around = c.args.around.now in
+    ended-at g.S.Sink g.P.TraceRun.run g.P.Program.events g.P.Program.writes g.P.Program.rows c.args.opened to g.P.Run.setting c.close_all-streaming.result.stream c.args.fate c.end-end.result.0
+    (around.is_run.rows_are ∙ ap (λ (p : Plan). p.threads) around.plan_is)
+    around.setting_is
+    c.requires.few
+    c.close_all-streaming.ensures.is_open
+    (c.close_all-streaming.ensures.ends to stands (subst (λ (ms : List Marks). AllByRecursion (EndsAt to) ms) (sym c.requires.marks) tt))
+    (never-asked c.args.fate (elim c.requires.why [
+      | inl why ↦ inl why.0
+      | inr why ↦ inr why.0
+    ]))
+    c.end-end.ensures.ended
+
+pub returns-clause-spent : goal.returns-clause-spent
+returns-clause-spent g c =
+    spent-so g.P.TraceRun.run.config c.close_all-streaming.result.stream c.end-end.result.0 c.end-end.result.1 c.into_seat.result
+    c.close_all-streaming.ensures.is_open.config_is c.end-end.ensures.ended.marks_are c.end-end.ensures.left
+    c.into_seat.ensures.seat c.into_seat.ensures.shares c.into_seat.ensures.back c.into_seat.ensures.chunks

@@ -7,12 +7,12 @@ use Rattle.pt_live.proofs.writers.write_each.Goals as goal
 pub for_each_mut-requires-clause-accepts : goal.for_each_mut-requires-clause-accepts
 for_each_mut-requires-clause-accepts g c κs within i p small is =
     let row : i < g.P.Program.rows = omega (arith, small, c.requires.rows) in
-    let here : StandsAt g.P.Run.run.plan i 0 p.now = c.requires.ready i p.now (slice_get_read c.args.writers.now (length c.args.writers.now) i p.now refl small is) in
+    let here : StandsAt g.P.TraceRun.run.plan i 0 p.now = c.requires.ready i p.now (slice_get_read c.args.writers.now (length c.args.writers.now) i p.now refl small is) in
     search (rules, row, here)
 
 pub returns : goal.returns
 returns g c =
-    each-within (λ k w. StandsAt g.P.Run.run.plan k g.P.Run.run.plan.writes w) c.for_each_mut.new.s
+    each-within (λ k w. StandsAt g.P.TraceRun.run.plan k g.P.TraceRun.run.plan.writes w) c.for_each_mut.new.s
     (λ k d small.
     let changed = (c.for_each_mut.ensures k d (omega arith)).1 in
-    subst (StandsAt g.P.Run.run.plan k g.P.Run.run.plan.writes) changed.left (first_of (search (rules, changed.call), search (of_calls, changed.call), grind (arith, changed.call))))
+    subst (StandsAt g.P.TraceRun.run.plan k g.P.TraceRun.run.plan.writes) changed.left (first_of (search (rules, changed.call), search (of_calls, changed.call), grind (arith, changed.call))))

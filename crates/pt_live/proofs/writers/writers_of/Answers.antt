@@ -36,15 +36,15 @@ loop-half-preserved g c =
     let writers : List WriterState = c.loop-half.writers.items in
     let inv = c.loop-half.invariant in
     let long : length writers ≡ n = sym c.loop-half.writers.ok.0 ∙ inv.count in
-    let writer : StandsAt g.P.Run.run.plan (length writers) 0 (record { half = c.in-Some.half; draft = c.in-Some.draft }) =
-    subst (λ (k : ℕ). StandsAt g.P.Run.run.plan k 0 (record { half = c.in-Some.half; draft = c.in-Some.draft })) (sym long)
+    let writer : StandsAt g.P.TraceRun.run.plan (length writers) 0 (record { half = c.in-Some.half; draft = c.in-Some.draft }) =
+    subst (λ (k : ℕ). StandsAt g.P.TraceRun.run.plan k 0 (record { half = c.in-Some.half; draft = c.in-Some.draft })) (sym long)
     (record { place = half.place; stands = half.stands; drafted = draft })
     in
     record {
       count = omega (arith, c.push_reserved.ensures.len, inv.count, length-append c.loop-half.yielded ((c.in-Some.half, c.in-Some.draft) ∷ []));
       room = omega (arith, c.push_reserved.ensures.capacity, inv.room);
       each = subst
-          (λ (ws : List WriterState). (k : ℕ) (w : WriterState) → slice_get ws k ≡ Some w → StandsAt g.P.Run.run.plan k 0 w)
+          (λ (ws : List WriterState). (k : ℕ) (w : WriterState) → slice_get ws k ≡ Some w → StandsAt g.P.TraceRun.run.plan k 0 w)
           (sym c.push_reserved.ensures.items)
-          (each-push (λ k w. StandsAt g.P.Run.run.plan k 0 w) writers _ inv.each writer);
+          (each-push (λ k w. StandsAt g.P.TraceRun.run.plan k 0 w) writers _ inv.each writer);
     }

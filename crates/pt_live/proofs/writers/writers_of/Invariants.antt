@@ -9,5 +9,5 @@ invariant-loop-half g l =
     record {
       count : vec_len l.writers ≡ length l.yielded;
       room : vec_capacity l.initial.writers ≤ vec_capacity l.writers;
-      each : AreReady g.P.Run.run.plan 0 l.writers.items;
+      each : AreReady g.P.TraceRun.run.plan 0 l.writers.items;
     }

@@ -58,25 +58,25 @@ loop-writer-preserved g c =
     let halves : List (Tied Agreed) = c.loop-writer.halves.items in
     let long : length halves ≡ length c.loop-writer.yielded = sym c.loop-writer.halves.ok.0 ∙ inv.count ∙ inv.number in
     let seen = ap (λ (w : WriterState). w.half) c.writer.view_is in
-    let half : IsStand g.P.Run.run.plan.writes (length halves) c.writer.inside.half =
-    subst (IsStand g.P.Run.run.plan.writes (length halves)) (sym seen)
-    (record { place = is.place ∙ sym long; stands = is.stands ∙ ap (λ (n : ℕ). Some (record { thread = n + 1; index = g.P.Run.run.plan.writes })) (sym long) })
+    let half : IsStand g.P.TraceRun.run.plan.writes (length halves) c.writer.inside.half =
+    subst (IsStand g.P.TraceRun.run.plan.writes (length halves)) (sym seen)
+    (record { place = is.place ∙ sym long; stands = is.stands ∙ ap (λ (n : ℕ). Some (record { thread = n + 1; index = g.P.TraceRun.run.plan.writes })) (sym long) })
     in
-    let stand : c.stand-stand.result ≡ record { thread = c.loop-writer.number + 1; index = g.P.Run.run.plan.writes } =
-    same _ _ (sym c.stand-stand.ensures.stand ∙ ap (λ (h : Tied Agreed). stand_in h.value) seen ∙ is.stands ∙ ap (λ (n : ℕ). Some (record { thread = n + 1; index = g.P.Run.run.plan.writes })) (sym inv.number))
+    let stand : c.stand-stand.result ≡ record { thread = c.loop-writer.number + 1; index = g.P.TraceRun.run.plan.writes } =
+    same _ _ (sym c.stand-stand.ensures.stand ∙ ap (λ (h : Tied Agreed). stand_in h.value) seen ∙ is.stands ∙ ap (λ (n : ℕ). Some (record { thread = n + 1; index = g.P.TraceRun.run.plan.writes })) (sym inv.number))
     in
     record {
       number = omega (arith, inv.number, length-append c.loop-writer.yielded (c.in-Some.writer ∷ []));
       rows = c.push_reserved.ensures.items
           ∙ ap (λ (rows : List (ℕ × ℕ)). rows ++ (c.stand-stand.result.thread, c.stand-stand.result.index) ∷ []) inv.rows
-          ∙ ap (λ (s : Stand). map (λ (t : ℕ). row-of g.P.Run.run.plan.writes t) (range_with_len 1 c.loop-writer.number) ++ (s.thread, s.index) ∷ []) stand
-          ∙ sym (rows-more g.P.Run.run.plan.writes c.loop-writer.number);
+          ∙ ap (λ (s : Stand). map (λ (t : ℕ). row-of g.P.TraceRun.run.plan.writes t) (range_with_len 1 c.loop-writer.number) ++ (s.thread, s.index) ∷ []) stand
+          ∙ sym (rows-more g.P.TraceRun.run.plan.writes c.loop-writer.number);
       count = omega (arith, c.push_reserved-in-loop-writer.ensures.len, inv.count);
       row_count = omega (arith, c.push_reserved.ensures.len, inv.row_count);
       room = omega (arith, c.push_reserved-in-loop-writer.ensures.capacity, inv.room);
       row_room = omega (arith, c.push_reserved.ensures.capacity, inv.row_room);
       each = subst
-          (λ (hs : List (Tied Agreed)). (k : ℕ) (h : Tied Agreed) → slice_get hs k ≡ Some h → IsStand g.P.Run.run.plan.writes k h)
+          (λ (hs : List (Tied Agreed)). (k : ℕ) (h : Tied Agreed) → slice_get hs k ≡ Some h → IsStand g.P.TraceRun.run.plan.writes k h)
           (sym c.push_reserved-in-loop-writer.ensures.items)
-          (each-push (IsStand g.P.Run.run.plan.writes) halves c.stand-stand.new.half inv.each (subst (IsStand g.P.Run.run.plan.writes (length halves)) (sym c.stand-stand.ensures.same) half));
+          (each-push (IsStand g.P.TraceRun.run.plan.writes) halves c.stand-stand.new.half inv.each (subst (IsStand g.P.TraceRun.run.plan.writes (length halves)) (sym c.stand-stand.ensures.same) half));
     }

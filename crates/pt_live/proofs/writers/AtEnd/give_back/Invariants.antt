@@ -10,10 +10,10 @@ abbrev pub invariant-loop-writer : goal.invariant-loop-writer
 invariant-loop-writer g l =
     record {
       number : l.number ≡ length l.yielded;
-      rows : l.rows.items ≡ map (λ (t : ℕ). row-of g.P.Run.run.plan.writes t) (range_with_len 1 l.number);
+      rows : l.rows.items ≡ map (λ (t : ℕ). row-of g.P.TraceRun.run.plan.writes t) (range_with_len 1 l.number);
       count : vec_len l.halves ≡ l.number;
       row_count : vec_len l.rows ≡ l.number;
       room : vec_capacity l.initial.halves ≤ vec_capacity l.halves;
       row_room : vec_capacity l.initial.rows ≤ vec_capacity l.rows;
-      each : AreStands g.P.Run.run.plan.writes l.halves.items;
+      each : AreStands g.P.TraceRun.run.plan.writes l.halves.items;
     }

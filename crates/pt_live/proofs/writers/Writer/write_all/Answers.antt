@@ -31,4 +31,4 @@ write-requires-clause-next g c κs within x is =
 pub returns : goal.returns
 returns g c =
     let all : c.loop-index.index ≡ c.args.around.now.plan.now.writes = omega (arith, c.loop-index-test.false, c.loop-index.auto) in
-    subst (λ (n : ℕ). StandsAt g.P.Run.run.plan c.args.number n (record { half = c.loop-index.self-inside.half; draft = c.loop-index.self-inside.draft })) (all ∙ ap (λ (p : Plan). p.writes) c.args.around.now.plan_is) c.loop-index.invariant
+    subst (λ (n : ℕ). StandsAt g.P.TraceRun.run.plan c.args.number n (record { half = c.loop-index.self-inside.half; draft = c.loop-index.self-inside.draft })) (all ∙ ap (λ (p : Plan). p.writes) c.args.around.now.plan_is) c.loop-index.invariant
