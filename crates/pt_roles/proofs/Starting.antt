@@ -14,6 +14,7 @@ use Rattle.nt_write.specs.declared.fault.Fault.TheVariants.{OutOfMemory, TooLong
 use Rattle.pt_io.specs.Sides.{ReadSide}
 use Rattle.pt_io.specs.Taken.{TookPartOf}
 use Rattle.pt_server.specs.Connection.{HasAsked, StartsWith, TookStart}
+use Rattle.pt_server.specs.Served.{ServedState}
 use Rattle.pt_server.specs.Unstarted.{HasAskedSession}
 use Rattle.ep_registry.specs.Registered.{ServerHalf, counted_if}
 use Rattle.ep_registry.specs.declared.hold.Hold.{Hold}
@@ -40,6 +41,16 @@ took-start {S} tells taken id greeting info old new greeted told start =
         let start = begun.2 tell in
         let behind : begun.0 ≡ greeting ++ session_reply id = begun.1 before ∙ ap (λ (b : List ℕ). b ++ session_reply id) (greeted before) in
         inr (start.0, start.2, start.1, start.3, start.4 ∙ ap (λ (b : List ℕ). b ++ start.1) behind)
+
+-- The same of the link of a session that was asked for.
+pub served-start : {L : Type 0} (tells : L → Bool) (taken : L → List ℕ) (id : ℕ) (reply greeting : List ℕ) (said info : TraceInfo) (link : L) (old new : ServedState L)
+    → old.link ≡ link → (IsTrue (tells link) → taken link ≡ greeting) → tells new.link ≡ tells old.link → reply ≡ session_reply id → said ≡ info
+    → TookSessionStart (λ s. tells s.link) (λ s. taken s.link) reply said old new → TookStart info greeting (tells new.link) (taken new.link)
+served-start {L} tells taken id reply greeting said info link old new same greeted told is facts start =
+    took-start {S = ServedState L} (λ s. tells s.link) (λ s. taken s.link) id greeting info old new
+    (subst (λ (l : L). IsTrue (tells l) → taken l ≡ greeting) (sym same) greeted) told
+    (subst (λ (i : TraceInfo). TookSessionStart {S = ServedState L} (λ s. tells s.link) (λ s. taken s.link) (session_reply id) i old new) facts
+    (subst (λ (r : List ℕ). TookSessionStart {S = ServedState L} (λ s. tells s.link) (λ s. taken s.link) r said old new) is start))
 
 -- Where no write has failed, none had failed.
 pub no-faults : (fault : Fault) (was now : ℕ) → was ≡ 0 → fault ≢ TooLong → (fault ≡ OutOfMemory → now ≡ was) → fault ≢ WriteFault → now ≡ 0
