@@ -5,7 +5,7 @@ use Rattle.pt_roles.proofs.Starting.{served-start}
 use Rattle.pt_roles.proofs.host.begin.Goals as goal
 
 pub unstarted-link-requires-clause-start : goal.unstarted-link-requires-clause-start
-unstarted-link-requires-clause-start g c =
+unstarted-link-requires-clause-start g c κs outlives =
     let scene = c.args.scene.now in
     let info : scene.facts.now.info ≡ g.W.Process.facts.info = ap (λ (f : Facts). f.info) (scene.facts_are.0 ∙ sym scene.is_world.facts_are) in
     let link : c.new.result.link ≡ c.args.asked.link = ap (λ (s : ServedState g.row.L.Denot). s.link) c.new.ensures.value in
