@@ -73,8 +73,8 @@ open-more early rows number old mid new stands within to one =
         ⊎_elim
         (λ (before : row < number + 1). subst (λ (p : Place). 0 < p.next) (sym (other row some (omega (arith, before)))) (to.opened row some (omega (arith, before))))
         (λ (after : number + 1 ≤ row).
-            let last : row ≡ number + 1 = omega (arith, few, after) in
-            subst (λ (r : ℕ). 0 < (place_at places r).next) (sym last) (subst (λ (p : Place). 0 < p.next) (sym here) positive))
+        let last : row ≡ number + 1 = omega (arith, few, after) in
+        subst (λ (r : ℕ). 0 < (place_at places r).next) (sym last) (subst (λ (p : Place). 0 < p.next) (sym here) positive))
         (cases_lt row (number + 1))
 
 -- Each place says that the session was opened there.
@@ -90,9 +90,9 @@ pub open-all : (early : Bool) (rows : ℕ) (old new : StreamState) → IsOpenTo 
 open-all early rows old new to =
     all-opened new.places
     (λ k few.
-        let one : 0 < (place_at new.places (k + 1)).next = to.opened (k + 1) (omega arith) (omega (arith, few, to.count)) in
-        let at : k + 1 - 1 ≡ k = omega arith in
-        subst (λ (n : ℕ). 0 < (slice_index_or new.places n no_place).next) at one)
+    let one : 0 < (place_at new.places (k + 1)).next = to.opened (k + 1) (omega arith) (omega (arith, few, to.count)) in
+    let at : k + 1 - 1 ≡ k = omega arith in
+    subst (λ (n : ℕ). 0 < (slice_index_or new.places n no_place).next) at one)
 
 -- It is not, where one is left.
 pub open-some : (early : Bool) (rows number : ℕ) (old new : StreamState) → number < rows → IsOpenTo early rows number old new → is_complete new ≡ false

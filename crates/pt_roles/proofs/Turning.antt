@@ -1,4 +1,4 @@
--- The server's turns, one after another, and what they come to.
+-- What the server's turns come to.
 use Rattle.std.proofs.Common.{◌≡◌, ◌≢◌, ℕ, ◌+◌, ◌<◌, ◌≤◌, Bool, true, false, List, [], ◌∷◌, length, Option, None, Some, IsTrue, ◌⊎◌, inl, inr, refl, ap, ◌∙◌, sym, subst, arith}
 use Rattle.std.specs.Prelude.{count_by}
 use Rattle.std.specs.List.{AllByRecursion}
@@ -13,68 +13,11 @@ use Rattle.pt_server.specs.Told.{AreTold}
 use Rattle.pt_server.specs.declared.desk.ConnEnd.{ConnEnd}
 use Rattle.pt_roles.specs.Ending.{IsAllOver, has_failed}
 use Rattle.pt_roles.specs.Ran.{HasWaited, IsRan, is_early}
-use Rattle.pt_roles.specs.Server.{GoesOn, GoesOnFrom, HasServed, HasTurned, IsExit, is_last, no_server}
+use Rattle.pt_roles.specs.Server.{GoesOnFrom, HasServed, HasTurned, IsExit, is_last, no_server}
 use Rattle.pt_roles.specs.World.{WorldState, rows_of}
 use Rattle.pt_roles.specs.declared.exit.Exit.{Exit}
 use Rattle.pt_roles.specs.declared.exit.Exit.TheVariants as exit
 use Rattle.pt_roles.specs.declared.live_end.LiveEnd.{LiveEnd}
-
--- ---- turns
-
-exits-more : {D L : Type 0} (dock : Dock D L) (e : Option Exit) (old mid new : D) (now : ServerHalf) → dock.dock_faults mid ≡ dock.dock_faults old → IsExit dock e mid new now → IsExit dock e old new now
-exits-more dock None old mid new now same is = is ∙ same
-exits-more dock (Some exit.Enough) old mid new now same is = is ∙ same
-exits-more dock (Some exit.Closed) old mid new now same is = (is.0 ∙ same, is.1)
-exits-more dock (Some exit.Failed) old mid new now same is = subst (λ (n : ℕ). HasRisen n (dock.dock_faults new)) same is
-exits-more dock (Some exit.Full) old mid new now same is = (is.0 ∙ same, is.1)
-
-pub goes-more : (early : Bool) (was then now : ServerHalf) → GoesOn early was then → GoesOn early then now → GoesOn early was now
-goes-more early was then now a b =
-    record { left = b.left ∙ a.left; more = omega (arith, a.more, b.more); late = λ is. b.late is ∙ a.late is }
-
--- More turns follow on some after which the dock was asked again.
-pub turned-more : {D L : Type 0} (dock : Dock D L) (early : Bool) (e : Option Exit) (old mid new : D) (was then now : ServerHalf)
-    → HasTurned dock early None old mid was then → HasTurned dock early e mid new then now → HasTurned dock early e old new was now
-turned-more dock early e old mid new was then now a b =
-    record {
-      greets = b.greets ∙ a.greets;
-      count = omega (arith, a.count, b.count);
-      goes = goes-more early was then now a.goes b.goes;
-      exits = exits-more dock e old mid new now a.exits b.exits;
-    }
-
--- No turn yet.
-pub turned-none : {D L : Type 0} (dock : Dock D L) (early : Bool) (old : D) (was : ServerHalf) → HasTurned dock early None old old was was
-turned-none dock early old was =
-    record {
-      greets = refl;
-      count = refl;
-      goes = record { left = refl; more = omega arith; late = λ _. refl };
-      exits = refl;
-    }
-
--- There are enough sessions.
-pub turned-enough : {D L : Type 0} (dock : Dock D L) (early : Bool) (old new : D) (was now : ServerHalf) → HasTurned dock early None old new was now → HasTurned dock early (Some exit.Enough) old new was now
-turned-enough dock early old new was now a =
-    record { greets = a.greets; count = a.count; goes = a.goes; exits = a.exits }
-
--- A link came in, and was decided.
-pub turned-link : {D L : Type 0} (dock : Dock D L) (early : Bool) (old new : D) (was now : ServerHalf)
-    → dock.greeting new ≡ dock.greeting old → dock.arrivals new ≡ dock.arrivals old + 1 → dock.dock_faults new ≡ dock.dock_faults old
-    → length now.decisions ≡ length was.decisions + 1 → GoesOn early was now → HasTurned dock early None old new was now
-turned-link dock early old new was now greets came sound one goes =
-    record { greets = greets; count = omega (arith, came, one); goes = goes; exits = sound }
-
--- Nobody came in, and the turns came to their end so, if they did.
-pub turned-alone : {D L : Type 0} (dock : Dock D L) (early : Bool) (e : Option Exit) (old new : D) (was : ServerHalf)
-    → dock.greeting new ≡ dock.greeting old → dock.arrivals new ≡ dock.arrivals old → IsExit dock e old new was → HasTurned dock early e old new was was
-turned-alone dock early e old new was greets none exits =
-    record {
-      greets = greets;
-      count = omega (arith, none);
-      goes = record { left = refl; more = omega arith; late = λ _. refl };
-      exits = exits;
-    }
 
 -- ---- the server
 
