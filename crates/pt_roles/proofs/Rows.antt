@@ -64,7 +64,7 @@ and-true false c is = refl
 
 or-true : (b c : Bool) → b ≡ true → (b || c) ≡ true
 or-true true c is = refl
-or-true false c is = absurd (let no : false ≡ true = is in cc)
+or-true false c is = absurd (cc)
 
 -- Once it was opened on each row it stays as early as it is.
 pub keeps-opened : (row life : ℕ) (old new : StreamState) → 0 < row → row ≤ length old.places → new ≡ opened_on row life old → is_complete old ≡ true → KeepsSession old new
