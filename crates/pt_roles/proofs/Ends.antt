@@ -16,10 +16,9 @@ use Rattle.ep_stream.specs.declared.session.Fate.TheVariants as fate
 use Rattle.ep_stream.specs.declared.session.SessionEnd.{SessionEnd}
 use Rattle.ep_journal.specs.declared.session.Opened.{Opened}
 use Rattle.ep_journal.specs.declared.session.Opened.TheVariants as opened
-use Rattle.ep_journal.specs.declared.session.Stage.{Stage}
+use Rattle.ep_journal.specs.declared.session.Fate.{Fate as Kept}
 use Rattle.ep_journal.specs.declared.session.Stage.TheVariants as stage
 use Rattle.ep_journal.specs.Kept.{was_early}
-use Rattle.ep_journal.specs.Recorded.{goes_on, may_end}
 use Rattle.ep_registry.specs.declared.hold.Hold.{Hold}
 use Rattle.ep_live_laws.specs.Calls.{IsOutcome}
 use Rattle.ep_live_laws.specs.Streams.{IsPartOf, IsTraceOf, PartsAreFound, TracesAreFound}
@@ -170,16 +169,17 @@ module _ {L : Type 0} (gave : L → ReadSide) (sink : Sink L) (side : Sink (Serv
 
   -- What is left is that of whoever has the session, with its last stage.
   pub is-over : (world : WorldState) (rows : ℕ) (events : List EventDef) (writes : ℕ → List Write) (setting : Setting) (facts : Facts) (greeting : List ℕ)
-      (hold : Hold) (stream : StreamState) (handed : Fate) (end : SessionEnd (ServedState L)) (session : LiveSession L)
+      (hold : Hold) (stream : StreamState) (handed : Fate) (end : SessionEnd (ServedState L)) (session left_over : LiveSession L) (kept : Kept)
       → IsWorldOf world rows events writes setting facts greeting
       → (is_fault handed ≡ false → is_complete stream ≡ true) → IsLastOf hold stream
       → HasEnded side (watch_of rows events writes setting stream.config stream.id) rows setting.lives (setting.faults stream.id) stream handed end
-      → IsLeftOf gave sink end session → IsOver world (record hold { stage = stage.Over (fate_as session.fate) }) session
-  is-over world rows events writes setting facts greeting hold stream handed end session w complete last h left =
-      record {
+      → IsLeftOf gave sink end session → kept ≡ fate_as session.fate → left_over ≡ session → IsOver world (record hold { stage = stage.Over kept }) left_over
+  is-over world rows events writes setting facts greeting hold stream handed end session left_over kept w complete last h left kept_is same =
+      subst (λ (s : LiveSession L). IsOver world (record hold { stage = stage.Over kept }) s) (sym same)
+      (record {
         id_is = left.id_is ∙ e.id_is ∙ last.id_is;
         conn_is = left.conn_is ∙ e.conn_is ∙ last.conn_is;
-        stage_is = refl;
+        stage_is = ap (λ (k : Kept). stage.Over k) kept_is;
         early = λ was.
             subst (λ (ms : List Marks). is_early world ms ≡ true) (sym (left.marks_are ∙ e.marks_are))
             (early-marks world stream.places stream.marks (e.early (last.early was)) e.count (last.complete ∙ early-opened hold.opened was));
@@ -187,17 +187,7 @@ module _ {L : Type 0} (gave : L → ReadSide) (sink : Sink L) (side : Sink (Serv
             let end_sound : is_fault end.fate ≡ false = ap is_fault (sym left.fate_is) ∙ sound in
             let handed_sound : is_fault handed ≡ false = ap is_fault (sym (e.fate_is end_sound)) ∙ end_sound in
             sym last.complete ∙ complete handed_sound;
-      }
+      })
     where
       e : HasEnded side (watch_of world.plan.threads sample (writes_of world.plan) (setting_of world) stream.config stream.id) world.plan.threads world.options.lives 0 stream handed end
       e = of-world world rows events writes setting facts greeting stream handed end w h
-
--- ---- how it ends
-
--- A session ends as it was to, or by a fault.
-pub may-end : (handed end : Fate) (s : Stage) → (is_fault end ≡ false → end ≡ handed) → IsTrue (may_end (fate_as handed) s) → IsTrue (goes_on s) → IsTrue (may_end (fate_as end) s)
-may-end handed (fate.Requested conn) s same may on = subst (λ (f : Fate). IsTrue (may_end (fate_as f) s)) (sym (same refl)) may
-may-end handed fate.ProgramEnd s same may on = subst (λ (f : Fate). IsTrue (may_end (fate_as f) s)) (sym (same refl)) may
-may-end handed fate.LinkFault s same may on = on
-may-end handed fate.TooLong s same may on = on
-may-end handed fate.OutOfMemory s same may on = on

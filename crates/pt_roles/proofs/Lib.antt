@@ -4,7 +4,7 @@ pub mod Lives
 pub mod Ending
 pub mod Marks
 pub mod Rows
-pub mod Streamers
+pub mod Numbers
 pub mod Ends
 pub mod Turning
 pub mod Ran

@@ -1,6 +1,6 @@
 -- What becomes of a session's stream where it is opened or closed on a row.
 use Rattle.std.proofs.Common.{◌≡◌, ◌≢◌, ◌∙◌, ℕ, zero, suc, ◌+◌, ◌-◌, ◌<◌, ◌≤◌, Bool, true, false, List, [], ◌∷◌, length, get_or, refl, sym, ap, subst, arith}
-use Rattle.std.specs.Prelude.{◌&&◌, ◌||◌, nat_lt, Option}
+use Rattle.std.specs.Prelude.{◌&&◌, ◌||◌, nat_lt, not}
 use Rattle.std.specs.List.{list_all}
 use Rattle.std.proofs.Math.ListN.{set}
 use Rattle.std.proofs.lemmas.Bool.{lt-ltb}
@@ -64,7 +64,7 @@ and-true false c is = refl
 
 or-true : (b c : Bool) → b ≡ true → (b || c) ≡ true
 or-true true c is = refl
-or-true false c is = absurd (let no : false ≡ true = is in cc)
+or-true false c is = absurd (cc)
 
 -- Once it was opened on each row it stays as early as it is.
 pub keeps-opened : (row life : ℕ) (old new : StreamState) → 0 < row → row ≤ length old.places → new ≡ opened_on row life old → is_complete old ≡ true → KeepsSession old new
@@ -82,6 +82,10 @@ keeps-opened row life old new some within is complete =
 
 -- ---- on the first rows
 
+pub not-open : (b : Bool) → not b ≡ true → b ≡ false
+not-open true is = absurd (cc)
+not-open false is = refl
+
 -- It is open on none of no rows.
 pub shut-none : (stream : StreamState) → IsShut 0 stream
 shut-none stream row some few = absurd (omega arith)
@@ -91,7 +95,7 @@ pub shut-more : (count : ℕ) (stream : StreamState) → (place_at stream.places
 shut-more count stream off shut row some few =
     by-row ((place_at stream.places row).is_open ≡ false) row (count + 1)
     (λ is. subst (λ (r : ℕ). (place_at stream.places r).is_open ≡ false) (sym is) off)
-    (λ (not : row ≢ count + 1). shut row some (omega (arith, few, not)))
+    (λ (other : row ≢ count + 1). shut row some (omega (arith, few, other)))
 
 -- It is closed on the next row.
 pub shut-closed : (count : ℕ) (marks : List Marks) (old new : StreamState) → count < length old.places → new ≡ closed_on (count + 1) marks old → IsShut count old → IsShut (count + 1) new
@@ -103,7 +107,7 @@ shut-closed count marks old new within is shut row some few =
     ap (λ (ps : List Place). (place_at ps row).is_open) places
     ∙ ap (λ (r : ℕ). (place_at (with_place (count + 1) place old.places) r).is_open) here
     ∙ ap (λ (p : Place). p.is_open) (place-here old.places (count + 1) place (omega arith) (omega (arith, within))))
-    (λ (not : row ≢ count + 1).
+    (λ (other : row ≢ count + 1).
     ap (λ (ps : List Place). (place_at ps row).is_open) places
-    ∙ ap (λ (p : Place). p.is_open) (place-other old.places (count + 1) row place (omega arith) some not)
-    ∙ shut row some (omega (arith, few, not)))
+    ∙ ap (λ (p : Place). p.is_open) (place-other old.places (count + 1) row place (omega arith) some other)
+    ∙ shut row some (omega (arith, few, other)))

@@ -70,18 +70,15 @@ fn go_on<'a, W: World, R: Wait, L: Link + Drop, C: Clock, G: Gate>(
         return (None, true);
     }
     let stamp = scene.clock.now();
-    match stream.sweep(scene.alloc, scene.rt, &shared.live, stamp) {
-        (stream, Ok(taken)) => {
-            let session = stream.id();
-            scene.gate.pass(Moment::Swept { session, taken });
-            (Some(Handed::new(holder, stream)), taken > 0)
-        }
-        (stream, Err(_)) => {
-            // The stream has failed, and says its own fault at its end.
-            end(scene, shared, holder, stream, Fate::OutOfMemory);
-            (None, true)
-        }
-    }
+    let (stream, swept) = stream.sweep(scene.alloc, scene.rt, &shared.live, stamp);
+    let Ok(taken) = swept else {
+        // The stream has failed, and says its own fault at its end.
+        end(scene, shared, holder, stream, Fate::OutOfMemory);
+        return (None, true);
+    };
+    let session = stream.id();
+    scene.gate.pass(Moment::Swept { session, taken });
+    (Some(Handed::new(holder, stream)), taken > 0)
 }
 
 // Closes it on each row whose thread has left, and opens it on each whose next thread is there. Answers whether there was
@@ -161,6 +158,7 @@ fn end_done<'a, W: World, R: Wait, L: Link + Drop, C: Clock, G: Gate>(
     stream: Telling<'a, W, L>,
 )
     requires ends { IsTrue (may_end (fate_as fates.ProgramEnd) holder.stage) }
+    requires complete { is_complete stream ≡ true }
     requires fits { Fits W.writes holder stream }
 {
     let mut stream = stream;

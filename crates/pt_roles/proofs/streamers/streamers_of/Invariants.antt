@@ -1,6 +1,6 @@
 use Rattle.std.proofs.Common.{◌≡◌, length}
 use Rattle.std.specs.Prelude.{vec_len}
-use Rattle.pt_roles.proofs.Streamers.{AreFirst}
+use Rattle.pt_roles.proofs.Numbers.{AreFirst}
 use Rattle.pt_roles.proofs.streamers.streamers_of.Given as goal
 
 -- the roles so far

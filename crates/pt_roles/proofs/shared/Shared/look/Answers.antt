@@ -1,8 +1,7 @@
 use Rattle.std.proofs.Common.{◌≡◌, ℕ, Bool, true, false, Option, Some, None, refl, ap, sym}
 use Rattle.ep_journal.specs.declared.session.Fate.{Fate}
 use Rattle.ep_journal.specs.declared.session.Fate.TheVariants as fate
-use Rattle.ep_journal.specs.Recorded.{Recorded, fate_by, found, ticket_of}
-use Rattle.ep_journal.specs.Items.{item}
+use Rattle.ep_journal.specs.Recorded.{fate_by}
 use Rattle.ep_registry.specs.declared.hold.Hold.{Hold}
 use Rattle.ep_registry.specs.Held.{stage_found}
 use Rattle.pt_roles.specs.Roles.{IsLooked, is_found}
@@ -17,9 +16,9 @@ found-by ended (Some conn) f is = ap is_found (sym (same (fate.Requested conn) f
 found-by true None f is = ap is_found (sym (same fate.ProgramEnd f is))
 found-by false None f is = absurd (cc)
 
-looked : (r : Recorded) (old new : Hold) (result : Option Fate) → result ≡ found r old.id → new ≡ record old { stage = stage_found old.stage result } → IsLooked old new result
-looked r old new None answer is = is
-looked r old new (Some f) answer is = (found-by r.ended (ticket_of (item r.sessions old.id)) f (sym answer), is)
+looked : (old new : Hold) (result : Option Fate) (ended : Bool) (ticket : Option ℕ) → result ≡ fate_by ended ticket → new ≡ record old { stage = stage_found old.stage result } → IsLooked old new result
+looked old new None ended ticket answer is = is
+looked old new (Some f) ended ticket answer is = (found-by ended ticket f (sym answer), is)
 
 pub returns : goal.returns
-returns g c = looked _ _ _ _ c.look.ensures.answer c.look.ensures.found
+returns g c = looked _ _ _ _ _ c.look.ensures.answer c.look.ensures.found

@@ -2,7 +2,7 @@
 use Rattle.std.proofs.Common.{◌≡◌, ◌∙◌, ℕ, zero, suc, ◌+◌, ◌<◌, ◌≤◌, ⊎_elim, false, List, [], ◌∷◌, ◌++◌, Some, length, get_or, take, refl, sym, ap, subst, arith}
 use Rattle.std.specs.Prelude.{slice_get}
 use Rattle.std.proofs.lemmas.Bool.{cases_lt}
-use Rattle.std.proofs.lemmas.List.{get_or-take, get_or_append_left, length-append}
+use Rattle.std.proofs.lemmas.List.{get_or-take, get_or_append_left, length-append, length-take}
 use Rattle.std.proofs.lemmas.Option.{slice_get-get_or}
 use Rattle.std.proofs.Math.Seq.{get_or-append_seam}
 use Rattle.ep_table.specs.declared.limits.TheConstants.{SLOTS}
@@ -46,6 +46,13 @@ half-at {V} halves n count k v half are few within is =
     ∙ ap (λ (hs : List (Tied V)). get_or hs k half) are
     ∙ get_or-take count (numbered n v) k half few
     ∙ numbered-at n v half k (omega (arith, few, within))
+
+pub count-halves : {V : Type 0} (halves : List (Tied V)) (n count : ℕ) (v : V) → halves ≡ take count (numbered n v) → count ≤ n → length halves ≡ count
+count-halves halves n count v are within =
+    let long = length-numbered n v in
+    let cut = length-take count (numbered n v) in
+    let same : length halves ≡ length (take count (numbered n v)) = ap length are in
+    omega (arith, long, cut, same, within)
 
 -- ---- the roles
 
