@@ -97,9 +97,7 @@ pub(super) fn run<R: Threads + Wait + Timer + Sync>(
     let fails = [asked.failing_turn].to_vec(alloc)?;
     let mut dock = WatchedDock::new(MemDock::new(links_of(alloc, peers)?, 0, fails), &gate);
     let clock = StepClock::new(100);
-    let end = run_live(
-        rt, alloc, &plan, &options, &facts, &mut dock, &clock, &gate,
-    )?;
+    let end = run_live(rt, alloc, &plan, &options, &facts, &mut dock, &clock, &gate)?;
     let mut taken = Vec::new(alloc);
     for session in &end.sessions {
         taken.push(session.link.taken().to_vec(alloc)?)?;

@@ -18,7 +18,8 @@ fn sessions_get_what_their_rules_admit(rt: HostRuntime) -> Result<(), Fail> {
         streamers: 64,
         ..runs(2, 800, 2)
     };
-    let both = "rows [1-2 800]\nsession 1 of 1: program [1-2 0..800 400+0]\nsession 2 of 2: program [1-2 0..800 100+0]";
+    let both =
+        "rows [1-2 800]\nsession 1 of 1: program [1-2 0..800 400+0]\nsession 2 of 2: program [1-2 0..800 100+0]";
     let cases: [(Asked, &[Peer], &str); 5] = [
         (runs(1, 0, 1), &[], "rows [1-1 0]"),
         (
