@@ -1,7 +1,6 @@
 -- The threads of a row, one life after another.
-use Rattle.std.proofs.Common.{◌≡◌, ◌≢◌, ℕ, zero, suc, ◌+◌, ◌-◌, ◌*◌, ◌^◌, ◌<◌, ◌≤◌, List, [], ◌∷◌, ◌++◌, refl, ap, ◌∙◌, sym, subst, arith, mul-le-mul_right}
+use Rattle.std.proofs.Common.{◌≡◌, ◌≢◌, ℕ, suc, ◌+◌, ◌-◌, ◌*◌, ◌^◌, ◌<◌, ◌≤◌, List, [], ◌∷◌, ◌++◌, refl, ap, ◌∙◌, sym, arith, mul-le-mul_right}
 use Rattle.ep_guarded.specs.Tied.{thread_of}
-use Rattle.pt_load.specs.Shape.{Drafted}
 use Rattle.pt_load.specs.declared.plan.Plan.{Plan}
 use Rattle.pt_roles.specs.Writers.{drafted, drafts_from}
 

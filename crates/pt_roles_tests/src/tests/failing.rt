@@ -1,6 +1,6 @@
-//! Runs of which a link or the dock fails.
-use super::peers::{Peer, Request, deaf, peer, unheard};
-use super::scene::{Runs, lives, run, runs};
+//! Asked of which a link or the dock fails.
+use super::peers::{Peer, Request, deaf, sound, unheard};
+use super::scene::{Asked, lives, run, runs};
 use std::test::Fail;
 
 // The first link fails at its read, at its reply, at the start of its stream, and behind that; another session gets all.
@@ -28,7 +28,7 @@ fn a_link_that_fails_ends_its_own_session(rt: HostRuntime) -> Result<(), Fail> {
         (deaf(most, 3, 5), ended, 135),
     ];
     for (first, want, bytes) in &cases {
-        let peers = [*first, peer(Request::Jobs)];
+        let peers = [*first, sound(Request::Jobs)];
         let told = run(&rt, rt.alloc(), runs(4, 80, 2), &peers, &[])?;
         assert_eq!(rt; told.text(), *want);
         if *bytes > 0 {
@@ -50,7 +50,7 @@ fn each_write_of_a_link_fails_in_turn(rt: HostRuntime) -> Result<(), Fail> {
     ] {
         let mut failing = 3;
         for _ in 0..1_000u32 {
-            let peers = [deaf(Request::Most, failing, 7), peer(Request::Jobs)];
+            let peers = [deaf(Request::Most, failing, 7), sound(Request::Jobs)];
             let told = run(&rt, rt.alloc(), asked, &peers, &[])?;
             assert!(rt; told.text().ends_with(other));
             if !told.text().contains("session 1 of 1: link\n") {
@@ -66,17 +66,17 @@ fn each_write_of_a_link_fails_in_turn(rt: HostRuntime) -> Result<(), Fail> {
 // Nobody comes in any more, and what is there goes on to its end.
 #[test]
 fn a_dock_that_fails_ends_no_session(rt: HostRuntime) -> Result<(), Fail> {
-    let most = peer(Request::Most);
-    let jobs = peer(Request::Jobs);
-    let first = Runs {
+    let most = sound(Request::Most);
+    let jobs = sound(Request::Jobs);
+    let first = Asked {
         failing_turn: 1,
         ..runs(1, 0, 1)
     };
-    let second = Runs {
+    let second = Asked {
         failing_turn: 2,
         ..runs(4, 80, 2)
     };
-    let cases: [(Runs, &[Peer], &str); 2] = [
+    let cases: [(Asked, &[Peer], &str); 2] = [
         (first, &[], "rows [1-1 0]\nthe dock failed"),
         (
             second,

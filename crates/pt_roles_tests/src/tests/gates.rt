@@ -179,10 +179,12 @@ fn is_meant(event: Event, meant: Event) -> bool {
     match (meant, event) {
         (
             Event::At(Moment::Swept { session, taken }),
-            Event::At(Moment::Swept {
-                session: other,
-                taken: more,
-            }),
+            Event::At(
+                Moment::Swept {
+                    session: other,
+                    taken: more,
+                },
+            ),
         ) => { session == other && taken <= more }
         (meant, event) => meant == event,
     }

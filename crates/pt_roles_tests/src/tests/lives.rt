@@ -1,14 +1,14 @@
-//! Runs whose rows serve one thread after another.
+//! Asked whose rows serve one thread after another.
 use super::gates::{Hold, answered, begun, opened, swept, until, wrote};
-use super::peers::{Peer, Request, deaf, peer};
-use super::scene::{Runs, lives, run};
+use super::peers::{Peer, Request, deaf, sound};
+use super::scene::{Asked, lives, run};
 use std::test::Fail;
 
 // A session is open on each of a row's threads, from its first write to its last.
 #[test]
 fn threads_come_and_go(rt: HostRuntime) -> Result<(), Fail> {
-    let most = peer(Request::Most);
-    let cases: [(Runs, &[Peer], &str); 4] = [
+    let most = sound(Request::Most);
+    let cases: [(Asked, &[Peer], &str); 4] = [
         (lives(2, 80, 1, 3), &[], "rows [5-6 80]"),
         (
             lives(2, 80, 1, 3),
@@ -35,9 +35,9 @@ fn threads_come_and_go(rt: HostRuntime) -> Result<(), Fail> {
 
 #[test]
 fn sessions_come_and_end_between_two_threads(rt: HostRuntime) -> Result<(), Fail> {
-    let most = peer(Request::Most);
-    let jobs = peer(Request::Jobs);
-    let cases: [(Runs, &[Peer], &[Hold], &str); 3] = [
+    let most = sound(Request::Most);
+    let jobs = sound(Request::Jobs);
+    let cases: [(Asked, &[Peer], &[Hold], &str); 3] = [
         // The second session comes once the second threads have made one write each.
         (
             lives(2, 80, 1, 3),
@@ -53,7 +53,7 @@ fn sessions_come_and_end_between_two_threads(rt: HostRuntime) -> Result<(), Fail
         // The session's role learns of the stop once the first threads have made all their writes.
         (
             lives(2, 80, 1, 2),
-            &[most, peer(Request::Info), peer(Request::Stop)],
+            &[most, sound(Request::Info), sound(Request::Stop)],
             &[
                 until(answered(2), wrote(1, 79)),
                 until(answered(2), wrote(2, 79)),

@@ -1,7 +1,7 @@
-//! Runs whose threads wait for one another. Each ends only where none of them waits in vain.
+//! Asked whose threads wait for one another. Each ends only where none of them waits in vain.
 use super::gates::{Hold, answered, begun, often, swept, until, wrote};
-use super::peers::{Peer, Request, peer};
-use super::scene::{Runs, run, runs};
+use super::peers::{Peer, Request, sound};
+use super::scene::{Asked, run, runs};
 use ep_defs::ItemKind;
 use nt_read::TraceReader;
 use std::alloc::Global;
@@ -9,9 +9,9 @@ use std::test::Fail;
 
 #[test]
 fn threads_do_not_wait_for_one_another(rt: HostRuntime) -> Result<(), Fail> {
-    let most = peer(Request::Most);
-    let jobs = peer(Request::Jobs);
-    let cases: [(Runs, &[Peer], &[Hold], &str); 4] = [
+    let most = sound(Request::Most);
+    let jobs = sound(Request::Jobs);
+    let cases: [(Asked, &[Peer], &[Hold], &str); 4] = [
         // Two threads are in a write at once.
         (
             runs(2, 1, 1),
@@ -30,7 +30,7 @@ fn threads_do_not_wait_for_one_another(rt: HostRuntime) -> Result<(), Fail> {
         // three of 80, 80 and 96 bytes.
         (
             runs(1, 40_000, 3),
-            &[most, jobs, peer(Request::Web)],
+            &[most, jobs, sound(Request::Web)],
             &[
                 until(begun(1, 0), swept(3, 0)),
                 until(swept(3, 0), wrote(1, 39_999)),
@@ -72,7 +72,7 @@ fn points_in(alloc: Global, taken: &[u8]) -> Result<usize, Fail> {
 #[test]
 fn a_session_is_swept_beside_its_thread(rt: HostRuntime) -> Result<(), Fail> {
     let alloc = rt.alloc();
-    let most = peer(Request::Most);
+    let most = sound(Request::Most);
     let hold = until(wrote(1, 50), swept(1, 1));
     let told = run(&rt, alloc, runs(1, 100, 1), &[most], &[hold])?;
     assert_eq!(rt;

@@ -52,7 +52,7 @@ pub(super) struct Peer {
 }
 
 /// A peer whose link does not fail.
-pub(super) fn peer(request: Request) -> Peer {
+pub(super) fn sound(request: Request) -> Peer {
     Peer {
         request,
         failing_read: 0,
@@ -65,7 +65,7 @@ pub(super) fn peer(request: Request) -> Peer {
 pub(super) fn unheard(request: Request, failing_read: u64) -> Peer {
     Peer {
         failing_read,
-        ..peer(request)
+        ..sound(request)
     }
 }
 
@@ -74,7 +74,7 @@ pub(super) fn deaf(request: Request, failing_write: u64, keep: usize) -> Peer {
     Peer {
         failing_write,
         keep,
-        ..peer(request)
+        ..sound(request)
     }
 }
 

@@ -15,7 +15,7 @@ use std::time::Clock as Timer;
 
 /// What is asked of a run. It is brought into its bounds.
 #[derive(Clone, Copy, Debug)]
-pub(super) struct Runs {
+pub(super) struct Asked {
     pub(super) threads: u32,
     pub(super) writes: u32,
     pub(super) wait: u32,
@@ -26,8 +26,8 @@ pub(super) struct Runs {
 }
 
 /// A run with so many threads, writes and sessions that the writers wait for, and four streaming roles.
-pub(super) fn runs(threads: u32, writes: u32, wait: u32) -> Runs {
-    Runs {
+pub(super) fn runs(threads: u32, writes: u32, wait: u32) -> Asked {
+    Asked {
         threads,
         writes,
         wait,
@@ -38,8 +38,8 @@ pub(super) fn runs(threads: u32, writes: u32, wait: u32) -> Runs {
 }
 
 /// The same where each row serves so many threads, one after another.
-pub(super) fn lives(threads: u32, writes: u32, wait: u32, lives: u32) -> Runs {
-    Runs {
+pub(super) fn lives(threads: u32, writes: u32, wait: u32, lives: u32) -> Asked {
+    Asked {
         lives,
         ..runs(threads, writes, wait)
     }
@@ -66,11 +66,11 @@ impl Told {
     }
 }
 
-/// Runs the sample program, to whose dock these peers come, and whose threads wait where they are held.
+/// Asked the sample program, to whose dock these peers come, and whose threads wait where they are held.
 pub(super) fn run<R: Threads + Wait + Timer + Sync>(
     rt: &R,
     alloc: Global,
-    asked: Runs,
+    asked: Asked,
     peers: &[Peer],
     holds: &[Hold],
 ) -> Result<Told, AllocError> {
@@ -97,9 +97,7 @@ pub(super) fn run<R: Threads + Wait + Timer + Sync>(
     let fails = [asked.failing_turn].to_vec(alloc)?;
     let mut dock = WatchedDock::new(MemDock::new(links_of(alloc, peers)?, 0, fails), &gate);
     let clock = StepClock::new(100);
-    let end = run_live(
-        rt, alloc, &plan, &options, &facts, &mut dock, &clock, &gate,
-    )?;
+    let end = run_live(rt, alloc, &plan, &options, &facts, &mut dock, &clock, &gate)?;
     let mut taken = Vec::new(alloc);
     for session in &end.sessions {
         taken.push(session.link.taken().to_vec(alloc)?)?;

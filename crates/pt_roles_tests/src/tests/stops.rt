@@ -1,15 +1,15 @@
-//! Runs whose session is stopped.
+//! Asked whose session is stopped.
 use super::gates::{Hold, answered, begun, late, late_as, swept, until, wrote};
-use super::peers::{Peer, Request, peer};
-use super::scene::{Runs, run, runs};
+use super::peers::{Peer, Request, sound};
+use super::scene::{Asked, run, runs};
 use std::test::Fail;
 
 #[test]
 fn a_session_is_stopped_while_it_goes_on(rt: HostRuntime) -> Result<(), Fail> {
-    let most = peer(Request::Most);
-    let jobs = peer(Request::Jobs);
-    let stop = peer(Request::Stop);
-    let cases: [(Runs, &[Peer], &[Hold], &str); 4] = [
+    let most = sound(Request::Most);
+    let jobs = sound(Request::Jobs);
+    let stop = sound(Request::Stop);
+    let cases: [(Asked, &[Peer], &[Hold], &str); 4] = [
         // Within its threads' writes.
         (
             runs(2, 16, 1),

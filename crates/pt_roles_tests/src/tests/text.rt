@@ -56,9 +56,8 @@ fn put_threads(text: &mut String, told: &[(u64, String)]) -> Result<(), AllocErr
     let mut group: Option<(u64, u64, &str)> = None;
     for (thread, said) in told {
         group = match group {
-            Some((first, last, same)) if last.wrapping_add(1) == *thread && same == said.as_str() => {
-                Some((first, *thread, same))
-            }
+            Some((first, last, same)) if last.wrapping_add(1) == *thread && same == said.as_str() =>
+                { Some((first, *thread, same)) }
             Some(ended) => {
                 put_group(text, ended)?;
                 Some((*thread, *thread, said.as_str()))

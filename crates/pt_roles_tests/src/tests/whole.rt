@@ -1,25 +1,26 @@
 //! Whole runs, whose links take all that is written.
-use super::peers::{Peer, Request, peer};
-use super::scene::{Runs, run, runs};
+use super::peers::{Peer, Request, sound};
+use super::scene::{Asked, run, runs};
 use std::test::Fail;
 
 // A session gets of each thread what its rules admit, whatever the number of streaming roles is.
 #[test]
 fn sessions_get_what_their_rules_admit(rt: HostRuntime) -> Result<(), Fail> {
-    let most = peer(Request::Most);
-    let jobs = peer(Request::Jobs);
-    let stop = peer(Request::Stop);
-    let info = peer(Request::Info);
-    let alone = Runs {
+    let most = sound(Request::Most);
+    let jobs = sound(Request::Jobs);
+    let stop = sound(Request::Stop);
+    let info = sound(Request::Info);
+    let alone = Asked {
         streamers: 1,
         ..runs(2, 800, 2)
     };
-    let apart = Runs {
+    let apart = Asked {
         streamers: 64,
         ..runs(2, 800, 2)
     };
-    let both = "rows [1-2 800]\nsession 1 of 1: program [1-2 0..800 400+0]\nsession 2 of 2: program [1-2 0..800 100+0]";
-    let cases: [(Runs, &[Peer], &str); 5] = [
+    let both =
+        "rows [1-2 800]\nsession 1 of 1: program [1-2 0..800 400+0]\nsession 2 of 2: program [1-2 0..800 100+0]";
+    let cases: [(Asked, &[Peer], &str); 5] = [
         (runs(1, 0, 1), &[], "rows [1-1 0]"),
         (
             runs(4, 10_000, 2),

@@ -1,4 +1,4 @@
-use Rattle.std.proofs.Common.{◌≡◌, ℕ, ◌≤◌, length}
+use Rattle.std.proofs.Common.{◌≡◌, ◌≤◌, length}
 use Rattle.std.specs.Prelude.{map, vec_len, vec_capacity}
 use Rattle.std.specs.List.{range_with_len}
 use Rattle.pt_roles.specs.Writers.{AreAtEnd}

@@ -1,4 +1,4 @@
-use Rattle.std.proofs.Common.{◌≡◌, ◌∙◌, ℕ, List, length, Some, sym, ap, subst}
+use Rattle.std.proofs.Common.{◌≡◌, ◌∙◌, ℕ, List, length, sym, ap, subst}
 use Rattle.ep_defs.specs.declared.session.Write.{Write}
 use Rattle.ep_guarded.specs.declared.agreed.Stand.{Stand}
 use Rattle.ep_guarded.specs.Tied.{stand_in, thread_of}
