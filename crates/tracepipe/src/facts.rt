@@ -12,8 +12,10 @@ use std::random::RandomSource;
 use std::rt::Env;
 use uuid::Uuid;
 
-/// The operating system and the processor's architecture, in the words of .NET's runtime.
+/// The operating system, in the word of .NET's runtime.
 const SYSTEM: &str = "Linux";
+
+/// The processor's architecture, in the word of .NET's runtime.
 const ARCHITECTURE: &str = "x64";
 
 /// How many units such a word has at most.

@@ -33,10 +33,8 @@ use pt_io::OpenGate;
 use socket::SocketCaller;
 use standard::{StandardInput, StandardOutput};
 use std::alloc::AllocError;
-use std::io;
-use std::process;
 use std::process::ExitCode;
-use std::thread;
+use std::{io, process, thread};
 
 fn main(rt: HostRuntime) -> ExitCode {
     let mut input = StandardInput::new(rt.reader());
