@@ -1,6 +1,5 @@
 -- What a session of the run comes to, by what its stream says of its end.
-use Rattle.std.proofs.Common.{◌≡◌, ◌≢◌, ℕ, ◌+◌, ◌-◌, ◌<◌, ◌≤◌, Bool, true, false, List, [], ◌∷◌, ◌++◌, length, map, Some, IsTrue, ◌⊎◌, inl, inr, refl, ap, ◌∙◌, sym, subst, arith}
-use Rattle.std.specs.Prelude.{slice_get}
+use Rattle.std.proofs.Common.{◌≡◌, ◌≢◌, ℕ, ◌+◌, ◌-◌, ◌<◌, ◌≤◌, true, false, List, ◌++◌, length, IsTrue, inl, inr, refl, ap, ◌∙◌, sym, subst, arith}
 use Rattle.std.specs.List.{AllByRecursion}
 use Rattle.ep_defs.specs.declared.event.EventDef.{EventDef}
 use Rattle.ep_defs.specs.declared.limits.TheConstants.{WRITES}
@@ -20,8 +19,7 @@ use Rattle.ep_journal.specs.declared.session.Fate.{Fate as Kept}
 use Rattle.ep_journal.specs.declared.session.Stage.TheVariants as stage
 use Rattle.ep_journal.specs.Kept.{was_early}
 use Rattle.ep_registry.specs.declared.hold.Hold.{Hold}
-use Rattle.ep_live_laws.specs.Calls.{IsOutcome}
-use Rattle.ep_live_laws.specs.Streams.{IsPartOf, IsTraceOf, PartsAreFound, TracesAreFound}
+use Rattle.ep_live_laws.specs.Streams.{PartsAreFound, TracesAreFound}
 use Rattle.ep_live_laws.specs.Traced.{ArePart, AreTraced}
 use Rattle.ep_live_laws.specs.Tracing.{TookTraced, TookTracedPart, is_fault}
 use Rattle.pt_load.specs.Sample.{sample}

@@ -1,19 +1,18 @@
 -- The marks of a session, by its places.
-use Rattle.std.proofs.Common.{◌≡◌, ◌≢◌, ℕ, zero, suc, ◌+◌, ◌-◌, ◌<◌, ◌≤◌, Bool, true, false, eqb, ltb, List, [], ◌∷◌, length, map, get_or, refl, ap, ◌∙◌, sym, subst, cond, arith}
+use Rattle.std.proofs.Common.{◌≡◌, ℕ, zero, suc, ◌+◌, ◌-◌, ◌<◌, ◌≤◌, Bool, true, false, eqb, ltb, List, [], ◌∷◌, length, map, get_or, refl, ap, ◌∙◌, sym, subst, arith}
 use Rattle.std.specs.Prelude.{◌==◌, ◌||◌, ◌&&◌, nat_lt, slice_index_or}
 use Rattle.std.specs.List.{AllByRecursion, list_all, list_any, range_with_len}
 use Rattle.std.proofs.lemmas.Bool.{eq-eqb, ltb-false, ltb-true}
 use Rattle.std.proofs.lemmas.Bool.Decides.{nat_tests}
 use Rattle.std.proofs.lemmas.List.Folds.{list_all_at}
 use Rattle.ep_defs.specs.declared.session.Marks.{Marks}
-use Rattle.ep_defs.specs.declared.session.Write.{Write}
 use Rattle.ep_guarded.specs.Tied.{thread_of}
 use Rattle.ep_live_laws.specs.Tracing.{IsOneOf}
 use Rattle.pt_load.specs.declared.plan.Plan.{Plan}
-use Rattle.pt_stream.specs.End.{AreEarly, AreServed, IsFromFirst, IsServed, HasOne}
+use Rattle.pt_stream.specs.End.{AreEarly, AreServed, IsFromFirst}
 use Rattle.pt_stream.specs.State.{IsDone, no_place, place_at}
 use Rattle.pt_stream.specs.declared.place.Place.{Place}
-use Rattle.pt_roles.specs.Ran.{HasEachRow, HasRow, IsThread, is_early, threads_in}
+use Rattle.pt_roles.specs.Ran.{HasEachRow, IsThread, is_early, threads_in}
 use Rattle.pt_roles.specs.World.{WorldState, writes_of}
 use Rattle.pt_roles.proofs.Load.{count-writes}
 

@@ -28,7 +28,7 @@ impl<W: World, L: Link> Model for Finale<W, L> {
 impl<W: World, L: Link> Finale<W, L> {
     /// A session that has ended so.
     pub(crate) fn new(session: LiveSession<L>) -> Finale<W, L>
-        requires { IsEnd L.read_side L.Sink W.world session }
+        requires ended { IsEnd L.read_side L.Sink W.world session }
         ensures { result ≡ session }
     {
         Finale {

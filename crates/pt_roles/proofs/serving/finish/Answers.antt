@@ -5,8 +5,8 @@ use Rattle.pt_roles.specs.World.{writes_of}
 use Rattle.pt_roles.proofs.Ends.{is-end, is-over}
 use Rattle.pt_roles.proofs.serving.finish.Goals as goal
 
-pub new-finale-requires : goal.new-finale-requires
-new-finale-requires g c =
+pub new-finale-requires-clause-ended : goal.new-finale-requires-clause-ended
+new-finale-requires-clause-ended g c =
     let world = g.W.World.world in
     let session = c.session_of-session.result in
     let fact : IsEnd {L = g.row.L.Denot} g.L.Sink.read_side g.L.Sink world session = is-end g.L.Sink.read_side g.L.Sink _ (λ s. refl) (λ s. refl) (λ s. refl) (λ s. refl) world g.W.Program.rows g.W.Program.events g.W.Program.writes g.W.Run.setting g.W.Process.facts g.W.Process.greeting c.args.stream c.args.fate c.end-end.result.0 session

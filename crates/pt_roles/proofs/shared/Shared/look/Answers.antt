@@ -1,4 +1,4 @@
-use Rattle.std.proofs.Common.{◌≡◌, ℕ, Bool, true, false, Option, Some, None, refl, ap, sym}
+use Rattle.std.proofs.Common.{◌≡◌, ℕ, Bool, true, false, Option, Some, None, ap, sym}
 use Rattle.ep_journal.specs.declared.session.Fate.{Fate}
 use Rattle.ep_journal.specs.declared.session.Fate.TheVariants as fate
 use Rattle.ep_journal.specs.Recorded.{fate_by}
