@@ -2,7 +2,7 @@
 use Rattle.std.proofs.Common.{◌≡◌, ◌≢◌, ℕ, zero, suc, ◌+◌, ◌-◌, ◌<◌, ◌≤◌, Bool, true, false, List, [], ◌∷◌, ◌++◌, length, take, Option, None, Some, refl, ap, ◌∙◌, sym, subst, cond, arith, ◌⊎◌, inl, inr}
 use Rattle.std.specs.Prelude.{◌&&◌, count_by, if◌then◌else◌, not, slice_get}
 use Rattle.std.specs.List.{AllByRecursion}
-use Rattle.std.proofs.lemmas.List.{length-take-le, take_all}
+use Rattle.std.proofs.lemmas.List.{length-take, length-take-le, take_all}
 use Rattle.std.proofs.lemmas.List.Sums.{sum_by_push}
 use Rattle.std.proofs.lemmas.Option.{cond_some, slice_get_within}
 use Rattle.ep_journal.specs.declared.decision.Decision.{Decision}
@@ -48,31 +48,34 @@ told-at-end decisions entries false told =
 -- An entry of a failed start more.
 pub known-failed : {L : Type 0} (id : ℕ) (entries : List Entry) (sessions : List (LiveSession L)) (entry : Entry)
     → is_session entry ≡ false → AreKnown id entries sessions → AreKnown id (entries ++ entry ∷ []) sessions
-known-failed id [] [] entry no known = rw no tt
-known-failed id [] (s ∷ ss) entry no known = absurd known
-known-failed {L} id (e ∷ es) sessions entry no known =
-    first (is_session e) sessions known
+known-failed id [] [] entry failed known = rw failed tt
+known-failed id [] (s ∷ ss) entry failed known = absurd known
+known-failed {L} id (e ∷ es) sessions entry failed known =
+    first (λ ss k. known-failed (id + 1) es ss entry failed k) (is_session e) sessions known
   where
-    first : (b : Bool) (ss : List (LiveSession L)) → KnowsFirst (AreKnown (id + 1) es) id e b ss → KnowsFirst (AreKnown (id + 1) (es ++ entry ∷ [])) id e b ss
-    first false ss known = known-failed (id + 1) es ss entry no known
-    first true [] known = absurd known
-    first true (s ∷ ss) known = (known.0, known-failed (id + 1) es ss entry no known.1)
+    first : ((ss : List (LiveSession L)) → AreKnown (id + 1) es ss → AreKnown (id + 1) (es ++ entry ∷ []) ss)
+        → (b : Bool) (ss : List (LiveSession L)) → KnowsFirst (AreKnown (id + 1) es) id e b ss → KnowsFirst (AreKnown (id + 1) (es ++ entry ∷ [])) id e b ss
+    first others false ss k = others ss k
+    first others true [] k = absurd k
+    first others true (s ∷ ss) k = (k.0, others ss k.1)
 
 -- A session more.
 pub known-more : {L : Type 0} (id : ℕ) (entries : List Entry) (sessions : List (LiveSession L)) (entry : Entry) (session : LiveSession L)
     → is_session entry ≡ true → IsKnownAs (id + length entries) entry session → AreKnown id entries sessions → AreKnown id (entries ++ entry ∷ []) (sessions ++ session ∷ [])
-known-more id [] [] entry session yes is known = rw yes (subst (λ (n : ℕ). IsKnownAs n entry session) (omega arith) is, tt)
-known-more id [] (s ∷ ss) entry session yes is known = absurd known
-known-more {L} id (e ∷ es) sessions entry session yes is known =
-    first (is_session e) sessions known
+known-more id [] [] entry session is own known =
+    let here : id + 0 ≡ id = omega arith in
+    rw is (subst (λ (n : ℕ). IsKnownAs n entry session) here own, tt)
+known-more id [] (s ∷ ss) entry session is own known = absurd known
+known-more {L} id (e ∷ es) sessions entry session is own known =
+    let up : id + length (e ∷ es) ≡ id + 1 + length es = omega arith in
+    let later = subst (λ (n : ℕ). IsKnownAs n entry session) up own in
+    first (λ ss k. known-more (id + 1) es ss entry session is later k) (is_session e) sessions known
   where
-    later : IsKnownAs (id + 1 + length es) entry session
-    later = subst (λ (n : ℕ). IsKnownAs n entry session) (omega arith) is
-
-    first : (b : Bool) (ss : List (LiveSession L)) → KnowsFirst (AreKnown (id + 1) es) id e b ss → KnowsFirst (AreKnown (id + 1) (es ++ entry ∷ [])) id e b (ss ++ session ∷ [])
-    first false ss known = known-more (id + 1) es ss entry session yes later known
-    first true [] known = absurd known
-    first true (s ∷ ss) known = (known.0, known-more (id + 1) es ss entry session yes later known.1)
+    first : ((ss : List (LiveSession L)) → AreKnown (id + 1) es ss → AreKnown (id + 1) (es ++ entry ∷ []) (ss ++ session ∷ []))
+        → (b : Bool) (ss : List (LiveSession L)) → KnowsFirst (AreKnown (id + 1) es) id e b ss → KnowsFirst (AreKnown (id + 1) (es ++ entry ∷ [])) id e b (ss ++ session ∷ [])
+    first others false ss k = others ss k
+    first others true [] k = absurd k
+    first others true (s ∷ ss) k = (k.0, others ss k.1)
 
 -- It holds of one more.
 pub all-more : {A : Type 0} (P : A → Type 0) (xs : List A) (x : A) → AllByRecursion P xs → P x → AllByRecursion P (xs ++ x ∷ [])
@@ -88,7 +91,7 @@ count-more p xs x b is = sum_by_push (λ y. cond (p y) 1 0) xs x ∙ ap (λ (c :
 take-at : {A : Type 0} (xs : List A) (n : ℕ) (x : A) → slice_get xs n ≡ Some x → take (suc n) xs ≡ take n xs ++ x ∷ []
 take-at [] n x is = absurd (cc)
 take-at (y ∷ ys) zero x is = cc
-take-at (y ∷ ys) (suc n) x is = ap (λ zs. y ∷ zs) (take-at ys n x is)
+take-at {A} (y ∷ ys) (suc n) x is = ap (λ (zs : List A). y ∷ zs) (take-at ys n x is)
 
 take-past : {A : Type 0} (xs : List A) (n : ℕ) → slice_get xs n ≡ None → length xs ≤ n
 take-past [] n is = omega arith
@@ -117,7 +120,7 @@ one-le false b h = omega arith
 one-le true true h = omega arith
 one-le true false h = let no : false ≡ true = h refl in absurd (cc)
 
-none-false : (b : Bool) → cond b 1 0 ≡ 0 → b ≡ false
+none-false : (b : Bool) → ◌≡◌ {A = ℕ} (cond b 1 0) 0 → b ≡ false
 none-false false is = refl
 none-false true is = absurd (omega arith)
 
@@ -153,8 +156,8 @@ left-within entries n hold is = by (slice_get entries n) refl is
 -- ---- what is left so far
 
 -- A session ends as it does whenever it could be stopped no more.
-pub end-gone : {L : Type 0} (gave : L → ReadSide) (sink : Sink L) (world : WorldState) (s : LiveSession L) (gone : Option ℕ) → IsEnd gave sink world s → IsEnd gave sink world (record s { gone = gone })
-end-gone gave sink world s gone end =
+pub end-gone : {L : Type 0} (gave : L → ReadSide) (sink : Sink L) (world : WorldState) (s : LiveSession L) (when : Option ℕ) → IsEnd gave sink world s → IsEnd gave sink world (record s { gone = when })
+end-gone gave sink world s when end =
     record {
       asked = end.asked;
       marks = end.marks;
@@ -173,13 +176,13 @@ module _ {L : Type 0} (gave : L → ReadSide) (sink : Sink L) (world : WorldStat
   -- An entry of a failed start more.
   left-failed : (entries : List Entry) (sessions : List (LiveSession L)) (e : Entry) → is_session e ≡ false
       → AreLeftOver gave sink world entries sessions → AreLeftOver gave sink world (entries ++ e ∷ []) sessions
-  left-failed entries sessions e no left =
-      let early : kept.is_early e ≡ false = ap (λ (b : Bool). was_early e.opened && b) no ∙ and-false (was_early e.opened) in
-      let late : is_late e ≡ false = ap (λ (b : Bool). was_late e.opened && b) no ∙ and-false (was_late e.opened) in
+  left-failed entries sessions e failed left =
+      let early : kept.is_early e ≡ false = ap (λ (b : Bool). was_early e.opened && b) failed ∙ and-false (was_early e.opened) in
+      let late : is_late e ≡ false = ap (λ (b : Bool). was_late e.opened && b) failed ∙ and-false (was_late e.opened) in
       let same_early = count-more kept.is_early entries e false early in
       let same_late = count-more is_late entries e false late in
       record {
-        known = known-failed 1 entries sessions e no left.known;
+        known = known-failed 1 entries sessions e failed left.known;
         each = left.each;
         early = omega (arith, same_early, left.early);
         all_early = λ none. left.all_early (omega (arith, same_late, none));
@@ -189,32 +192,32 @@ module _ {L : Type 0} (gave : L → ReadSide) (sink : Sink L) (world : WorldStat
   left-more : (entries : List Entry) (sessions : List (LiveSession L)) (e : Entry) (s : LiveSession L) → is_session e ≡ true → IsKnownAs (1 + length entries) e s → IsEnd gave sink world s
       → (was_early e.opened ≡ true → is_early world s.marks ≡ true) → (is_fault s.fate ≡ false → was_opened e.opened ≡ true)
       → AreLeftOver gave sink world entries sessions → AreLeftOver gave sink world (entries ++ e ∷ []) (sessions ++ s ∷ [])
-  left-more entries sessions e s yes is end early complete left =
+  left-more entries sessions e s began own end early complete left =
       record {
-        known = known-more 1 entries sessions e s yes is left.known;
+        known = known-more 1 entries sessions e s began own left.known;
         each = all-more (IsEnd gave sink world) sessions s left.each end;
         early = omega (arith, entry_more, session_more, here, left.early);
         all_early =
             λ none.
             let one = count-more is_late entries e (is_late e) refl in
             let before : count_by is_late entries ≡ 0 = omega (arith, one, none) in
-            let own : cond (is_late e) 1 0 ≡ 0 = omega (arith, one, none) in
-            let late : was_late e.opened ≡ false = sym (is-late) ∙ none-false (is_late e) own in
-            all-more (λ x. is_fault x.fate ≡ false → is_early world x.marks ≡ true) sessions s (left.all_early before)
+            let alone : ◌≡◌ {A = ℕ} (cond (is_late e) 1 0) 0 = omega (arith, one, none) in
+            let late : was_late e.opened ≡ false = sym (is-late) ∙ none-false (is_late e) alone in
+            all-more (λ (x : LiveSession L). is_fault x.fate ≡ false → is_early world x.marks ≡ true) sessions s (left.all_early before)
             (λ sound. early (opened-early e.opened (complete sound) late));
       }
     where
       is-early : kept.is_early e ≡ was_early e.opened
-      is-early = ap (λ (b : Bool). was_early e.opened && b) yes ∙ and-true (was_early e.opened)
+      is-early = ap (λ (b : Bool). was_early e.opened && b) began ∙ and-true (was_early e.opened)
 
       is-late : is_late e ≡ was_late e.opened
-      is-late = ap (λ (b : Bool). was_late e.opened && b) yes ∙ and-true (was_late e.opened)
+      is-late = ap (λ (b : Bool). was_late e.opened && b) began ∙ and-true (was_late e.opened)
 
       entry_more : count_by kept.is_early (entries ++ e ∷ []) ≡ count_by kept.is_early entries + cond (was_early e.opened) 1 0
       entry_more = count-more kept.is_early entries e (was_early e.opened) is-early
 
-      session_more : count_by (λ x. is_early world x.marks) (sessions ++ s ∷ []) ≡ count_by (λ x. is_early world x.marks) sessions + cond (is_early world s.marks) 1 0
-      session_more = count-more (λ x. is_early world x.marks) sessions s (is_early world s.marks) refl
+      session_more : count_by (λ (x : LiveSession L). is_early world x.marks) (sessions ++ s ∷ []) ≡ count_by (λ (x : LiveSession L). is_early world x.marks) sessions + cond (is_early world s.marks) 1 0
+      session_more = count-more (λ (x : LiveSession L). is_early world x.marks) sessions s (is_early world s.marks) refl
 
       here : cond (was_early e.opened) 1 0 ≤ cond (is_early world s.marks) 1 0
       here = one-le (was_early e.opened) (is_early world s.marks) early
@@ -230,15 +233,15 @@ module _ {L : Type 0} (gave : L → ReadSide) (sink : Sink L) (world : WorldStat
           let same : take n entries ≡ take (suc n) entries = take_all n entries few ∙ sym (take_all (suc n) entries (omega (arith, few))) in
           subst (λ (es : List Entry). AreLeftOver gave sink world es sessions) same left
       by (Some e) at is =
-          let no = none-left (has_ended e.stage) (hold_of (suc n) e) is in
+          let unended = none-left (has_ended e.stage) (hold_of (suc n) e) is in
           subst (λ (es : List Entry). AreLeftOver gave sink world es sessions) (sym (take-at entries n e at))
-          (left-failed (take n entries) sessions e (unended-failed e.stage (ended (suc n) e at) no) left)
+          (left-failed (take n entries) sessions e (unended-failed e.stage (ended (suc n) e at) unended) left)
 
   -- A session is left under the next id.
   pub left-taken : (entries : List Entry) (n : ℕ) (sessions : List (LiveSession L)) (e : Entry) (hold : Hold) (s : LiveSession L) → slice_get entries n ≡ Some e
       → over_as (suc n) (slice_get entries n) ≡ Some hold → IsOver world hold s → s.gone ≡ e.gone → IsEnd gave sink world s
       → AreLeftOver gave sink world (take n entries) sessions → AreLeftOver gave sink world (take (suc n) entries) (sessions ++ s ∷ [])
-  left-taken entries n sessions e hold s at known over gone end left =
+  left-taken entries n sessions e hold s at known over when end left =
       let was : over_as (suc n) (Some e) ≡ Some hold = subst (λ (o : Option Entry). over_as (suc n) o ≡ Some hold) at known in
       let is = cond_some (has_ended e.stage) (hold_of (suc n) e) hold was in
       let own : hold_of (suc n) e ≡ hold = is.1 in
@@ -251,7 +254,7 @@ module _ {L : Type 0} (gave : L → ReadSide) (sink : Sink L) (world : WorldStat
         id_is = over.id_is ∙ ap (λ (h : Hold). h.id) (sym own) ∙ number;
         conn_is = over.conn_is ∙ ap (λ (h : Hold). h.conn) (sym own);
         fate_is = ap (λ (h : Hold). h.stage) own ∙ over.stage_is;
-        gone_is = sym gone;
+        gone_is = sym when;
       })
       end
       (λ early. over.early (ap (λ (h : Hold). was_early h.opened) (sym own) ∙ early))
@@ -286,6 +289,13 @@ over-at over entries n place all few at =
   where
     some-same : (a b : Option Hold) → Some a ≡ Some b → a ≡ b
     some-same a b e = cc
+
+-- The same, where the places are cut off behind those of all connections.
+pub next-place : (over places : List (Option Hold)) (entries : List Entry) (n : ℕ) (place : Option Hold) → AreOver over entries → places ≡ take CONNECTIONS over → n < length places → slice_get places n ≡ Some place
+    → over_as (suc n) (slice_get entries n) ≡ place
+next-place over places entries n place all cut within at =
+    let few : n < CONNECTIONS = omega (arith, length-take CONNECTIONS over, ap length cut, within) in
+    over-at over entries n place all few (sym (get-take over CONNECTIONS n few) ∙ ap (λ (xs : List (Option Hold)). slice_get xs n) (sym cut) ∙ at)
 
 -- There is a place for each connection.
 pub over-long : (over : List (Option Hold)) (entries : List Entry) → AreOver over entries → CONNECTIONS ≤ length over

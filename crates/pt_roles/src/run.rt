@@ -563,9 +563,9 @@ fn serve_on<
         serving.entry.desk.decider result.2.desk.decider }
     ensures same { result.0.dock.ghost_name ≡ held.entry.dock.ghost_name }
 {
-    if first != Exit::Enough {
+    let Exit::Enough = first else {
         return (held, first, serving);
-    }
+    };
     let Serving {
         scene,
         shared,
@@ -613,7 +613,17 @@ fn end_of<'a, W: World, L: Link + Drop>(
         rows: end.rows,
         sessions: sessions_of(ended.over, &ended.sessions, sessions),
         conns,
-        dock_failed: exit == Exit::Failed,
+        dock_failed: has_failed(exit),
+    }
+}
+
+// Whether the dock has failed.
+fn has_failed(exit: Exit) -> bool
+    ensures { result ≡ has_failed exit }
+{
+    match exit {
+        Exit::Failed => true,
+        Exit::Enough | Exit::Closed | Exit::Full => false,
     }
 }
 
@@ -649,7 +659,7 @@ fn session_with<'a, W: World, L: Link + Drop>(
     finished: Left<'a, W, L>,
     gone: Option<u32>,
 ) -> LiveSession<L>
-    ensures over { IsOver W.world finished result }
+    ensures over { IsOver W.world finished.entry result }
     ensures gone { result.gone ≡ gone }
     ensures is_end { IsEnd L.read_side L.Sink W.world result }
 {
