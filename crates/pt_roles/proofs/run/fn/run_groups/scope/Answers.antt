@@ -4,11 +4,11 @@ use Rattle.pt_roles.proofs.Ran.{served-by}
 use Rattle.pt_roles.proofs.run.fn.run_groups.scope.Goals as goal
 
 pub serve_on-held-requires-clause-open : goal.serve_on-held-requires-clause-open
-serve_on-held-requires-clause-open g c =
+serve_on-held-requires-clause-open g c κs within =
     c.serve_until_ready-held.ensures.turned.goes.left ∙ ap (λ (h : ServerHalf). h.left) c.requires.0
 
 pub serve_on-held-requires-clause-greeting : goal.serve_on-held-requires-clause-greeting
-serve_on-held-requires-clause-greeting g c = c.serve_until_ready-held.ensures.turned.greets ∙ c.requires.2
+serve_on-held-requires-clause-greeting g c κs within = c.serve_until_ready-held.ensures.turned.greets ∙ c.requires.2
 
 pub returns : goal.returns
 returns g c =
