@@ -1,0 +1,7 @@
+mod AsBox
+mod Counts
+mod Definitions
+mod Handles
+mod Pulling
+mod Recordings
+mod Refusing
