@@ -1,5 +1,5 @@
 //! How many events each thread has.
-ghost use Rattle.std.specs.Prelude.{◌≡◌, ℕ, ◌+◌, ◌<◌, ◌≤◌, List, Some, None, Err, [], length, IfOk, OnOk, OnErr, ◌==◌, if◌then◌else◌};
+ghost use Rattle.std.specs.Prelude.{◌≡◌, ℕ, ◌+◌, ◌<◌, ◌≤◌, List, Some, None, Err, [], length, IsOk, IfOk, OnOk, OnErr, ◌==◌, if◌then◌else◌};
 ghost use Rattle.std.specs.BTreeMap.{btree_map_len, IsOrdered};
 ghost use Rattle.std.specs.List.Sorted.{IsStrictlySortedBy};
 ghost use Rattle.std.specs.Map.{keys_of};
@@ -7,7 +7,7 @@ ghost use Rattle.std.specs.Ordering.{nat_cmp};
 ghost use Rattle.nt_blocks.specs.declared.limits.TheConstants.{POINT_THREADS};
 ghost use Rattle.tp_c.specs.declared.refusal.Refusal.{Refusal};
 ghost use Rattle.tp_c.specs.declared.refusal.Refusal.TheVariants.{OutOfMemory};
-ghost use Rattle.tp_c.specs.Counting.{told_of, count_in, thread_refused};
+ghost use Rattle.tp_c.specs.Counting.{told_of, count_in, more_refused, thread_refused};
 
 use crate::refusal::Refusal;
 use nt_blocks::limits::POINT_THREADS;
@@ -40,6 +40,7 @@ impl Threads {
     }
 
     /// Counts one event more of a thread, and answers its number among them, from 1.
+    #[tactic(auto, using(std::proofs::lemmas::Map::Steps::set_value_same))]
     pub fn count(&mut self, thread: u64) -> Result<u32, Refusal>
         ensures refused { (refusal : Refusal) → thread_refused self.old thread ≡ Some refusal
             → result ≡ Err refusal }
@@ -51,10 +52,9 @@ impl Threads {
         ensures ascending { OnOk result (IsStrictlySortedBy nat_cmp (keys_of self.new)) }
         ensures same { OnErr result (self.new ≡ self.old) }
     {
-        let number = next(&self.counts, thread)?;
-        match self.counts.insert(thread, number) {
-            Ok(_) => Ok(number),
-            Err(_) => Err(Refusal::OutOfMemory),
+        match self.counts.get_mut(&thread) {
+            Some(count) => one_more(count),
+            None => begin(&mut self.counts, thread),
         }
     }
 
@@ -81,25 +81,42 @@ fn listed(alloc: Global, counts: &BTreeMap<u64, u32>) -> Result<Vec<(u64, u32)>,
     Ok(list)
 }
 
-// The number of the next event of a thread.
-fn next(counts: &BTreeMap<u64, u32>, thread: u64) -> Result<u32, Refusal>
-    ensures refused { (refusal : Refusal) → result ≡ Err refusal
-        → thread_refused counts.now.entries thread ≡ Some refusal }
-    ensures accepted { OnOk result (thread_refused counts.now.entries thread ≡ None) }
-    ensures number { IfOk result (λ number. number ≡ count_in counts.now.entries thread + 1) }
-    ensures room { OnOk result (told_of thread counts.now.entries ≡ None
-        → btree_map_len counts.now < POINT_THREADS) }
+// Counts one event more, and answers the count.
+fn one_more(count: &mut u32) -> Result<u32, Refusal>
+    ensures counted { IfOk result (λ number. (number ≡ count.old + 1) × (count.new ≡ number)) }
+    ensures refused { (refusal : Refusal) → more_refused count.old ≡ Some refusal → result ≡ Err refusal }
+    ensures accepted { more_refused count.old ≡ None → IsOk result }
+    ensures same { OnErr result (count.new ≡ count.old) }
 {
-    match counts.get(&thread) {
-        Some(count) => match count.checked_add(1) {
-            Some(number) => Ok(number),
-            None => Err(Refusal::TooManyEvents),
-        },
-        None => {
-            if counts.len() >= POINT_THREADS {
-                return Err(Refusal::TooManyThreads);
-            }
-            Ok(1)
+    match count.checked_add(1) {
+        Some(number) => {
+            *count = number;
+            Ok(number)
         }
+        None => Err(Refusal::TooManyEvents),
+    }
+}
+
+// Counts the first event of a thread.
+fn begin(counts: &mut BTreeMap<u64, u32>, thread: u64) -> Result<u32, Refusal>
+    requires absent { told_of thread counts.old.entries ≡ None }
+    requires few { btree_map_len counts.old ≤ POINT_THREADS }
+    ensures refused { (refusal : Refusal) → thread_refused counts.old.entries thread ≡ Some refusal
+        → result ≡ Err refusal }
+    ensures memory { (refusal : Refusal) → thread_refused counts.old.entries thread ≡ None
+        → result ≡ Err refusal → refusal ≡ OutOfMemory }
+    ensures number { IfOk result (λ number. number ≡ 1) }
+    ensures counted { OnOk result ((other : ℕ) → told_of other counts.new.entries
+        ≡ (if thread == other then Some 1 else told_of other counts.old.entries)) }
+    ensures few { btree_map_len counts.new ≤ POINT_THREADS }
+    ensures ascending { OnOk result (IsOrdered nat_cmp counts.new) }
+    ensures same { OnErr result (counts.new.entries ≡ counts.old.entries) }
+{
+    if counts.len() >= POINT_THREADS {
+        return Err(Refusal::TooManyThreads);
+    }
+    match counts.insert(thread, 1) {
+        Ok(_) => Ok(1),
+        Err(_) => Err(Refusal::OutOfMemory),
     }
 }
