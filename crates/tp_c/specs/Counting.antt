@@ -36,10 +36,15 @@ pub record IsRoll (entries : List Entry) (threads : List (ℕ × ℕ)) : Type 0 
   pub counted : (thread : ℕ) → count_in threads thread ≡ events_of thread entries
   pub some : (thread count : ℕ) → told_of thread threads ≡ Some count → 0 < count
 
--- Why one event more of a thread is refused: numbers have 32 bits, and a point names 1,000,001 threads at most.
+-- Why one event more than a count is refused: numbers have 32 bits.
+abbrev pub more_refused : ℕ → Option Refusal
+more_refused count = if nat_le (2 ^ 32 - 1) count then Some TooManyEvents else None
+
+-- Why one event more of a thread is refused: it has too many, or it would be one thread more than the 1,000,001 that a
+-- point names at most.
 abbrev pub thread_refused : List (ℕ × ℕ) → ℕ → Option Refusal
 thread_refused threads thread = refused_after (told_of thread threads)
   where
     refused_after : Option ℕ → Option Refusal
-    refused_after (Some count) = if nat_le (2 ^ 32 - 1) count then Some TooManyEvents else None
+    refused_after (Some count) = more_refused count
     refused_after None = if nat_le POINT_THREADS (length threads) then Some TooManyThreads else None
