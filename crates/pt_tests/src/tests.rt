@@ -1,0 +1,3 @@
+//! The words of commands.
+mod trace_words;
+mod words;
