@@ -3,8 +3,9 @@
 # stands in the map, that what the documents cite of a crate or a file stands there, and clauses in contracts, that each wrong
 # body can be planted, and README.md's counts, snippets and figures. Then each run in README.md and docs/*.md (an indented
 # block with lines `$ ..`) is made anew in a folder of its own, and its output compared; a line `...` stands for whatever
-# follows, and of a run of `trace` the numbers of stacks and points, which differ from run to run, are passed over. It ends
-# with 1 if anything differs. It needs python3 and xxd.
+# follows, and of a run of `trace` the numbers of stacks and points, which differ from run to run, are passed over. So is what
+# needs two terminals, `run` and the clients, of which `bench/run.sh` makes the like. It ends with 1 if anything differs. It
+# needs python3 and xxd.
 #
 #   bench/documents.sh [PROGRAM]      runs this program, by default the proved one
 here=$(cd "$(dirname "$0")/.." && pwd) || exit 1
@@ -15,7 +16,7 @@ here, program = sys.argv[1], os.path.abspath(sys.argv[2])
 README = f"{here}/README.md"
 DOCUMENTS = [README, f"{here}/CONTRIBUTING.md", *sorted(glob.glob(f"{here}/docs/*.md"))]
 CRATES = {os.path.basename(it) for it in glob.glob(f"{here}/crates/*")}
-OURS = re.compile(r"\./tracepipe|xxd ")
+OURS = re.compile(r"\./tracepipe (?!(run|ps|collect|stop) )|xxd ")
 # The first two numbers of the line `items` are events and definitions.
 VARYING = re.compile(r"^(items\s+\d+\s+\d+)\s+\d+\s+\d+$")
 
@@ -91,10 +92,10 @@ def are_named(path):
 
 
 def are_mapped():
-    """Whether the map has exactly the crates of crates.txt, in their order."""
+    """Whether the map has exactly the crates of crates.txt that are no tests, in their order."""
     path = f"{here}/docs/ARCHITECTURE.md"
     mapped = [quoted_in(cells[0])[0] for head, cells in rows_of(path) if head == "Crate" and len(cells) == 2]
-    listed = re.findall(r"^([a-z_]+)[ :]", read(f"{here}/crates.txt"), re.M)
+    listed = [it for it in re.findall(r"^([a-z_]+)[ :]", read(f"{here}/crates.txt"), re.M) if not it.endswith("_tests")]
     if mapped != listed:
         odd = [it for it in listed if it not in mapped] + [it for it in mapped if it not in listed]
         tell(path, f"the map is not that of crates.txt: {', '.join(odd) or 'another order'}")
@@ -193,7 +194,8 @@ def are_planted():
 
 def are_tested():
     """Whether each line of a snippet of README.md stands in a test that runs."""
-    tests = "".join(read(name) for name in glob.glob(f"{here}/crates/*/src/**/tests*.rt", recursive=True))
+    names = glob.glob(f"{here}/crates/*/src/**/*.rt", recursive=True)
+    tests = "".join(read(name) for name in names if "/tests" in name)
     lines = [line.strip() for block in re.findall(r"```rust\n(.*?)```", read(README), re.S) for line in block.splitlines()]
     missing = [line for line in lines if line and line not in tests]
     for line in missing:

@@ -13,8 +13,6 @@
 
 mod ended;
 mod machine;
-#[cfg(test)]
-mod tests;
 mod work;
 
 pub use machine::{Machine, StepFault};

@@ -23,6 +23,3 @@ pub use asking::{Asked, collect_size, put_collect, put_info, put_stop};
 pub use laws::what_is_put_is_read;
 pub use reply::{ProcessInfo, Reply, ReplyFault, read_reply};
 pub use request::{Request, RequestFault, read_request};
-
-#[cfg(test)]
-mod tests;

@@ -13,8 +13,6 @@ mod ask;
 mod calls;
 mod fault;
 mod stream;
-#[cfg(test)]
-mod tests;
 
 pub use calls::{collect, info, stop};
 pub use fault::CallFault;

@@ -14,8 +14,6 @@
 mod checker;
 mod ids;
 mod limits;
-#[cfg(test)]
-mod tests;
 mod threads;
 
 pub use checker::{CheckFault, CheckKind, Checker};

@@ -1,6 +1,6 @@
 -- A fault has its cause, whatever the command is.
 use Rattle.std.proofs.Common.{◌≡◌, ℕ, ◌⊎◌, refl, ap, inl, inr, Option, Some, None}
-use Rattle.std.specs.Prelude.{true, false, ◌≢◌}
+use Rattle.std.specs.Prelude.{Bool, List, true, false, ◌≢◌}
 use Rattle.pt_io.specs.declared.caller.Caller.{Ghosts as Caller}
 use Rattle.pt_io.specs.declared.sink.Sink.{Ghosts as Sink}
 use Rattle.pt_io.specs.declared.source.Source.{Ghosts as Source}
@@ -9,6 +9,12 @@ use Rattle.pt_command.specs.declared.end.End.{End}
 use Rattle.pt_command.specs.declared.end.End.TheVariants as ends
 use Rattle.pt_command.specs.Answers.{HasCauses}
 use Rattle.pt_command.specs.Says.{SaysLine}
+use Rattle.pt_io.specs.declared.dock.Dock.{Ghosts as Dock}
+use Rattle.pt_io.specs.Sides.{ReadSide, WriteSide}
+use Rattle.ep_defs.specs.declared.session.Facts.{Facts}
+use Rattle.pt_roles.specs.declared.live_end.LiveEnd.{LiveEnd}
+use Rattle.pt_run.specs.Command.{RunsTo, end_of, text_of}
+use Rattle.pt_run.specs.declared.words.Asked.{Asked as RunAsked}
 use Rattle.pt_cli.specs.declared.words.Command.{Command}
 use Rattle.pt_cli.specs.declared.words.Command.TheVariants as command
 use Rattle.pt_cli.specs.Errors.{words_error}
@@ -59,6 +65,7 @@ plain-causes source sink (Some command.Report) input_old input_new old new end c
 plain-causes source sink (Some (command.Gen asked)) input_old input_new old new end comes alone =
     unread-causes source sink input_old input_new old new end (alone refl) (gen-unread end comes.ends) comes.write_fault comes.all_written
 plain-causes source sink (Some (command.Trace asked)) input_old input_new old new end comes alone = line-causes source sink input_old input_new old new end (alone refl) comes
+plain-causes source sink (Some (command.Run asked)) input_old input_new old new end comes alone = line-causes source sink input_old input_new old new end (alone refl) comes
 plain-causes source sink (Some (command.Client asked)) input_old input_new old new end comes alone = line-causes source sink input_old input_new old new end (alone refl) comes
 plain-causes source sink None input_old input_new old new end comes alone = line-causes source sink input_old input_new old new end (alone refl) comes
 
@@ -69,6 +76,7 @@ plain-words source sink (Some (command.Replay session)) input_old input_new old 
 plain-words source sink (Some command.Report) input_old input_new old new end is comes = absurd (cc)
 plain-words source sink (Some (command.Gen asked)) input_old input_new old new end is comes = absurd (cc)
 plain-words source sink (Some (command.Trace asked)) input_old input_new old new end is comes = comes
+plain-words source sink (Some (command.Run asked)) input_old input_new old new end is comes = comes
 plain-words source sink (Some (command.Client asked)) input_old input_new old new end is comes = comes
 plain-words source sink None input_old input_new old new end is comes = comes
 
@@ -102,18 +110,37 @@ reading-faults : {I O : Type 0} (source : Source I) (sink : Sink O) (asked : Opt
 reading-faults source sink asked input_old input_new old new end reads causes =
     record { reads = reads; read_fault = causes.read_fault; all_read = causes.all_read; write_fault = causes.write_fault; all_written = λ _. causes.all_written }
 
-pub comes-faults : {I O K L : Type 0} (source : Source I) (sink : Sink O) (caller : Caller K L) (reads : Source L) (takes : Sink L) (asked : Option Command) (a : Around I O K L) (end : End)
-    → ComesTo source sink caller reads takes asked a end → (reads_input asked ≡ false → a.input_new ≡ a.input_old)
+-- What is said of a run ends with the run's own end, or with a fault of the output, or for want of memory.
+saying-causes : {O : Type 0} (sink : Sink O) (old new : O) (text : List ℕ) (failed : Bool) (end : End) → SaysLine sink old new text (end_of failed) end
+    → (end ≢ ends.ReadFault) × (end ≡ ends.WriteFault → HasRisen (sink.write_faults old) (sink.write_faults new)) × (end ≢ ends.WriteFault → sink.write_faults new ≡ sink.write_faults old)
+saying-causes sink old new text true end (inl (inl said)) = let is = said.0 in ((λ read. cc), (λ fault. absurd (cc)), (λ _. said.1.sound))
+saying-causes sink old new text false end (inl (inl said)) = let is = said.0 in ((λ read. cc), (λ fault. absurd (cc)), (λ _. said.1.sound))
+saying-causes sink old new text failed end (inl (inr broke)) = let is = broke.0 in ((λ read. cc), (λ _. broke.1.fault), (λ other. absurd (other is)))
+saying-causes sink old new text failed end (inr none) = let is = none.0 in ((λ read. cc), (λ fault. absurd (cc)), (λ _. ap sink.write_faults none.1))
+
+runs-causes : {O D L : Type 0} (sink : Sink O) (dock : Dock D L) (takes : Sink L) (gave : L → ReadSide) (took : L → WriteSide) (asked : RunAsked) (facts : Facts)
+    (old new : O) (dock_old dock_new : D) (live : Option (LiveEnd L)) (end : End) → RunsTo sink dock takes gave took asked facts old new dock_old dock_new live end
+    → (end ≢ ends.ReadFault) × (end ≡ ends.WriteFault → HasRisen (sink.write_faults old) (sink.write_faults new)) × (end ≢ ends.WriteFault → sink.write_faults new ≡ sink.write_faults old)
+runs-causes sink dock takes gave took asked facts old new dock_old dock_new (Some live) end runs =
+    saying-causes sink old new (text_of asked.plan live) live.dock_failed end runs.ran.told
+runs-causes sink dock takes gave took asked facts old new dock_old dock_new None end runs =
+    let none = runs.unrun refl in
+    let is = none.0 in
+    ((λ read. cc), (λ fault. absurd (cc)), (λ _. ap sink.write_faults none.1))
+
+pub comes-faults : {I O D K L : Type 0} (source : Source I) (sink : Sink O) (dock : Dock D L) (caller : Caller K L) (reads : Source L) (takes : Sink L) (gave : L → ReadSide) (took : L → WriteSide)
+    (facts : Facts) (asked : Option Command) (a : Around I O D K L) (end : End)
+    → ComesTo source sink dock caller reads takes gave took facts asked a end → (reads_input asked ≡ false → a.input_new ≡ a.input_old)
     → HasFaults source sink asked a.input_old a.input_new a.output_old a.output_new end
-comes-faults source sink caller reads takes (Some (command.Replay session)) a end comes alone =
+comes-faults source sink dock caller reads takes gave took facts (Some (command.Replay session)) a end comes alone =
     reading-faults source sink (Some (command.Replay session)) a.input_old a.input_new a.output_old a.output_new end (λ _. refl) comes.answers.causes
-comes-faults source sink caller reads takes (Some command.Report) a end comes alone =
+comes-faults source sink dock caller reads takes gave took facts (Some command.Report) a end comes alone =
     reading-faults source sink (Some command.Report) a.input_old a.input_new a.output_old a.output_new end (λ _. refl) comes.answers.causes
-comes-faults source sink caller reads takes (Some (command.Gen asked)) a end comes alone =
+comes-faults source sink dock caller reads takes gave took facts (Some (command.Gen asked)) a end comes alone =
     let read = gen-unread end comes.ends in
     reading-faults source sink (Some (command.Gen asked)) a.input_old a.input_new a.output_old a.output_new end (λ is. absurd (read is))
     (unread-causes source sink a.input_old a.input_new a.output_old a.output_new end (alone refl) read comes.write_fault comes.all_written)
-comes-faults source sink caller reads takes (Some (command.Trace asked)) a end comes alone =
+comes-faults source sink dock caller reads takes gave took facts (Some (command.Trace asked)) a end comes alone =
     let read = trace-unread end comes.ends in
     record {
       reads = λ is. absurd (read is);
@@ -122,10 +149,14 @@ comes-faults source sink caller reads takes (Some (command.Trace asked)) a end c
       write_fault = comes.write_fault;
       all_written = λ memory written. trace-written end comes.ends comes.all_written memory written;
     }
-comes-faults source sink caller reads takes (Some (command.Client asked)) a end comes alone =
+comes-faults source sink dock caller reads takes gave took facts (Some (command.Run asked)) a end comes alone =
+    let of_run = runs-causes sink dock takes gave took asked facts a.output_old a.output_new a.dock_old a.dock_new a.live end comes in
+    reading-faults source sink (Some (command.Run asked)) a.input_old a.input_new a.output_old a.output_new end (λ is. absurd (of_run.0 is))
+    (unread-causes source sink a.input_old a.input_new a.output_old a.output_new end (alone refl) of_run.0 of_run.1 of_run.2)
+comes-faults source sink dock caller reads takes gave took facts (Some (command.Client asked)) a end comes alone =
     let read = client-unread end comes.ends in
     reading-faults source sink (Some (command.Client asked)) a.input_old a.input_new a.output_old a.output_new end (λ is. absurd (read is))
     (unread-causes source sink a.input_old a.input_new a.output_old a.output_new end (alone refl) read comes.write_fault comes.all_written)
-comes-faults source sink caller reads takes None a end comes alone =
+comes-faults source sink dock caller reads takes gave took facts None a end comes alone =
     reading-faults source sink None a.input_old a.input_new a.output_old a.output_new end (λ is. absurd (line-unread sink a.output_old a.output_new end comes is))
     (line-causes source sink a.input_old a.input_new a.output_old a.output_new end (alone refl) comes)

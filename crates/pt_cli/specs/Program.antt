@@ -13,11 +13,16 @@ use Rattle.pt_client.specs.Answers.{Asks}
 use Rattle.pt_gen.specs.Command.{Generates}
 use Rattle.pt_replay.specs.Command.{Replays}
 use Rattle.pt_report.specs.Command.{Reports}
+use Rattle.pt_run.specs.Command.{RunsTo}
+use Rattle.pt_roles.specs.declared.live_end.LiveEnd.{LiveEnd}
+use Rattle.pt_io.specs.declared.dock.Dock.{Ghosts as Dock}
+use Rattle.pt_io.specs.Sides.{ReadSide, WriteSide}
+use Rattle.ep_defs.specs.declared.session.Facts.{Facts}
 use Rattle.pt_cli.specs.declared.words.Command.{Command}
 use Rattle.pt_cli.specs.declared.words.Command.TheVariants as command
 use Rattle.pt_cli.specs.Errors.{words_error}
 use Rattle.pt_cli.specs.Traced.{TracesTo}
-use Rattle.pt_cli.specs.Words.{reads_input, calls_peer, runs_threads}
+use Rattle.pt_cli.specs.Words.{reads_input, calls_peer, runs_server, runs_threads}
 
 -- What a command comes to that waits for nobody. All others are refused there, as words are that ask for nothing.
 abbrev pub PlainComesTo : {I O : Type 0} → Source I → Sink O → Option Command → I → I → O → O → End → Type 0
@@ -27,24 +32,30 @@ PlainComesTo source sink (Some (command.Gen asked)) input_old input_new old new 
 PlainComesTo source sink asked input_old input_new old new end = SaysLine sink old new words_error ends.Words end
 
 -- What the objects around the program are before it and after it, and what it answers beside its end.
-pub record Around (I O K L : Type 0) : Type 0 where
+pub record Around (I O D K L : Type 0) : Type 0 where
   pub input_old : I
   pub input_new : I
   pub output_old : O
   pub output_new : O
+  pub dock_old : D
+  pub dock_new : D
   pub caller_old : K
   pub caller_new : K
   pub peer : Option L
   pub rows : List (ℕ × ℕ)
   pub seat : Option SeatState
   pub marks : List Marks
+  pub live : Option (LiveEnd L)
 
--- What any command comes to.
-abbrev pub ComesTo : {I O K L : Type 0} → Source I → Sink O → Caller K L → Source L → Sink L → Option Command → Around I O K L → End → Type 0
-ComesTo source sink caller reads takes (Some (command.Trace asked)) a end = TracesTo sink asked a.output_old a.output_new a.rows a.seat a.marks end
-ComesTo source sink caller reads takes (Some (command.Client asked)) a end =
+-- What any command comes to, where the program says this of itself.
+abbrev pub ComesTo : {I O D K L : Type 0} → Source I → Sink O → Dock D L → Caller K L → Source L → Sink L → (L → ReadSide) → (L → WriteSide) → Facts → Option Command
+    → Around I O D K L → End → Type 0
+ComesTo source sink dock caller reads takes gave took facts (Some (command.Trace asked)) a end = TracesTo sink asked a.output_old a.output_new a.rows a.seat a.marks end
+ComesTo source sink dock caller reads takes gave took facts (Some (command.Run asked)) a end =
+    RunsTo sink dock takes gave took asked facts a.output_old a.output_new a.dock_old a.dock_new a.live end
+ComesTo source sink dock caller reads takes gave took facts (Some (command.Client asked)) a end =
     Asks sink caller reads takes asked a.output_old a.output_new a.caller_old a.caller_new a.peer end
-ComesTo source sink caller reads takes asked a end = PlainComesTo source sink asked a.input_old a.input_new a.output_old a.output_new end
+ComesTo source sink dock caller reads takes gave took facts asked a end = PlainComesTo source sink asked a.input_old a.input_new a.output_old a.output_new end
 
 -- A fault of the input or the output comes only from the object that was handed in, in this call, and is answered. But a run
 -- of threads that finds no memory says so, whether or not the end of its stream could be written.
@@ -56,7 +67,9 @@ pub record HasFaults {I O : Type 0} (source : Source I) (sink : Sink O) (asked :
   pub all_written : (runs_threads asked ≡ false) ⊎ (end ≢ ends.OutOfMemory) → end ≢ ends.WriteFault → sink.write_faults output_new ≡ sink.write_faults output_old
 
 -- What a command has no use for is left alone.
-pub record LeavesAlone {I K L : Type 0} (asked : Option Command) (input_old input_new : I) (caller_old caller_new : K) (peer : Option L) (rows : List (ℕ × ℕ)) (seat : Option SeatState) (marks : List Marks) : Type 0 where
+pub record LeavesAlone {I D K L : Type 0} (asked : Option Command) (input_old input_new : I) (dock_old dock_new : D) (caller_old caller_new : K) (peer : Option L)
+    (live : Option (LiveEnd L)) (rows : List (ℕ × ℕ)) (seat : Option SeatState) (marks : List Marks) : Type 0 where
   pub unread : reads_input asked ≡ false → input_new ≡ input_old
+  pub unserved : runs_server asked ≡ false → (live ≡ None) × (dock_new ≡ dock_old)
   pub nobody : calls_peer asked ≡ false → (peer ≡ None) × (caller_new ≡ caller_old)
   pub untraced : runs_threads asked ≡ false → (rows ≡ []) × (seat ≡ None) × (marks ≡ [])

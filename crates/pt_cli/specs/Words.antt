@@ -7,6 +7,7 @@ use Rattle.pt_gen.specs.declared.limits.TheConstants.{MOST_WRITES}
 use Rattle.pt_gen.specs.Words as gen
 use Rattle.pt_client.specs.Answers as client
 use Rattle.pt_client.specs.Words.{command_in}
+use Rattle.pt_run.specs.Words as run
 use Rattle.pt_cli.specs.TraceWords as trace
 use Rattle.pt_cli.specs.declared.words.Command.{Command}
 use Rattle.pt_cli.specs.declared.words.Command.TheVariants as command
@@ -45,6 +46,7 @@ meant words =
     ∷ (if is_report words then Some command.Report else None)
     ∷ option_map (λ asked. command.Gen asked) (gen.asked_in words)
     ∷ option_map (λ asked. command.Trace asked) (trace.asked_in words)
+    ∷ option_map (λ asked. command.Run asked) (run.asked_in words)
     ∷ option_map (λ asked. command.Client asked) (command_in words)
     ∷ [])
 
@@ -56,6 +58,7 @@ Fits (command.Replay session) = Unit {0}
 Fits command.Report = Unit {0}
 Fits (command.Gen asked) = asked.writes ≤ MOST_WRITES
 Fits (command.Trace asked) = trace.Fits asked
+Fits (command.Run asked) = run.Fits asked
 Fits (command.Client asked) = client.Fits asked
 
 -- ---- what a command touches
@@ -78,7 +81,12 @@ abbrev pub calls_peer : Option Command → Bool
 calls_peer (Some (command.Client asked)) = true
 calls_peer asked = false
 
--- It runs threads.
+-- It runs the diagnostic server.
+abbrev pub runs_server : Option Command → Bool
+runs_server (Some (command.Run asked)) = true
+runs_server asked = false
+
+-- It runs threads under a session of its own.
 abbrev pub runs_threads : Option Command → Bool
 runs_threads (Some (command.Trace asked)) = true
 runs_threads asked = false

@@ -5,6 +5,7 @@ ghost use Rattle.pt_cli.specs.Ends.{Ended};
 use ep_defs::{Items, MarkList};
 use ep_pool::PoolSeat;
 use pt_command::End;
+use pt_roles::LiveEnd;
 use std::alloc::Global;
 
 /// How the program ended.
@@ -26,6 +27,8 @@ pub struct Finished<L> {
     pub seat: Option<PoolSeat>,
     /// What the session of `trace` had of each thread, ascending by thread; none for all other commands.
     pub marks: MarkList,
+    /// What is left of the run of `run`; none for all other commands, and where there was no memory for it to begin.
+    pub live: Option<LiveEnd<L>>,
 }
 
 /// How a command ended that waits for nobody.
@@ -37,13 +40,14 @@ pub struct Plain {
     pub at: u64,
 }
 
-/// The end of a command that traced nothing.
+/// The end of a command that ran no threads.
 pub(crate) fn ended_with<L>(alloc: Global, end: End, peer: Option<L>) -> Finished<L>
     ensures ended { Ended end result.status result.code result.at }
     ensures peer { result.peer ≡ peer }
     ensures rows { result.rows.items ≡ [] }
     ensures seat { result.seat ≡ None }
     ensures marks { result.marks ≡ [] }
+    ensures live { result.live ≡ None }
 {
     Finished {
         status: end.status(),
@@ -53,5 +57,6 @@ pub(crate) fn ended_with<L>(alloc: Global, end: End, peer: Option<L>) -> Finishe
         rows: Vec::new(alloc),
         seat: None,
         marks: Items::new(Vec::new(alloc)),
+        live: None,
     }
 }

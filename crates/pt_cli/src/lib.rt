@@ -22,9 +22,6 @@ mod words;
 
 pub use ends::{Finished, Plain};
 pub use top::tracepipe;
-pub use trace_words::Asked;
+pub use trace_words::{Asked, asked_of};
 pub use waitless::plain;
 pub use words::Command;
-
-#[cfg(test)]
-mod tests;

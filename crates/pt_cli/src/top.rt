@@ -1,5 +1,5 @@
 //! The top call.
-ghost use Rattle.std.specs.Prelude.{◌≡◌, ℕ, [], false, map, Some, None, IfSome};
+ghost use Rattle.std.specs.Prelude.{◌≡◌, ℕ, [], false, map, Some, None, IfSome, IsTrue};
 ghost use Rattle.std.specs.String.{string_bytes};
 ghost use Rattle.pt_command.specs.declared.end.End.TheVariants as ends;
 ghost use Rattle.pt_command.specs.Says.{SaysLine};
@@ -9,6 +9,8 @@ ghost use Rattle.pt_gen.specs.Command.{Generates};
 ghost use Rattle.pt_gen.specs.declared.words.Asked.{Asked as GenAsked};
 ghost use Rattle.pt_replay.specs.Command.{Replays};
 ghost use Rattle.pt_report.specs.Command.{Reports};
+ghost use Rattle.pt_run.specs.Command.{RunsTo};
+ghost use Rattle.pt_run.specs.declared.words.Asked.{Asked as RunAsked};
 ghost use Rattle.pt_cli.specs.declared.trace_words.Asked.{Asked as TraceAsked};
 ghost use Rattle.pt_cli.specs.declared.words.Command.TheVariants as commands;
 ghost use Rattle.pt_cli.specs.Ends.{EndsSo};
@@ -16,14 +18,18 @@ ghost use Rattle.pt_cli.specs.Errors.{words_error};
 ghost use Rattle.pt_cli.specs.Program.{ComesTo, HasFaults, LeavesAlone, PlainComesTo};
 ghost use Rattle.pt_cli.specs.Traced.{TracesTo};
 ghost use Rattle.pt_cli.specs.Words.{meant, reads_input, Fits};
+ghost use Rattle.ep_defs.specs.Session.{is_valid_facts};
+ghost use Rattle.pt_run.specs.Words.{Fits as RunFits};
 
 use crate::ends::{Finished, ended_with};
 use crate::traced::traced;
 use crate::waitless::without_waiting;
 use crate::words::{Command, command_of};
+use ep_defs::{Facts, Items};
 use pt_client::{Called, client};
 use pt_command::End;
-use pt_io::{Caller, Clock, Gate, Sink, Source};
+use pt_io::{Caller, Clock, Dock, Gate, Link, Sink, Source};
+use pt_run::{Ran, run};
 use std::alloc::{AllocError, Global};
 use std::sync::Wait;
 use std::thread::Threads;
@@ -43,26 +49,35 @@ use std::time;
 /// and asks it for a session of MB megabytes, for the end of the session ID, or what it is. It writes the session's stream
 /// as it comes, or one line.
 ///
+/// With `run THREADS WRITES [--seed S] [--wait N] [--streamers K] [--lives L]` it runs the sample program with its diagnostic
+/// server, whose peers come in at `dock` and are told what `facts` say of the program. In the end it writes what its sessions
+/// had of each thread, in one write.
+///
 /// With `trace THREADS WRITES TEXT [--seed S] [--mb MB]` it runs the sample program with its threads and a session that the
 /// start-up text TEXT asks for, and writes the session's stream as it comes. Stamps are what `clock` says; the threads pass
-/// `gate` at their moments. It may wait for its threads and their locks; no other command waits.
+/// `gate` at their moments. Both may wait for their threads and locks; no other command waits.
 pub fn tracepipe<
     R: Threads + Wait + time::Clock + Sync,
+    L: Link + Drop,
     I: Source,
     O: Sink,
-    K: Caller,
+    D: Dock<Link = L>,
+    K: Caller<Link = L>,
     C: Clock,
     G: Gate,
 >(
     rt: &R,
     alloc: Global,
     words: &[String],
+    facts: &Facts,
     input: &mut I,
     output: &mut O,
+    dock: &mut D,
     caller: &mut K,
     clock: &C,
     gate: &G,
-) -> Finished<K::Link>
+) -> Finished<L>
+    requires facts { IsTrue (is_valid_facts facts.now) }
     ensures replayed { (session : ℕ) → meant (map string_bytes words.now) ≡ Some (commands.Replay session)
         → EndsSo result.status result.code result.at
         (Replays I.Source O.Sink session input.old input.new output.old output.new) }
@@ -74,18 +89,24 @@ pub fn tracepipe<
     ensures traced { (asked : TraceAsked) → meant (map string_bytes words.now) ≡ Some (commands.Trace asked)
         → EndsSo result.status result.code result.at
         (TracesTo O.Sink asked output.old output.new result.rows.items result.seat result.marks) }
+    ensures ran { (asked : RunAsked) → meant (map string_bytes words.now) ≡ Some (commands.Run asked)
+        → EndsSo result.status result.code result.at
+        (RunsTo O.Sink D.Dock L.Sink L.read_side L.write_side asked facts.now
+        output.old output.new dock.old dock.new result.live) }
     ensures asked { (asked : ClientCommand) → meant (map string_bytes words.now) ≡ Some (commands.Client asked)
         → EndsSo result.status result.code result.at
-        (Asks O.Sink K.Caller K.Link.Source K.Link.Sink asked output.old output.new caller.old caller.new result.peer) }
+        (Asks O.Sink K.Caller L.Source L.Sink asked output.old output.new caller.old caller.new result.peer) }
     ensures words { meant (map string_bytes words.now) ≡ None
         → EndsSo result.status result.code result.at (SaysLine O.Sink output.old output.new words_error ends.Words) }
     ensures faults { EndsSo result.status result.code result.at
         (HasFaults I.Source O.Sink (meant (map string_bytes words.now)) input.old input.new output.old output.new) }
-    ensures alone { LeavesAlone (meant (map string_bytes words.now)) input.old input.new caller.old caller.new
-        result.peer result.rows.items result.seat result.marks }
+    ensures alone { LeavesAlone (meant (map string_bytes words.now)) input.old input.new dock.old dock.new
+        caller.old caller.new result.peer result.live result.rows.items result.seat result.marks }
 {
     match command_of(alloc, words) {
-        Ok(command) => carry_out(rt, alloc, command, input, output, caller, clock, gate),
+        Ok(command) => carry_out(
+            rt, alloc, command, facts, input, output, dock, caller, clock, gate,
+        ),
         Err(AllocError) => ended_with(alloc, End::OutOfMemory, None),
     }
 }
@@ -93,42 +114,90 @@ pub fn tracepipe<
 // Does what the command asks for; without one the words are refused.
 fn carry_out<
     R: Threads + Wait + time::Clock + Sync,
+    L: Link + Drop,
     I: Source,
     O: Sink,
-    K: Caller,
+    D: Dock<Link = L>,
+    K: Caller<Link = L>,
     C: Clock,
     G: Gate,
 >(
     rt: &R,
     alloc: Global,
     command: Option<Command<'_>>,
+    facts: &Facts,
     input: &mut I,
     output: &mut O,
+    dock: &mut D,
     caller: &mut K,
     clock: &C,
     gate: &G,
-) -> Finished<K::Link>
-    requires { IfSome command Fits }
+) -> Finished<L>
+    requires fits { IfSome command Fits }
+    requires facts { IsTrue (is_valid_facts facts.now) }
     ensures comes { EndsSo result.status result.code result.at
-        (ComesTo I.Source O.Sink K.Caller K.Link.Source K.Link.Sink command.entry (record {
+        (ComesTo I.Source O.Sink D.Dock K.Caller L.Source L.Sink L.read_side L.write_side facts.now command.entry (record {
           input_old = input.old;
           input_new = input.new;
           output_old = output.old;
           output_new = output.new;
+          dock_old = dock.old;
+          dock_new = dock.new;
           caller_old = caller.old;
           caller_new = caller.new;
           peer = result.peer;
           rows = result.rows.items;
           seat = result.seat;
           marks = result.marks;
+          live = result.live;
         })) }
-    ensures alone { LeavesAlone command.entry input.old input.new caller.old caller.new result.peer
-        result.rows.items result.seat result.marks }
+    ensures alone { LeavesAlone command.entry input.old input.new dock.old dock.new caller.old caller.new
+        result.peer result.live result.rows.items result.seat result.marks }
 {
     match command {
         Some(Command::Trace(asked)) => traced(rt, alloc, asked, output, clock, gate),
+        Some(Command::Run(asked)) => ran(rt, alloc, asked, facts, output, dock, clock, gate),
         Some(Command::Client(command)) => asked(alloc, &command, output, caller),
         command => told(alloc, &command, input, output),
+    }
+}
+
+// Runs the sample program with its diagnostic server.
+fn ran<
+    R: Threads + Wait + time::Clock + Sync,
+    L: Link + Drop,
+    O: Sink,
+    D: Dock<Link = L>,
+    C: Clock,
+    G: Gate,
+>(
+    rt: &R,
+    alloc: Global,
+    asked: pt_run::Asked,
+    facts: &Facts,
+    output: &mut O,
+    dock: &mut D,
+    clock: &C,
+    gate: &G,
+) -> Finished<L>
+    requires fits { RunFits asked }
+    requires facts { IsTrue (is_valid_facts facts.now) }
+    ensures runs { EndsSo result.status result.code result.at
+        (RunsTo O.Sink D.Dock L.Sink L.read_side L.write_side asked facts.now
+        output.old output.new dock.old dock.new result.live) }
+    ensures nobody { result.peer ≡ None }
+    ensures untraced { (result.rows.items ≡ []) × (result.seat ≡ None) × (result.marks ≡ []) }
+{
+    let Ran { end, live } = run(rt, alloc, asked, facts, output, dock, clock, gate);
+    Finished {
+        status: end.status(),
+        code: end.code(),
+        at: end.at(),
+        peer: None,
+        rows: Vec::new(alloc),
+        seat: None,
+        marks: Items::new(Vec::new(alloc)),
+        live,
     }
 }
 
@@ -142,7 +211,7 @@ fn asked<K: Caller, O: Sink>(
     requires { ClientFits command.now }
     ensures asks { EndsSo result.status result.code result.at
         (Asks O.Sink K.Caller K.Link.Source K.Link.Sink command.now output.old output.new caller.old caller.new result.peer) }
-    ensures untraced { (result.rows.items ≡ []) × (result.seat ≡ None) × (result.marks ≡ []) }
+    ensures idle { (result.rows.items ≡ []) × (result.seat ≡ None) × (result.marks ≡ []) × (result.live ≡ None) }
 {
     let Called { end, peer } = client(alloc, command, output, caller);
     ended_with(alloc, end, peer)
@@ -160,7 +229,7 @@ fn told<L, I: Source, O: Sink>(
         (PlainComesTo I.Source O.Sink command.now input.old input.new output.old output.new) }
     ensures unread { reads_input command.now ≡ false → input.new ≡ input.old }
     ensures nobody { result.peer ≡ None }
-    ensures untraced { (result.rows.items ≡ []) × (result.seat ≡ None) × (result.marks ≡ []) }
+    ensures idle { (result.rows.items ≡ []) × (result.seat ≡ None) × (result.marks ≡ []) × (result.live ≡ None) }
 {
     let end = without_waiting(alloc, command, input, output);
     ended_with(alloc, end, None)

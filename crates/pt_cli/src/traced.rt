@@ -32,6 +32,7 @@ pub(crate) fn traced<L, R: Threads + Wait + time::Clock + Sync, O: Sink, C: Cloc
     ensures traced { EndsSo result.status result.code result.at
         (TracesTo O.Sink asked output.old output.new result.rows.items result.seat result.marks) }
     ensures nobody { result.peer ≡ None }
+    ensures unserved { result.live ≡ None }
 {
     let Asked { plan, config } = asked;
     match run_trace(
@@ -44,14 +45,12 @@ pub(crate) fn traced<L, R: Threads + Wait + time::Clock + Sync, O: Sink, C: Cloc
         clock,
         gate,
     ) {
-        Ok(
-            TraceEnd {
-                rows,
-                marks,
-                fate,
-                seat,
-            },
-        ) => {
+        Ok(TraceEnd {
+            rows,
+            marks,
+            fate,
+            seat,
+        }) => {
             let end = end_of(fate);
             Finished {
                 status: end.status(),
@@ -61,6 +60,7 @@ pub(crate) fn traced<L, R: Threads + Wait + time::Clock + Sync, O: Sink, C: Cloc
                 rows,
                 seat,
                 marks,
+                live: None,
             }
         }
         Err(AllocError) => ended_with(alloc, End::OutOfMemory, None),

@@ -19,6 +19,8 @@ pub enum Command<'a> {
     Gen(pt_gen::Asked),
     /// For a trace of the sample program.
     Trace(Asked),
+    /// For a run of the sample program with its diagnostic server.
+    Run(pt_run::Asked),
     /// For something of a peer.
     Client(pt_client::Command<'a>),
 }
@@ -42,6 +44,9 @@ pub(crate) fn command_of<'a>(
     }
     if let Some(asked) = asked_of(alloc, words)? {
         return Ok(Some(Command::Trace(asked)));
+    }
+    if let Some(asked) = pt_run::asked_of(alloc, words)? {
+        return Ok(Some(Command::Run(asked)));
     }
     match pt_client::command_of(alloc, words)? {
         Some(command) => Ok(Some(Command::Client(command))),

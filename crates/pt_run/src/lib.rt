@@ -11,6 +11,7 @@
 //! What was chosen here, and why: docs/DECISIONS.md, "The program".
 #![tactic(auto)]
 
+mod command;
 pub mod limits;
 mod plan;
 mod summary;
@@ -18,6 +19,7 @@ mod summary;
 mod tests;
 mod words;
 
+pub use command::{Ran, run};
 pub use plan::{number_from, plan_of};
 pub use summary::{put_connections, put_plan, put_session};
 pub use words::{Asked, asked_of};

@@ -65,3 +65,19 @@ pub trait Deciding<H, F> {
             ≡ with_item (decisions self.old) (length (decisions self.old)) decision.Nothing }
         ensures same { same self.old self.new };
 }
+
+/// Who is told which sessions were opened on all that there is to open them on. What is told changes no decision.
+pub trait Opening<H> {
+    ghost use Rattle.std.specs.Prelude.{Bool};
+
+    // Who has a session that was not opened yet.
+    ghost can_open: { H → Type 0 };
+
+    // What becomes of both where a session was opened, early or later.
+    ghost opens: { Bool → Self → Self → H → H → Type 0 };
+
+    /// The session was opened, early or later.
+    fn open(&mut self, holder: &mut H, early: bool)
+        requires { can_open holder.old }
+        ensures { opens early self.old self.new holder.old holder.new };
+}

@@ -13,7 +13,7 @@ ghost use Rattle.ep_journal.specs.Items.{with_item};
 ghost use Rattle.ep_journal.specs.Kept.{is_last};
 
 use crate::answer::{Answered, Asked, answer};
-use crate::deciding::{Begun, Deciding};
+use crate::deciding::{Begun, Deciding, Opening};
 use crate::process::Process;
 use crate::unstarted::{Unstarted, end_unstarted};
 use ep_defs::Facts;
@@ -158,6 +158,13 @@ impl<N: Process, H: Drop, F: Drop, D: Deciding<H, F> + Drop, L: Link + Drop> Des
         gate.pass(Moment::Answered { conn });
     }
 
+    /// Who decides.
+    pub fn decider(&self) -> &D
+        ensures { result.now ≡ self.now.decider }
+    {
+        &self.decider
+    }
+
     /// Who decides, and the connections that have ended and are no sessions, by number.
     pub fn finish(self) -> (D, Vec<ConnEnd<L>>)
         ensures told { AreTold L.read_side L.write_side N.facts N.greeting 1 (D.decisions result.0)
@@ -171,5 +178,18 @@ impl<N: Process, H: Drop, F: Drop, D: Deciding<H, F> + Drop, L: Link + Drop> Des
             tag: _,
         } = self;
         (decider, conns)
+    }
+}
+
+impl<N: Process, H, F, D: Deciding<H, F> + Opening<H>, L: Link> Desk<N, H, F, D, L> {
+    /// Tells who decides that a session was opened, early or later, where that changes no decision.
+    pub fn open(&mut self, holder: &mut H, early: bool)
+        requires can { D.can_open holder.old }
+        requires keeps { (decider : D) (opened : H) → D.opens early self.old.decider decider holder.old opened
+            → D.decisions decider ≡ D.decisions self.old.decider }
+        ensures opens { D.opens early self.old.decider self.new.decider holder.old holder.new }
+        ensures conns { self.new.conns ≡ self.old.conns }
+    {
+        self.decider.open(holder, early);
     }
 }

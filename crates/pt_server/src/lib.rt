@@ -22,11 +22,8 @@ mod served;
 mod unstarted;
 
 pub use answer::Asked;
-pub use deciding::{Begun, Deciding};
+pub use deciding::{Begun, Deciding, Opening};
 pub use desk::{ConnAnswer, ConnEnd, Desk};
 pub use process::Process;
 pub use served::Served;
 pub use unstarted::Unstarted;
-
-#[cfg(test)]
-mod tests;

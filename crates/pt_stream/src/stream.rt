@@ -86,6 +86,7 @@ impl<'a, P: Run, S: Sink> Stream<'a, P, S> {
         ensures free { IfErr result (λ failed. failed.free ≡ accepted.entry.free) }
         ensures part { IfErr result (λ failed. TookStart S.tells_taken S.taken reply.now info.now
             accepted.entry.sink failed.sink) }
+        ensures told { IfErr result (λ failed. S.tells_taken failed.sink ≡ S.tells_taken accepted.entry.sink) }
         ensures write_fault { IfErr result (λ failed. failed.fault ≡ WriteFault
             → HasRisen (S.write_faults accepted.entry.sink) (S.write_faults failed.sink)) }
         ensures not_long { IfErr result (λ failed. failed.fault ≢ TooLong) }
@@ -511,6 +512,7 @@ fn begin<'a, P: Run, R: Wait, S: Sink>(
     ensures started { IfOk result (λ stream. stream ≡ new_stream P.rows seat.id seat.slot seat.conn config (S.read_side sink)) }
     ensures free { IfErr result (λ failed. failed.free ≡ seat.slot) }
     ensures part { IfErr result (λ failed. TookStart S.tells_taken S.taken reply.now info.now sink failed.sink) }
+    ensures told { IfErr result (λ failed. S.tells_taken failed.sink ≡ S.tells_taken sink) }
     ensures write_fault { IfErr result (λ failed. failed.fault ≡ WriteFault
         → HasRisen (S.write_faults sink) (S.write_faults failed.sink)) }
     ensures not_long { IfErr result (λ failed. failed.fault ≢ TooLong) }

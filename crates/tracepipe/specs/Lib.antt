@@ -1,3 +1,4 @@
 pub mod Standard
 pub mod Sockets
 pub mod Docks
+pub mod Names

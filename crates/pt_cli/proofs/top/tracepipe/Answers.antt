@@ -17,6 +17,9 @@ returns-in-Ok-clause-generated g c = λ asked is. rw (c.in-Ok.ensures.meant ∙ 
 pub returns-in-Ok-clause-traced : goal.returns-in-Ok-clause-traced
 returns-in-Ok-clause-traced g c = λ asked is. rw (c.in-Ok.ensures.meant ∙ is) at c.carry_out.ensures.comes
 
+pub returns-in-Ok-clause-ran : goal.returns-in-Ok-clause-ran
+returns-in-Ok-clause-ran g c = λ asked is. rw (c.in-Ok.ensures.meant ∙ is) at c.carry_out.ensures.comes
+
 pub returns-in-Ok-clause-asked : goal.returns-in-Ok-clause-asked
 returns-in-Ok-clause-asked g c = λ asked is. rw (c.in-Ok.ensures.meant ∙ is) at c.carry_out.ensures.comes
 
@@ -29,17 +32,20 @@ returns-in-Ok-clause-faults g c =
     let Faults : Option Command → Type 0 =
     λ asked. HasFaults g.I.Source g.O.Sink asked c.args.input.now c.carry_out.new.input c.args.output.now c.carry_out.new.output comes.0 in
     let result = c.carry_out.result in
-    let around : Around g.row.I.Denot g.row.O.Denot g.row.K.Denot g.row.K-Link.Denot =
+    let around : Around g.row.I.Denot g.row.O.Denot g.row.D.Denot g.row.K.Denot g.row.L.Denot =
     record {
       input_old = c.args.input.now;
       input_new = c.carry_out.new.input;
       output_old = c.args.output.now;
       output_new = c.carry_out.new.output;
+      dock_old = c.args.dock.now;
+      dock_new = c.carry_out.new.dock;
       caller_old = c.args.caller.now;
       caller_new = c.carry_out.new.caller;
       peer = result.peer;
       rows = result.rows.items;
       seat = result.seat;
       marks = result.marks;
+      live = result.live;
     } in
-    (comes.0, comes.1, subst Faults c.in-Ok.ensures.meant (comes-faults g.I.Source g.O.Sink g.K.Caller g.K.Link.Source g.K.Link.Sink c.in-Ok.command around comes.0 comes.2 c.carry_out.ensures.alone.unread))
+    (comes.0, comes.1, subst Faults c.in-Ok.ensures.meant (comes-faults g.I.Source g.O.Sink g.D.Dock g.K.Caller g.L.Source g.L.Sink g.L.Sink.read_side g.L.Source.write_side c.args.facts.now c.in-Ok.command around comes.0 comes.2 c.carry_out.ensures.alone.unread))

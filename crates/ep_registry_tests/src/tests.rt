@@ -1,0 +1,3 @@
+//! The journal alone, and the registry over it.
+mod journal;
+mod registry;

@@ -1,0 +1,3 @@
+//! The messages, and the calls.
+mod body;
+mod call;

@@ -1,0 +1,10 @@
+pub mod World
+pub mod Fates
+pub mod Writers
+pub mod Ran
+pub mod Table
+pub mod Server
+pub mod Roles
+pub mod Streamers
+pub mod Serving
+pub mod Ending

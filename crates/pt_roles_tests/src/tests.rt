@@ -1,0 +1,11 @@
+//! Runs with a server over links in memory.
+mod failing;
+mod gates;
+mod lives;
+mod moments;
+mod peers;
+mod scene;
+mod stops;
+mod text;
+mod watched;
+mod whole;

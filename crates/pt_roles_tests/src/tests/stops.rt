@@ -1,0 +1,52 @@
+//! Asked whose session is stopped.
+use super::gates::{Hold, answered, begun, late, late_as, swept, until, wrote};
+use super::peers::{Peer, Request, sound};
+use super::scene::{Asked, run, runs};
+use std::test::Fail;
+
+#[test]
+fn a_session_is_stopped_while_it_goes_on(rt: HostRuntime) -> Result<(), Fail> {
+    let most = sound(Request::Most);
+    let jobs = sound(Request::Jobs);
+    let stop = sound(Request::Stop);
+    let cases: [(Asked, &[Peer], &[Hold], &str); 4] = [
+        // Within its threads' writes.
+        (
+            runs(2, 16, 1),
+            &[most, stop],
+            &[until(wrote(1, 5), answered(2))],
+            "rows [1-2 16]\nsession 1 of 1: stopped by 2 [1-*\nconnection 2: stops 1 28 bytes",
+        ),
+        // The other session goes on.
+        (
+            runs(2, 16, 2),
+            &[most, jobs, stop],
+            &[until(wrote(1, 5), answered(3))],
+            "rows [1-2 16]\nsession 1 of 1: stopped by 3 [1-*\nsession 2 of 2: program [1-2 0..16 2+0]\nconnection 3: stops 1 28 bytes",
+        ),
+        // Behind the last write, before its role knows of the program's end.
+        (
+            runs(2, 16, 1),
+            &[most, stop],
+            &[
+                until(begun(1, 0), swept(1, 0)),
+                late(2, wrote(1, 15)),
+                late(2, wrote(2, 15)),
+                until(swept(1, 0), answered(2)),
+            ],
+            "rows [1-2 16]\nsession 1 of 1: stopped by 2 [1-2 0..16 8+0]\nconnection 2: stops 1 28 bytes",
+        ),
+        // Once it has ended with the program.
+        (
+            runs(2, 16, 1),
+            &[most, stop],
+            &[late_as(2, 1)],
+            "rows [1-2 16]\nsession 1 of 1: program [1-2 0..16 8+0]\nconnection 2: error 80004005 24 bytes",
+        ),
+    ];
+    for (asked, peers, holds, want) in &cases {
+        let told = run(&rt, rt.alloc(), *asked, peers, holds)?;
+        assert!(rt; told.says(want), "{}", told.text());
+    }
+    Ok(())
+}

@@ -1,0 +1,111 @@
+//! The command `run`.
+ghost use Rattle.std.specs.Prelude.{◌≡◌, IfOk, IsTrue};
+ghost use Rattle.ep_defs.specs.Session.{is_valid_facts};
+ghost use Rattle.pt_run.specs.Command.{RunsTo, AreFew, end_of, text_of};
+ghost use Rattle.pt_command.specs.Says.{SaysLine};
+ghost use Rattle.pt_run.specs.Words.{Fits};
+
+use crate::summary::{put_connections, put_plan, put_session};
+use crate::words::Asked;
+use ep_defs::Facts;
+use pt_command::{End, say};
+use pt_io::{Clock, Dock, Gate, Link, Sink};
+use pt_load::Plan;
+use pt_roles::{LiveEnd, LiveOptions, run_live};
+use std::alloc::{AllocError, Global};
+use std::sync::Wait;
+use std::thread::Threads;
+use std::time::Clock as Timer;
+
+/// How a run ended, and what is left of it; nothing where there was no memory for it to begin.
+#[derive(Drop)]
+pub struct Ran<L> {
+    pub end: End,
+    pub live: Option<LiveEnd<L>>,
+}
+
+/// Runs the sample program with its diagnostic server, whose peers come in at `dock`, and writes what it came to, in one
+/// write. Nothing is written before the run has ended. It ends as a link fault where the dock failed in this call, though
+/// its sessions went on to their ends.
+pub fn run<
+    R: Threads + Wait + Timer + Sync,
+    L: Link + Drop,
+    O: Sink,
+    D: Dock<Link = L>,
+    C: Clock,
+    G: Gate,
+>(
+    rt: &R,
+    alloc: Global,
+    asked: Asked,
+    facts: &Facts,
+    output: &mut O,
+    dock: &mut D,
+    clock: &C,
+    gate: &G,
+) -> Ran<L>
+    requires asked { Fits asked }
+    requires facts { IsTrue (is_valid_facts facts.now) }
+    ensures { RunsTo O.Sink D.Dock L.Sink L.read_side L.write_side asked facts.now
+        output.old output.new dock.old dock.new result.live result.end }
+{
+    let options = LiveOptions {
+        wait: asked.wait,
+        streamers: asked.streamers,
+        lives: asked.lives,
+    };
+    match run_live(rt, alloc, &asked.plan, &options, facts, dock, clock, gate) {
+        Ok(live) => {
+            let end = told(alloc, &asked.plan, output, &live);
+            Ran {
+                end,
+                live: Some(live),
+            }
+        }
+        Err(AllocError) => Ran {
+            end: End::OutOfMemory,
+            live: None,
+        },
+    }
+}
+
+// Writes what a run came to, and says how it ends.
+fn told<L, O: Sink>(alloc: Global, plan: &Plan, output: &mut O, live: &LiveEnd<L>) -> End
+    requires few { AreFew live.now }
+    ensures { SaysLine O.Sink output.old output.new (text_of plan.now live.now) (end_of live.now.dock_failed) result }
+{
+    match text_of(alloc, plan, live) {
+        Ok(text) => say(output, text.as_slice(), end_of(live.dock_failed)),
+        Err(AllocError) => End::OutOfMemory,
+    }
+}
+
+// How a run ends whose lines are written.
+fn end_of(dock_failed: bool) -> End
+    ensures { result ≡ end_of dock_failed }
+{
+    if dock_failed {
+        End::LinkFault
+    } else {
+        End::Done
+    }
+}
+
+// The lines of a run.
+fn text_of<L>(alloc: Global, plan: &Plan, live: &LiveEnd<L>) -> Result<Vec<u8>, AllocError>
+    requires few { AreFew live.now }
+    ensures { IfOk result (λ text. text.items ≡ text_of plan.now live.now) }
+{
+    let mut text = Vec::new(alloc);
+    put_plan(&mut text, plan)?;
+    for session in &live.sessions {
+        put_session(
+            &mut text,
+            session.id,
+            session.marks.as_slice(),
+            session.fate,
+        )?;
+    }
+    put_connections(&mut text, (live.sessions.len() + live.conns.len()) as u64)?;
+    Ok(text)
+}
