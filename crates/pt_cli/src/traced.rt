@@ -45,12 +45,14 @@ pub(crate) fn traced<L, R: Threads + Wait + time::Clock + Sync, O: Sink, C: Cloc
         clock,
         gate,
     ) {
-        Ok(TraceEnd {
-            rows,
-            marks,
-            fate,
-            seat,
-        }) => {
+        Ok(
+            TraceEnd {
+                rows,
+                marks,
+                fate,
+                seat,
+            },
+        ) => {
             let end = end_of(fate);
             Finished {
                 status: end.status(),

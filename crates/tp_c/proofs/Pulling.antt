@@ -28,11 +28,6 @@ begun-after : (info : TraceInfo) (entries : List Entry) (old new : Outgoing) (co
 begun-after info entries old new count e h =
     (h.0, h.1, subst (λ (bytes : List ℕ). IsPrefix bytes h.0) (sym (ap all_of e ∙ all-after count old)) h.2)
 
--- What was a stream still is.
-pub complete-after : (info : TraceInfo) (entries : List Entry) (old new : Outgoing) (count : ℕ) → new ≡ after_pull count old → IsComplete info entries old → IsComplete info entries new
-complete-after info entries old new count e h =
-    subst (λ (bytes : List ℕ). IsCanonical info entries bytes) (sym (ap all_of e ∙ all-after count old)) h
-
 -- The bytes that were pulled, with some more.
 pulled-more : (pulled out : List ℕ) (old new : Outgoing) (count : ℕ) → old.pulled ≡ pulled → new ≡ after_pull count old → take count out ≡ take count old.left → new.pulled ≡ pulled ++ take count out
 pulled-more pulled out old new count was e front =

@@ -188,15 +188,6 @@ pub ended-cut : (info : TraceInfo) (entries : List Entry) (pulled : List ℕ) (o
 ended-cut info entries pulled old stage was cut begun same =
     record { cut = cut; begun = begun; bytes = same ∙ was }
 
--- One that was cut before.
-pub still-cut : (info : TraceInfo) (entries : List Entry) (pulled : List ℕ) (old : Recorder) (stage : Stage) → IsCut info entries pulled old → is_cut_stage stage ≡ true → bytes_of stage ≡ outgoing_of old → IsCut info entries pulled (record old { stage = stage })
-still-cut info entries pulled old stage h cut same =
-    record {
-      cut = cut;
-      begun = subst (λ (o : Outgoing). IsBegun info entries o) (sym same) h.begun;
-      bytes = ap (λ (o : Outgoing). o.pulled) same ∙ h.bytes;
-    }
-
 -- Where no write failed at the end, the stream is whole.
 pub over-whole : {A : Type 0} (info : TraceInfo) (entries : List Entry) (definitions : List EventDef) (outlet : Outgoing) (r : Result A Fault) (is_whole : Bool) → is_whole ≡ is_ok r → OnOk r (TookStream tells all_of [] info entries outlet) → is_cut_stage (Over outlet is_whole) ≡ false → StandsFor info entries definitions (Over outlet is_whole)
 over-whole info entries definitions outlet (Ok x) is_whole e took cut =

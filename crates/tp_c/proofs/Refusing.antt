@@ -61,23 +61,6 @@ fit recorder event frames payload h =
       stack_left = not-not (has_stack_left recorder.framed frames) e.0;
     }
 
--- What has a number is among the first so many.
-pub number-within : (definitions : List EventDef) (number : ℕ) (def : EventDef) → definition_at definitions number ≡ Some def → number ≤ length definitions
-number-within definitions zero def h = omega arith
-number-within definitions (suc place) def h = by_place definitions place def h
-  where
-    by_place : (definitions : List EventDef) (place : ℕ) (def : EventDef) → slice_get definitions place ≡ Some def → suc place ≤ length definitions
-    by_place [] zero def h = absurd (nothing def h)
-      where
-        nothing : (def : EventDef) → None ≡ Some def → ⊥
-        nothing def h = cc
-    by_place [] (suc place) def h = absurd (nothing def h)
-      where
-        nothing : (def : EventDef) → None ≡ Some def → ⊥
-        nothing def h = cc
-    by_place (d ∷ ds) zero def h = omega arith
-    by_place (d ∷ ds) (suc place) def h = let less : suc place ≤ length ds = by_place ds place def h in omega arith
-
 -- A number from one on is a place and one more.
 pub at-number : (definitions : List EventDef) (number : ℕ) → 0 < number → definition_at definitions number ≡ slice_get definitions (number - 1)
 at-number definitions zero h = absurd (none h)

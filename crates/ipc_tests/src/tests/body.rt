@@ -1,10 +1,10 @@
 //! Requests and replies as they stand on a connection.
 
+use ep_defs::{Items, Rule, Units};
 use ipc_body::{
     Asked, Reply, ReplyFault, Request, RequestFault, put_collect, put_info, put_stop, read_reply,
     read_request,
 };
-use ep_defs::{Items, Rule, Units};
 use std::alloc::{AllocError, Global};
 use std::test::Fail;
 

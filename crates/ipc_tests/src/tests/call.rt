@@ -1,6 +1,6 @@
-use ipc_call::{CallFault, collect, info, stop};
 use ep_defs::{Rule, Units};
 use ipc_body::{Asked, ProcessInfo, collect_size};
+use ipc_call::{CallFault, collect, info, stop};
 use pt_io::{MemLink, MemSink, MemSource};
 use std::alloc::{AllocError, Global};
 use std::test::Fail;

@@ -1,5 +1,5 @@
-use nt_check::{CheckFault, CheckKind, Checker, Numbers};
 use ep_defs::{EventDef, ItemKind, Items};
+use nt_check::{CheckFault, CheckKind, Checker, Numbers};
 use std::alloc::{AllocError, Global};
 use std::test::Fail;
 

@@ -2,8 +2,8 @@
 ghost use Rattle.std.specs.Prelude.{◌+◌, ◌<◌, ◌≤◌, ◌^◌, length};
 ghost use Rattle.nt_read.specs.Reading.{used};
 
-use nt_read::{ReadFault, ReadKind, TraceReader};
 use ep_defs::{Item, ItemKind};
+use nt_read::{ReadFault, ReadKind, TraceReader};
 use std::alloc::Global;
 use std::test::Fail;
 

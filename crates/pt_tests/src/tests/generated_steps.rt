@@ -1,5 +1,5 @@
-use pt_gen::Gen;
 use ep_model::Step;
+use pt_gen::Gen;
 use std::alloc::{AllocError, Global};
 use std::test::Fail;
 

@@ -1,6 +1,6 @@
 //! Small schedules, whole.
-use pt_gen::{Asked, Counts, Summary, asked_of, generate, summed_up};
 use pt_command::End;
+use pt_gen::{Asked, Counts, Summary, asked_of, generate, summed_up};
 use pt_io::MemSink;
 use std::alloc::Global;
 use std::test::Fail;

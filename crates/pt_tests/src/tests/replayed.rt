@@ -1,9 +1,9 @@
 //! Schedules, good and bad, and the streams that they come to.
 ghost use Rattle.std.specs.Prelude.{◌<◌};
 
-use pt_replay::replay;
 use pt_command::status;
 use pt_io::{MemSink, MemSource};
+use pt_replay::replay;
 use std::alloc::Global;
 use std::test::Fail;
 

@@ -1,7 +1,7 @@
 //! Reports that were worked out by hand.
-use pt_report::Report;
 use ep_defs::{EventDef, ItemKind, Items, TraceInfo};
 use nt_check::{CheckFault, CheckKind};
+use pt_report::Report;
 use std::alloc::{AllocError, Global};
 use std::test::Fail;
 

@@ -1,9 +1,9 @@
 //! Streams that come whole, cut, changed or not at all.
 ghost use Rattle.std.specs.Prelude.{◌<◌};
 
-use pt_report::write_report;
 use pt_command::status;
 use pt_io::{MemSink, MemSource};
+use pt_report::write_report;
 use std::alloc::Global;
 use std::test::Fail;
 
