@@ -1,6 +1,7 @@
 pub mod Bodies
 pub mod Drafts
 pub mod Each
+pub mod Giving
 pub mod Making
 pub mod Ordered
 pub mod Refusals

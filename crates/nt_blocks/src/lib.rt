@@ -13,12 +13,14 @@
 #![tactic(auto)]
 
 mod blob_block;
+mod give;
 mod laws;
 pub mod limits;
 mod put;
 mod take;
 
 pub use blob_block::BlobBlock;
+pub use give::{TakesItems, give_body};
 pub use laws::{
     items_have_the_gaps_of_their_entries, what_a_body_holds_is_read, what_is_read_is_held,
 };

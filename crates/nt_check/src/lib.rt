@@ -11,11 +11,13 @@
 //! What was chosen here, and why: docs/DECISIONS.md, "The format".
 #![tactic(auto)]
 
+mod by_id;
 mod checker;
 mod ids;
 mod limits;
 mod threads;
 
-pub use checker::{CheckFault, CheckKind, Checker};
+pub use by_id::ById;
+pub use checker::{CheckFault, CheckKind, Checker, EventNames};
 pub use limits::MOST_COUNTED;
 pub use threads::Numbers;

@@ -1,4 +1,5 @@
 pub mod Answers
+pub mod Given
 pub mod Reading
 pub mod Stages
 pub mod state

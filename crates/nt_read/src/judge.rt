@@ -1,5 +1,5 @@
 //! Judging a unit whose bytes are all there.
-ghost use Rattle.std.specs.Prelude.{◌≡◌, ℕ, ◌+◌, ◌<◌, ◌≤◌, ◌^◌, ◌&&◌, List, [], ◌∷◌, length, drop, take, nat_eq};
+ghost use Rattle.std.specs.Prelude.{◌≡◌, ℕ, ◌+◌, ◌*◌, ◌<◌, ◌≤◌, ◌^◌, ◌&&◌, IfOk, List, [], ◌∷◌, length, drop, take, nat_eq};
 ghost use Rattle.std.specs.Cmp.Lexicographic.{pointwise};
 ghost use Rattle.byteorder.specs.Endian.{little_number};
 ghost use Rattle.ep_defs.specs.declared.item.Item.{Item};
@@ -11,7 +11,9 @@ ghost use Rattle.nt_blocks.specs.Taking.{StandsWithin};
 ghost use Rattle.nt_blocks.specs.Verdict.{info_in, may_stand};
 ghost use Rattle.nt_read.specs.declared.stage.Stage.TheVariants as stage;
 ghost use Rattle.nt_read.specs.Stages.{needs};
-ghost use Rattle.nt_read.specs.state.Units.{Judges, body_fault, payload_stage};
+ghost use Rattle.nt_read.specs.Given.{MayHavePart};
+ghost use Rattle.nt_read.specs.state.Given.{JudgesTo};
+ghost use Rattle.nt_read.specs.state.Units.{IsPlain, Judges, body_fault, payload_stage, turns_left};
 ghost use Rattle.nt_read.specs.declared.fault.ReadFault.{ReadFault};
 
 use crate::fault::{ReadFault, ReadKind};
@@ -19,7 +21,7 @@ use crate::stage::{Stage, Version};
 use byteorder::{ByteOrder, LittleEndian};
 use ep_defs::{Item, ItemKind, TraceInfo};
 use nt_blocks::limits::READ_BYTES;
-use nt_blocks::{BodyFault, take_body};
+use nt_blocks::{BodyFault, TakesItems, give_body, take_body};
 use nt_object::limits::{BEGIN_OBJECT, BLOCK_VERSION, END_OBJECT, NULL_REFERENCE, TRACE_VERSION};
 use nt_object::{BlockKind, ObjectKind};
 use std::alloc::Global;
@@ -39,6 +41,42 @@ pub fn judge(
     ensures { Judges stage at pending.old.items unit.now result pending.new.items }
 {
     match stage {
+        Stage::Trace => trace(at, unit, pending),
+        Stage::Body { kind, size } => body(alloc, kind, size, at, unit, pending),
+        _ => judge_plain(stage, at, unit),
+    }
+}
+
+/// The same where the items go to what takes them, as they are read.
+pub fn judge_to<T: TakesItems>(
+    alloc: Global,
+    stage: Stage,
+    at: u64,
+    unit: &[u8],
+    taker: &mut T,
+) -> Result<Stage, ReadFault>
+    requires whole { length unit.now ≡ needs stage at }
+    requires at { at + length unit.now < 2 ^ 63 }
+    ensures judged { (told : List Item) → (part : List Item) → MayHavePart stage part → T.took told part taker.old
+        → JudgesTo T.took stage at told part unit.now result taker.new }
+    ensures falls { IfOk result (λ next. turns_left next < 3 * length unit.now + turns_left stage) }
+{
+    match stage {
+        Stage::Trace => trace_to(at, unit, taker),
+        Stage::Body { kind, size } => body_to(alloc, kind, size, at, unit, taker),
+        Stage::Close => close_to(at, unit, taker),
+        _ => judge_plain(stage, at, unit),
+    }
+}
+
+// A unit that has no items.
+fn judge_plain(stage: Stage, at: u64, unit: &[u8]) -> Result<Stage, ReadFault>
+    requires plain { IsPlain stage }
+    requires whole { length unit.now ≡ needs stage at }
+    requires at { at + length unit.now < 2 ^ 63 }
+    ensures { (pending : List Item) → Judges stage at pending unit.now result pending }
+{
+    match stage {
         Stage::Head => head(at, unit),
         Stage::Tag { has_trace } => tag(has_trace, at, unit),
         Stage::Begun { has_trace } => begun(has_trace, at, unit),
@@ -48,12 +86,11 @@ pub fn judge(
             version,
             least,
         } => name(has_trace, len, version, least, at, unit),
-        Stage::Trace => trace(at, unit, pending),
         Stage::Size { kind } => size(kind, at, unit),
         Stage::Padding { kind, size } => padding(kind, size, at, unit),
-        Stage::Body { kind, size } => body(alloc, kind, size, at, unit, pending),
         Stage::Close => close(at, unit),
         Stage::Ended => ended(at, unit),
+        Stage::Trace | Stage::Body { .. } => unreachable!(),
     }
 }
 
@@ -259,6 +296,20 @@ fn trace(at: u64, unit: &[u8], pending: &mut Vec<Item>) -> Result<Stage, ReadFau
     Ok(Stage::Close)
 }
 
+fn trace_to<T: TakesItems>(at: u64, unit: &[u8], taker: &mut T) -> Result<Stage, ReadFault>
+    requires { length unit.now ≡ 48 }
+    ensures judged { (told : List Item) → T.took told [] taker.old
+        → JudgesTo T.took stage.Trace at told [] unit.now result taker.new }
+    ensures next { IfOk result (λ next. next ≡ stage.Close) }
+{
+    let info = info_in(unit);
+    taker.item(Item {
+        at,
+        kind: ItemKind::Trace { info },
+    })?;
+    Ok(Stage::Close)
+}
+
 fn size(kind: BlockKind, at: u64, unit: &[u8]) -> Result<Stage, ReadFault>
     requires { length unit.now ≡ 4 }
     ensures { (pending : List Item) → Judges (stage.Size kind) at pending unit.now result pending }
@@ -295,6 +346,37 @@ fn body(
         Ok(()) => Ok(Stage::Close),
         Err(fault) => Err(fault_in(at, fault)),
     }
+}
+
+fn body_to<T: TakesItems>(
+    alloc: Global,
+    kind: BlockKind,
+    size: u32,
+    at: u64,
+    unit: &[u8],
+    taker: &mut T,
+) -> Result<Stage, ReadFault>
+    requires whole { length unit.now ≡ size }
+    requires at { at + length unit.now < 2 ^ 63 }
+    ensures judged { (told : List Item) → T.took told [] taker.old
+        → JudgesTo T.took (stage.Body kind size) at told [] unit.now result taker.new }
+    ensures next { IfOk result (λ next. next ≡ stage.Close) }
+{
+    match give_body(alloc, kind, unit, at, taker) {
+        Ok(()) => Ok(Stage::Close),
+        Err(fault) => Err(fault_in(at, fault)),
+    }
+}
+
+fn close_to<T: TakesItems>(at: u64, unit: &[u8], taker: &mut T) -> Result<Stage, ReadFault>
+    requires { length unit.now ≡ 1 }
+    ensures judged { (told : List Item) → (part : List Item) → T.took told part taker.old
+        → JudgesTo T.took stage.Close at told part unit.now result taker.new }
+    ensures next { IfOk result (λ next. turns_left next < 3) }
+{
+    let next = close(at, unit)?;
+    taker.close();
+    Ok(next)
 }
 
 // The fault of a body that begins at this offset.

@@ -9,6 +9,8 @@ use ep_defs::Item;
 use std::alloc::{AllocError, Global};
 use std::mem::swap;
 
+mod giving;
+
 /// Reads a stream that comes in any pieces. A reader stands for the bytes that it was fed.
 ///
 /// It keeps the bytes of at most one unit, of which the largest is a body of `nt_blocks::limits::READ_BYTES`, and the
@@ -36,6 +38,7 @@ impl TraceReader {
     ghost use Rattle.nt_blocks.specs.Verdict.{Bad, verdict};
     ghost use Rattle.nt_read.specs.declared.fault.ReadFault.TheVariants.{OutOfMemory};
     ghost use Rattle.nt_read.specs.Answers.{Gives, GivesPart, IsKept, StaysRefused, answer_of, end_answer, items_of};
+    ghost use Rattle.nt_read.specs.Given.{Finishes, HasJudgedTo};
     ghost use Rattle.nt_read.specs.Reading.{HasFailed, HasRead, used};
     ghost use Rattle.nt_read.specs.state.Reads.{Reads, StopsAt};
     ghost use Rattle.nt_read.specs.state.Units.{Judges, given, left, turns_left};
@@ -97,6 +100,8 @@ impl TraceReader {
     pub fn finish(&self) -> Result<(), ReadFault>
         ensures read { (bytes : List ℕ) → HasRead bytes self.now
             → result ≡ end_answer (length bytes) (verdict bytes) }
+        ensures given { (bytes : List ℕ) (told part : List Item) → HasJudgedTo bytes told part self.now self.now.fault
+            → Finishes bytes told part result }
         ensures fails { HasFailed self.now → result ≡ Err OutOfMemory }
     {
         if let Some(fault) = self.fault {

@@ -1,16 +1,11 @@
 -- A stream has a report exactly where it is whole.
 use Rattle.std.proofs.Common.{◌≡◌, ℕ, List, length, Result, Ok, Err, refl, sym, ap, subst}
 use Rattle.ep_defs.specs.declared.item.Item.{Item}
-use Rattle.std.specs.Prelude.{Option, None}
 use Rattle.nt_blocks.specs.Ordered.{AreOrdered, kinds_of}
 use Rattle.nt_blocks.specs.Verdict.{Verdict, Bad, Good, More, verdict}
 use Rattle.nt_read.specs.declared.fault.ReadFault.TheVariants as end
 use Rattle.nt_read.specs.declared.fault.ReadKind.TheVariants as kind
 use Rattle.nt_read.specs.Answers.{fault_of, items_of, end_answer}
-use Rattle.pt_report.specs.declared.report.Report.{Report}
-use Rattle.pt_report.specs.state.Taken.{HasTaken}
-use Rattle.pt_report.specs.declared.reading.Misplaced.{Misplaced}
-use Rattle.pt_report.specs.state.Read.{IsChecked}
 use Rattle.pt_report.specs.declared.errors.Flaw.{Flaw}
 use Rattle.pt_report.specs.declared.errors.Flaw.TheVariants as flaw
 use Rattle.pt_report.specs.Found.{IsWhole, IsReported, IsFlaw}
@@ -34,7 +29,3 @@ pub good-verdict : (n : ℕ) (found : Verdict) → end_answer n found ≡ Ok tt 
 good-verdict n (Good items) ok = refl
 good-verdict n (Bad why items) ok = absurd (no-answer (end_answer n (Bad why items)) tt (fault_of why) ok refl)
 good-verdict n (More items) ok = absurd (no-answer (end_answer n (More items)) tt (end.Bad n kind.Truncated) ok refl)
-
--- A report that was given all items has taken them.
-pub all-taken : (items : List Item) (report : Report) (misplaced : Option Misplaced) → misplaced ≡ None → IsChecked items report misplaced → HasTaken (kinds_of items) report
-all-taken items report misplaced none checked = subst (IsChecked items report) none checked

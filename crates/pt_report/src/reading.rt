@@ -1,15 +1,20 @@
 //! A stream that is read and reported piece by piece.
-ghost use Rattle.std.specs.Prelude.{◌≡◌, ◌+◌, ◌^◌, ◌<◌, ◌≤◌, ◌++◌, ℕ, [], ◌∷◌, List, length, IfOk, OnOk};
+ghost use Rattle.std.specs.Prelude.{◌≡◌, ℕ, [], ◌++◌, ◌∷◌, List, false, IfOk, OnOk, Ok};
 ghost use Rattle.ep_defs.specs.declared.item.Item.{Item};
-ghost use Rattle.nt_blocks.specs.Verdict.{verdict};
-ghost use Rattle.nt_read.specs.Answers.{Gives, items_of};
+ghost use Rattle.nt_blocks.specs.Ordered.{kinds_of, no_names, told_after};
+ghost use Rattle.nt_check.specs.Faults.{disorder_of};
+ghost use Rattle.nt_check.specs.declared.checker.CheckFault.TheVariants.{Bad};
+ghost use Rattle.nt_check.specs.declared.checker.CheckKind.{CheckKind};
 ghost use Rattle.nt_read.specs.Reading as reading;
-ghost use Rattle.pt_report.specs.state.Read.{IsChecked, HasRead, IsOutcome, used};
+ghost use Rattle.pt_report.specs.state.Read.{HasRead, IsOutcome, IsTaken, used};
+ghost use Rattle.pt_report.specs.state.Taken.{HasTaken};
 
 use crate::errors::{Flaw, Refusal};
 use crate::report::Report;
 use ep_defs::Item;
-use nt_check::{CheckFault, CheckKind};
+use nt_blocks::TakesItems;
+use nt_check::{CheckFault, CheckKind, EventNames};
+use nt_head::HeadState;
 use nt_read::{ReadFault, TraceReader};
 use pt_command::Reads;
 use std::alloc::{AllocError, Global};
@@ -28,15 +33,80 @@ pub(crate) enum Outcome {
     Refused(Refusal),
 }
 
-/// What was read of a stream: where the reader stands, and the report of the items that it told.
+/// The report of the items that a reader gives, up to the first that can't stand where it does.
+#[derive(Drop)]
+pub(crate) struct Taking {
+    report: Report,
+    misplaced: Option<Misplaced>,
+    // Whether the object of that item has ended. Until then its bytes may be refused, which goes before the item.
+    is_told: bool,
+}
+
+impl Taking {
+    fn new(alloc: Global) -> Taking
+        ensures { IsTaken [] [] result }
+    {
+        Taking {
+            report: Report::new(alloc),
+            misplaced: None,
+            is_told: false,
+        }
+    }
+
+    // What taking an item at this offset came to.
+    #[inline(always)]
+    fn mark(&mut self, at: u64, taken: Result<(), CheckFault>) -> Result<(), AllocError>
+        ensures report { self.new.report ≡ self.old.report }
+        ensures told { self.new.is_told ≡ self.old.is_told }
+        ensures taken { OnOk result (IsMarked at taken self.old.misplaced self.new.misplaced) }
+    {
+        match taken {
+            Ok(()) => Ok(()),
+            Err(CheckFault::Bad(kind)) => {
+                self.misplaced = Some(Misplaced { at, kind });
+                Ok(())
+            }
+            Err(CheckFault::OutOfMemory) => Err(AllocError),
+        }
+    }
+}
+
+impl TakesItems for Taking {
+    ghost took = { IsTaken };
+
+    #[inline(always)]
+    fn event(&mut self, at: u64, head: &HeadState, payload: &[u8]) -> Result<(), AllocError> {
+        let _payload = payload;
+        if self.misplaced.is_some() {
+            return Ok(());
+        }
+        let taken = self.report.event(&EventNames {
+            metadata: head.metadata,
+            number: head.number,
+            capture: head.capture,
+            stack: head.stack,
+        });
+        self.mark(at, taken)
+    }
+
+    fn item(&mut self, item: Item) -> Result<(), AllocError> {
+        if self.misplaced.is_some() {
+            return Ok(());
+        }
+        let taken = self.report.item(&item.kind);
+        self.mark(item.at, taken)
+    }
+
+    fn close(&mut self) {
+        self.is_told = self.misplaced.is_some();
+    }
+}
+
+/// What was read of a stream: where the reader stands, and the report of the items that it gave.
 #[derive(Drop)]
 pub(crate) struct Reading {
-    alloc: Global,
     reader: TraceReader,
-    report: Report,
-    // The items that a piece tells. It is kept empty between pieces, so that its memory serves again.
-    items: Vec<Item>,
-    misplaced: Option<Misplaced>,
+    taking: Taking,
 }
 
 impl Reading {
@@ -45,11 +115,8 @@ impl Reading {
         ensures unused { used result ≡ 0 }
     {
         Reading {
-            alloc,
             reader: TraceReader::new(alloc),
-            report: Report::new(alloc),
-            items: Vec::new(alloc),
-            misplaced: None,
+            taking: Taking::new(alloc),
         }
     }
 
@@ -58,12 +125,14 @@ impl Reading {
         ensures { IfOk result (λ outcome. (bytes : List ℕ) → HasRead bytes self.now
             → IsOutcome bytes outcome) }
     {
-        if let Some(Misplaced { at, kind }) = self.misplaced {
-            let flaw = Flaw::Check(kind);
-            return Ok(Outcome::Refused(Refusal { at, flaw }));
+        if let Some(Misplaced { at, kind }) = self.taking.misplaced {
+            if self.taking.is_told {
+                let flaw = Flaw::Check(kind);
+                return Ok(Outcome::Refused(Refusal { at, flaw }));
+            }
         }
         match self.reader.finish() {
-            Ok(()) => Ok(Outcome::Report(self.report.print()?)),
+            Ok(()) => Ok(Outcome::Report(self.taking.report.print()?)),
             Err(ReadFault::Bad { at, kind }) => {
                 let flaw = Flaw::Read(kind);
                 Ok(Outcome::Refused(Refusal { at, flaw }))
@@ -81,59 +150,10 @@ impl Reads for Reading {
     /// Reads the next piece of the stream. Where its bytes are refused, reading ends there, and what follows changes
     /// nothing.
     fn take(&mut self, piece: &[u8]) -> Result<(), AllocError> {
-        feed(&mut self.reader, piece, &mut self.items)?;
-        check_all(&mut self.report, self.items.as_slice(), &mut self.misplaced)?;
-        self.items.clear();
-        Ok(())
+        match self.reader.feed_to(piece, &mut self.taking) {
+            Ok(()) => Ok(()),
+            Err(ReadFault::Bad { .. }) => Ok(()),
+            Err(ReadFault::OutOfMemory) => Err(AllocError),
+        }
     }
-}
-
-// Feeds a reader, whether or not the bytes are refused.
-fn feed(reader: &mut TraceReader, piece: &[u8], items: &mut Vec<Item>) -> Result<(), AllocError>
-    requires few { reading.used reader.old + length piece.now < 2 ^ 63 }
-    ensures read { (bytes : List ℕ) → reading.HasRead bytes reader.old
-        → OnOk result (reading.HasRead (bytes ++ piece.now) reader.new) }
-    ensures items { (bytes : List ℕ) → reading.HasRead bytes reader.old
-        → OnOk result (Gives (items_of (verdict bytes)) (items_of (verdict (bytes ++ piece.now))) items.old.items items.new.items) }
-    ensures used { reading.used reader.new ≤ reading.used reader.old + length piece.now }
-{
-    match reader.feed(piece, items) {
-        Ok(()) => Ok(()),
-        Err(ReadFault::Bad { .. }) => Ok(()),
-        Err(ReadFault::OutOfMemory) => Err(AllocError),
-    }
-}
-
-// Gives a report more items, up to the first that can't stand where it does.
-fn check_all(
-    report: &mut Report,
-    items: &[Item],
-    misplaced: &mut Option<Misplaced>,
-) -> Result<(), AllocError>
-    ensures { (before : List Item) → IsChecked before report.old misplaced.old
-        → OnOk result (IsChecked (before ++ items.now) report.new misplaced.new) }
-{
-    for item in items {
-        check(report, item, misplaced)?;
-    }
-    Ok(())
-}
-
-fn check(
-    report: &mut Report,
-    item: &Item,
-    misplaced: &mut Option<Misplaced>,
-) -> Result<(), AllocError>
-    ensures { (before : List Item) → IsChecked before report.old misplaced.old
-        → OnOk result (IsChecked (before ++ item.now ∷ []) report.new misplaced.new) }
-{
-    if misplaced.is_some() {
-        return Ok(());
-    }
-    match report.item(&item.kind) {
-        Ok(()) => {}
-        Err(CheckFault::Bad(kind)) => *misplaced = Some(Misplaced { at: item.at, kind }),
-        Err(CheckFault::OutOfMemory) => return Err(AllocError),
-    }
-    Ok(())
 }

@@ -54,6 +54,19 @@ left (stage.Body kind size) pending = pending
 left stage.Close pending = []
 left stage.Ended pending = pending
 
+-- A unit of this stage has no items.
+abbrev pub IsPlain : Stage → Type 0
+IsPlain stage.Head = Unit {0}
+IsPlain (stage.Tag has_trace) = Unit {0}
+IsPlain (stage.Begun has_trace) = Unit {0}
+IsPlain (stage.Name has_trace n version least) = Unit {0}
+IsPlain stage.Trace = ⊥
+IsPlain (stage.Size kind) = Unit {0}
+IsPlain (stage.Padding kind size) = Unit {0}
+IsPlain (stage.Body kind size) = ⊥
+IsPlain stage.Close = Unit {0}
+IsPlain stage.Ended = Unit {0}
+
 -- The payload of an object of this kind begins with this unit.
 abbrev pub payload_stage : ObjectKind → Stage
 payload_stage object.Trace = stage.Trace

@@ -1,5 +1,5 @@
 use ep_defs::{EventDef, ItemKind, Items};
-use nt_check::{CheckFault, CheckKind, Checker, Numbers};
+use nt_check::{CheckFault, CheckKind, Checker, EventNames, Numbers};
 use std::alloc::{AllocError, Global};
 use std::test::Fail;
 
@@ -96,6 +96,68 @@ fn ids_are_defined_before_their_use_and_once(rt: HostRuntime) -> Result<(), Fail
         bad(CheckKind::UnknownMetadata { id: 2 }),
     ];
     assert_eq!(rt; answers.as_slice(), expected.as_slice());
+    Ok(())
+}
+
+// Ids need not be dense, nor come in order.
+#[test]
+fn ids_may_lie_far_apart(rt: HostRuntime) -> Result<(), Fail> {
+    let mut checker = Checker::new(rt.alloc());
+    let kinds = [
+        meta(rt.alloc(), 7),
+        meta(rt.alloc(), 2_147_483_647),
+        meta(rt.alloc(), 3),
+        meta(rt.alloc(), 70),
+        meta(rt.alloc(), 8),
+        event(rt.alloc(), 3, 0, u64::MAX, 1),
+        event(rt.alloc(), 70, 0, 0, 1),
+        event(rt.alloc(), 8, 0, u64::MAX, 2),
+        event(rt.alloc(), 4, 0, 1, 1),
+        meta(rt.alloc(), 2_147_483_647),
+        stack(rt.alloc(), u32::MAX),
+        stack(rt.alloc(), 1),
+        event(rt.alloc(), 7, u32::MAX, 5_000, 1),
+        event(rt.alloc(), 7, 2, 5_000, 2),
+    ];
+    let answers = answers(rt.alloc(), &mut checker, &kinds)?;
+    let mut expected = [Ok(()); 14];
+    expected[8] = bad(CheckKind::UnknownMetadata { id: 4 });
+    expected[9] = bad(CheckKind::MetadataTwice { id: 2_147_483_647 });
+    expected[13] = bad(CheckKind::UnknownStack { id: 2 });
+    assert_eq!(rt; answers.as_slice(), expected.as_slice());
+    let two = Numbers {
+        events: 2,
+        last: 2,
+        gaps: 0,
+    };
+    assert_eq!(rt; checker.gaps(u64::MAX), Some(two));
+    assert_eq!(rt; checker.gaps(1), None);
+    Ok(())
+}
+
+// An event is checked by what it names alone.
+#[test]
+fn events_tell_whether_their_thread_is_new(rt: HostRuntime) -> Result<(), Fail> {
+    let mut checker = Checker::new(rt.alloc());
+    assert_eq!(rt; checker.item(&meta(rt.alloc(), 1)), Ok(()));
+    assert_eq!(rt; checker.item(&point(rt.alloc(), &[(2, 0)])?), Ok(()));
+    let one = EventNames {
+        metadata: 1,
+        number: 1,
+        capture: 1,
+        stack: 0,
+    };
+    assert_eq!(rt; checker.event(&one), Ok(true));
+    assert_eq!(rt; checker.event(&EventNames { number: 2, ..one }), Ok(false));
+    assert_eq!(rt; checker.event(&EventNames { capture: 2, ..one }), Ok(false));
+    let unknown = CheckFault::Bad(CheckKind::UnknownStack { id: 4 });
+    assert_eq!(rt; checker.event(&EventNames { stack: 4, ..one }), Err(unknown));
+    let numbers = Numbers {
+        events: 2,
+        last: 2,
+        gaps: 0,
+    };
+    assert_eq!(rt; checker.gaps(1), Some(numbers));
     Ok(())
 }
 
