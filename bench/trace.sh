@@ -1,7 +1,8 @@
 #!/bin/sh
 # Prints what `tracepipe trace` costs, for a session that gets every event and for one that gets none. First the
 # instructions for a write more of one thread, with its making, as callgrind counts them (valgrind, a Debian package) on
-# 10,000 writes and on 30,000: those of the thread that writes alone, and those of the whole run, its stream included.
+# 10,000 writes and on 30,000: those of the thread that writes alone, and those of the whole run, its stream included, and
+# of these the functions that take one or more, each without the functions that it calls.
 # Then 4,000,000 writes of each of 1, 2, 3 and 4 threads into a file: the processor time of a writing thread for a write, as
 # the system counts it, the time from start to end, the events a second that the file has, and how many writes were refused
 # since the budget was spent, as `report` counts them. It needs valgrind and python3.
@@ -14,8 +15,9 @@ all=Sample-Web,Sample-Store,Sample-Jobs
 "$here/tracepipe" trace 1 8 "$all" >"$work/warm" || exit 1
 
 # The instructions of so many writes of one thread, for this text; with a third word, only those in functions of that name.
+# Those of the whole run are kept by function.
 instructions() {
-    valgrind --tool=callgrind --callgrind-out-file="$work/counts" ${3:+"--toggle-collect=$3"} "$program" trace 1 "$1" "$2" \
+    valgrind --tool=callgrind --callgrind-out-file="$work/counts-$1" ${3:+"--toggle-collect=$3"} "$program" trace 1 "$1" "$2" \
         >/dev/null 2>"$work/told" || exit 1
     sed -n 's/^.*Collected : //p' "$work/told"
 }
@@ -24,6 +26,35 @@ for text in "$all" None:1:1; do
     writing=$(($(instructions 30000 "$text" '*chunks_from*') - $(instructions 10000 "$text" '*chunks_from*')))
     whole=$(($(instructions 30000 "$text") - $(instructions 10000 "$text")))
     echo "$text: $((writing / 20000)) instructions for a write more in its thread, $((whole / 20000)) in the whole run"
+    python3 - "$work/counts-10000" "$work/counts-30000" 20000 <<'SHARES'
+import re, sys
+
+few, many, more = sys.argv[1], sys.argv[2], int(sys.argv[3])
+
+
+def counted(path):
+    """The instructions of each function itself, without those of the functions that it calls."""
+    names, counts, name, is_call = {}, {}, None, False
+    for line in open(path):
+        if found := re.match(r"fn=(\(\d+\))(?: (.*))?", line):
+            name = names.setdefault(found.group(1), (found.group(2) or "").strip())
+        elif found := re.match(r"cfn=(\(\d+\)) (.*)", line):
+            names.setdefault(found.group(1), found.group(2).strip())
+        elif line.startswith("calls="):
+            is_call = True
+        elif name is not None and re.match(r"[+*-]?\d*(?: \d+)+$", line.rstrip()):
+            if not is_call:
+                counts[name] = counts.get(name, 0) + int(line.split()[-1])
+            is_call = False
+    return counts
+
+
+before, after = counted(few), counted(many)
+shares = sorted(((after[name] - before.get(name, 0)) / more, name) for name in after)
+for share, name in reversed(shares):
+    if share >= 1:
+        print(f"  {share:6.1f} in {re.sub('::<#.*?>', '', name)}")
+SHARES
 done
 python3 - "$program" "$work" "$all" "$writes" <<'MEASURE'
 import os, subprocess, sys, time
