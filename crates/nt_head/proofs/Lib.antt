@@ -1,4 +1,5 @@
 pub mod Fronts
 pub mod Heads
+pub mod Ids
 pub mod PutHeads
 pub mod Steps

@@ -14,7 +14,7 @@ use Rattle.std.specs.List.{AllByRecursion, position_from}
 use Rattle.std.specs.Map.{lookup}
 use Rattle.std.specs.Str.{bytes_eq}
 use Rattle.nt_stacks.specs.Stacks.{stack_id, with_stack, IsOfNoOther}
-use Rattle.nt_stacks.specs.Interning.{id_at, stack_with, stacks_from, stacks_of, AreInterned}
+use Rattle.nt_stacks.specs.Interning.{id_at, stack_with, stacks_from, stacks_of, AreInterned, AreKnown}
 
 -- ---- bytes
 
@@ -374,3 +374,69 @@ new-stack items entries new stacks (b ∷ bytes) key id h is some none key-is id
 pub as-many : {K : Type 0} (items : K → List ℕ) (entries : List (K × ℕ)) (stacks : List (List ℕ)) → stacks_of (plain items entries) ≡ stacks → length stacks ≡ length entries
 as-many items entries stacks is =
     ap length (sym is) ∙ length-stacks_of (plain items entries) ∙ length-plain items entries
+
+-- ---- stacks that were asked for lately
+
+-- Bytes that have an id are none that have none.
+apart : (stack bytes : List ℕ) (id : ℕ) (entries : List (List ℕ × ℕ)) → id_at stack entries ≡ Some id → id_at bytes entries ≡ None → bytes_eq stack bytes ≡ false
+apart stack bytes id entries there none =
+    elim (cases_Bool (bytes_eq stack bytes)) [
+      | inl e ↦
+          let same : stack ≡ bytes = same-bytes stack bytes e in
+          let both : id_at bytes entries ≡ Some id = rw same at there in
+          cc
+      | inr e ↦ e
+    ]
+
+-- What is known stays known once another stack has an id.
+known-between : (bytes : List ℕ) (id : ℕ) (old new recent : List (List ℕ × ℕ)) → id_at bytes old ≡ None → Between bytes id old new → AreKnown old recent → AreKnown new recent
+known-between bytes id old new recent none between known = λ place stack at some.
+    let there : id_at stack.0 old ≡ Some stack.1 = known place stack at some in
+    ap (id_at stack.0) between.now
+    ∙ id_at-others stack.0 bytes id between.front between.back (apart stack.0 bytes stack.1 old there none)
+    ∙ ap (id_at stack.0) (sym between.was)
+    ∙ there
+
+-- The entries after an insertion.
+inserted : {K : Type 0} (items : K → List ℕ) (entries new : List (K × ℕ)) (bytes : List ℕ) (key : K) (id : ℕ) → items key ≡ bytes → new ≡ insert_entry (λ x y. slice_cmp nat_cmp (items x) (items y)) entries key id → plain items new ≡ insert_entry (slice_cmp nat_cmp) (plain items entries) bytes id
+inserted items entries new bytes key id key-is new-is =
+    ap (plain items) new-is
+    ∙ plain-insert items entries key id
+    ∙ ap (λ k. insert_entry (slice_cmp nat_cmp) (plain items entries) k id) key-is
+
+-- The map knows what it knew.
+pub still-known : {K : Type 0} (items : K → List ℕ) (entries new : List (K × ℕ)) (recent : List (List ℕ × ℕ)) (bytes : List ℕ) (key : K) (id : ℕ) → None ≡ lookup (λ k. is_eq (slice_cmp nat_cmp bytes (items k))) entries → items key ≡ bytes → new ≡ insert_entry (λ x y. slice_cmp nat_cmp (items x) (items y)) entries key id → AreKnown (plain items entries) recent → AreKnown (plain items new) recent
+still-known items entries new recent bytes key id none key-is new-is known =
+    let unknown : id_at bytes (plain items entries) ≡ None = sym (none ∙ lookup-plain items entries bytes) in
+    subst (λ es. AreKnown es recent) (sym (inserted items entries new bytes key id key-is new-is))
+    (known-between bytes id (plain items entries) (insert_entry (slice_cmp nat_cmp) (plain items entries) bytes id) recent unknown (insert-between bytes id (plain items entries) unknown) known)
+
+-- The map knows what it got.
+pub now-known : {K : Type 0} (items : K → List ℕ) (entries new : List (K × ℕ)) (bytes : List ℕ) (key : K) (id : ℕ) → None ≡ lookup (λ k. is_eq (slice_cmp nat_cmp bytes (items k))) entries → items key ≡ bytes → new ≡ insert_entry (λ x y. slice_cmp nat_cmp (items x) (items y)) entries key id → id_at bytes (plain items new) ≡ Some id
+now-known items entries new bytes key id none key-is new-is =
+    let unknown : id_at bytes (plain items entries) ≡ None = sym (none ∙ lookup-plain items entries bytes) in
+    let between : Between bytes id (plain items entries) (insert_entry (slice_cmp nat_cmp) (plain items entries) bytes id) = insert-between bytes id (plain items entries) unknown in
+    ap (id_at bytes) (inserted items entries new bytes key id key-is new-is ∙ between.now)
+    ∙ id_at-between bytes id between.front between.back between.unknown
+
+-- What the map has is known.
+pub map-knows : {K : Type 0} (items : K → List ℕ) (entries : List (K × ℕ)) (bytes : List ℕ) (id : ℕ) → Some id ≡ lookup (λ k. is_eq (slice_cmp nat_cmp bytes (items k))) entries → id_at bytes (plain items entries) ≡ Some id
+map-knows items entries bytes id found = sym (found ∙ lookup-plain items entries bytes)
+
+-- A stack that is known is given.
+pub recent-stack : {K : Type 0} (items : K → List ℕ) (entries : List (K × ℕ)) (stacks : List (List ℕ)) (bytes : List ℕ) (id : ℕ) → AreInterned (plain items entries) → stacks_of (plain items entries) ≡ stacks → length bytes ≢ 0 → id_at bytes (plain items entries) ≡ Some id → IsGiven stacks bytes id
+recent-stack items entries stacks bytes id h is some there =
+    known-stack items entries stacks bytes id h is some (sym there ∙ sym (lookup-plain items entries bytes))
+
+-- ---- places of stacks
+
+-- One stack more without an id.
+pub known-one-more : (entries recent : List (List ℕ × ℕ)) (bytes : List ℕ) → AreKnown entries recent → AreKnown entries (recent ++ (bytes, 0) ∷ [])
+known-one-more entries [] bytes known zero stack at some = absurd (omega (arith, ap-id at))
+  where
+    ap-id : Some (bytes, 0) ≡ Some stack → stack.1 ≡ 0
+    ap-id e = cc
+known-one-more entries [] bytes known (suc place) stack at some = absurd (let wrong : None ≡ Some stack = at in cc)
+known-one-more entries (first ∷ recent) bytes known zero stack at some = known 0 stack at some
+known-one-more entries (first ∷ recent) bytes known (suc place) stack at some =
+    known-one-more entries recent bytes (λ p. known (suc p)) place stack at some
