@@ -1,10 +1,13 @@
 -- Words that were taken from a line, and what they say of its first bad word.
 use Rattle.std.proofs.Common.{◌≡◌, ◌≢◌, ◌==◌, ℕ, ◌+◌, ◌-◌, ◌<◌, ◌≤◌, ◌⊎◌, inl, inr, Bool, true, false, not, ◌&&◌, is_some, nat_le, List, [], ◌∷◌, length, Option, Some, None, Result, Err, IfSome, option_copied, unwrap_or, Bor, refl, sym, ap, ◌∙◌, arith}
-use Rattle.std.proofs.lemmas.Bool.{eqb-true}
+use Rattle.std.proofs.lemmas.Bool.{eqb-true, ne_eqb}
 use Rattle.std.proofs.lemmas.Bool.Decides.{nat_tests}
+use Rattle.std.proofs.lemmas.List.{nil_from_length}
 use Rattle.std.proofs.lemmas.List.Splits.{length-slice_split}
 use Rattle.ep_defs.specs.declared.limits.TheConstants.{EVENTS}
-use Rattle.ep_plan.specs.Words.{space, parts_at, parts_behind}
+use Rattle.ep_plan.specs.Leading.{BeginsWithNumber}
+use Rattle.ep_plan.specs.Words.{space, parts_at, parts_behind, at_most, number_in}
+use Rattle.ep_plan.proofs.Numerals.{at_most-below}
 use Rattle.ep_plan.specs.declared.line.LineFault.{LineFault}
 use Rattle.ep_plan.specs.declared.line.LineFault.TheVariants.{Bad as BadLine}
 use Rattle.std.specs.Bool.{OnTrue, OnFalse}
@@ -222,3 +225,14 @@ order-bad next index (inl other) =
 order-bad next index (inr many) =
     let h : ((index == next) && nat_le index EVENTS) ≡ false = grind (arith, nat_tests) in
     rw h refl
+
+-- ---- numbers at the head of what is left
+
+-- The number was taken with its word.
+pub took-number : (old new : Cursor) (text : Bor (List ℕ)) (most number : ℕ) → new.line ≡ old.line → new.past ≡ old.past → old.rest ≡ Some text → BeginsWithNumber text.now new.rest number → number ≤ most
+    → (word : List ℕ) × TookWord old new word × (number_in most word ≡ Some number)
+unfolding number_in
+took-number old new text most number line past h begins small =
+    let word = begins.word in
+    let some : (length word == 0) ≡ false = ne_eqb (length word) 0 (λ e. begins.some (nil_from_length word e)) in
+    (word, took-word old new text word line past h begins.parts begins.lengths some, ap (at_most most) begins.spells ∙ at_most-below most number small)

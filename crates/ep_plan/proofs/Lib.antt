@@ -1,6 +1,7 @@
 pub mod Separated
 pub mod NumberTexts
 pub mod Numerals
+pub mod LeadingNumbers
 pub mod CursorWords
 pub mod PrintThenReadWord
 pub mod RuleWords

@@ -4,3 +4,4 @@ pub mod Lines
 pub mod Printing
 -- what private fields stand for
 pub mod Cursor
+pub mod Leading

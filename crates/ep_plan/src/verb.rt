@@ -1,5 +1,6 @@
 //! The words that the lines of steps begin with.
 ghost use Rattle.std.specs.Prelude.{◌≡◌};
+ghost use Rattle.ep_defs.specs.Event.{is_same_text};
 ghost use Rattle.ep_plan.specs.Lines.{form_of, verb_in};
 
 /// The first word of a step's line.
@@ -43,7 +44,16 @@ impl Verb {
     pub(crate) fn named(word: &[u8]) -> Option<Verb>
         ensures { result ≡ verb_in word.now }
     {
-        VERBS.iter().copied().find(|verb| word == verb.name())
+        VERBS.iter().copied().find(|verb| verb.is_named(word))
+    }
+
+    // Whether the word is its name. The length alone tells most names apart.
+    #[inline(always)]
+    fn is_named(self, word: &[u8]) -> bool
+        ensures { result ≡ is_same_text word.now (form_of self).name }
+    {
+        let name = self.name();
+        word.len() == name.len() && word == name
     }
 
     pub(crate) fn name(self) -> &'static [u8]

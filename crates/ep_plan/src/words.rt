@@ -14,7 +14,7 @@ pub(crate) use hex_bytes::{id, payload, put_id, put_payload};
 pub use names::provider;
 pub(crate) use names::{event_name, put_name};
 pub use numbers::{hexadecimal, number};
-pub(crate) use numbers::{put_hexadecimal, put_number};
+pub(crate) use numbers::{leading_number, put_hexadecimal, put_number};
 pub(crate) use rules::put_rule;
 pub use rules::rule;
 pub(crate) use split::first_part;

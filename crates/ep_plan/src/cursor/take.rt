@@ -1,12 +1,12 @@
 //! Taking the words of a line, one after another, each as a part of the line.
-ghost use Rattle.std.specs.Prelude.{◌≡◌, ◌≢◌, ◌+◌, ◌^◌, ◌<◌, ◌≤◌, ℕ, List, [], length, false, Option, None, IfOk, OnOk};
+ghost use Rattle.std.specs.Prelude.{◌≡◌, ◌≢◌, ◌+◌, ◌^◌, ◌<◌, ◌≤◌, ℕ, List, [], length, false, Option, None, Some, IfOk, IfSome, IfNone, OnOk};
 ghost use Rattle.std.specs.Bool.{OnTrue, OnFalse};
 ghost use Rattle.ep_defs.specs.declared.limits.TheConstants.{EVENTS};
 ghost use Rattle.ep_plan.specs.declared.limits.TheConstants.{LINE_BYTES};
 ghost use Rattle.ep_plan.specs.declared.line.LineKind.TheVariants.{Word};
 ghost use Rattle.ep_plan.specs.declared.line.LineFault.TheVariants.{Bad as BadLine};
 ghost use Rattle.ep_plan.specs.Lines.{Part, Index, Number, Flag, Stamp, Provider, Name, Keywords, Fields as FieldsPart, Rule as RulePart, Id, Frames as FramesPart, Payload, number_of, flag_of, stamp_of};
-ghost use Rattle.ep_plan.specs.Words.{words_of, hex_in, id_in, frames_in, payload_in, provider_in, event_name_in, rule_in, fields_in};
+ghost use Rattle.ep_plan.specs.Words.{words_of, number_in, hex_in, id_in, frames_in, payload_in, provider_in, event_name_in, rule_in, fields_in};
 ghost use Rattle.ep_plan.specs.Cursor.{left, column_of, bad_left, has_word, TookWord, Took, TakesPart, IsBad, IsBadAt, IfBad, Reads};
 
 use super::Cursor;
@@ -119,8 +119,33 @@ impl<'a> Cursor<'a> {
         }
     }
 
+    // Takes the next word where it is a number up to `most`, and else nothing. It looks at each byte once.
+    fn leading_number(&mut self, most: u64) -> Option<u64>
+        ensures took { IfSome result (λ number. (word : List ℕ) × TookWord self.old self.new word
+            × (number_in most word ≡ Some number)) }
+        ensures same { IfNone result (self.new ≡ self.old) }
+    {
+        let (number, rest) = words::leading_number(self.rest?)?;
+        if number > most {
+            return None;
+        }
+        self.rest = rest;
+        Some(number)
+    }
+
     /// A number below 2 ^ 32.
     pub(crate) fn number(&mut self) -> Result<u32, LineFault>
+        ensures took { IfOk result (TakesPart Number number_of self.old self.new) }
+        ensures bad { IfBad result (IsBad Number self.old) }
+    {
+        match self.leading_number(MOST) {
+            Some(number) => Ok(number as u32),
+            None => self.other_number(),
+        }
+    }
+
+    // The same of any word.
+    fn other_number(&mut self) -> Result<u32, LineFault>
         ensures took { IfOk result (TakesPart Number number_of self.old self.new) }
         ensures bad { IfBad result (IsBad Number self.old) }
     {
@@ -140,6 +165,17 @@ impl<'a> Cursor<'a> {
 
     /// A stamp, a number below 2 ^ 64.
     pub(crate) fn stamp(&mut self) -> Result<u64, LineFault>
+        ensures took { IfOk result (TakesPart Stamp stamp_of self.old self.new) }
+        ensures bad { IfBad result (IsBad Stamp self.old) }
+    {
+        match self.leading_number(u64::MAX) {
+            Some(stamp) => Ok(stamp),
+            None => self.other_stamp(),
+        }
+    }
+
+    // The same of any word.
+    fn other_stamp(&mut self) -> Result<u64, LineFault>
         ensures took { IfOk result (TakesPart Stamp stamp_of self.old self.new) }
         ensures bad { IfBad result (IsBad Stamp self.old) }
     {

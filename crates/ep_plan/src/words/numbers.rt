@@ -1,5 +1,6 @@
 //! Numbers, in decimal and in hexadecimal digits.
-ghost use Rattle.std.specs.Prelude.{◌≡◌, ◌++◌, ◌-◌, ◌^◌, ◌≤◌, OnOk};
+ghost use Rattle.std.specs.Prelude.{◌≡◌, ◌++◌, ◌-◌, ◌^◌, ◌≤◌, IfSome, OnOk};
+ghost use Rattle.ep_plan.specs.Leading.{BeginsWithNumber};
 ghost use Rattle.ep_plan.specs.Words.{at_most, numeral_in, number_in, hex_in, number_text, hex_text};
 
 use crate::limits::{DECIMAL_DIGITS, HEX_DIGITS};
@@ -19,7 +20,30 @@ pub fn hexadecimal(word: &[u8]) -> Option<u64>
     numeral(word, 16, HEX_DIGITS)
 }
 
-// The number that 1 to `places` digits spell, where it has 64 bits.
+/// The number that the first word of a text spells, and what stands behind the word's space, where there is one: each
+/// byte is looked at once. It answers None where that word is no number of 64 bits.
+pub(crate) fn leading_number(text: &[u8]) -> Option<(u64, Option<&[u8]>)>
+    ensures { IfSome result (λ found. BeginsWithNumber text.now found.1 found.0) }
+{
+    let mut value: u64 = 0;
+    for (place, byte) in text.iter().enumerate() {
+        if *byte == b' ' {
+            if place == 0 || place > DECIMAL_DIGITS {
+                return None;
+            }
+            return Some((value, Some(&text[place + 1..])));
+        }
+        let digit = char::from(*byte).to_digit(10)?;
+        value = value.checked_mul(10)?.checked_add(u64::from(digit))?;
+    }
+    if text.is_empty() || text.len() > DECIMAL_DIGITS {
+        return None;
+    }
+    Some((value, None))
+}
+
+// The number that 1 to `places` digits spell, where it has 64 bits. Where it is called the base is known.
+#[inline(always)]
 fn numeral(word: &[u8], base: u32, places: usize) -> Option<u64>
     requires low { 2 ≤ base }
     requires high { base ≤ 36 }

@@ -1,6 +1,10 @@
-use Rattle.std.proofs.Common.{rules, refl}
-use Rattle.ep_plan.specs.Lines.{Stamp, stamp_of}
+use Rattle.std.proofs.Common.{ap}
+use Rattle.ep_plan.specs.Lines.{Stamp, unless}
+use Rattle.ep_plan.specs.declared.line.LineKind.TheVariants as kind
+use Rattle.ep_plan.proofs.CursorWords.{took-part}
 use Rattle.ep_plan.proofs.cursor.Cursor.stamp.Goals as goal
 
-pub returns-clause-bad : goal.returns-clause-bad
-returns-clause-bad c = c.part.ensures.bad Stamp stamp_of (record { fault = λ word. refl; value = λ word result gives. search rules })
+pub returns-in-Some-clause-took : goal.returns-in-Some-clause-took
+returns-in-Some-clause-took c =
+    let took = c.in-Some.ensures.took in
+    (took.0, took-part Stamp _ _ _ took.1 (ap (λ o. unless o kind.Number) took.2), took.2)
