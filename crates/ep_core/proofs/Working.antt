@@ -1,13 +1,17 @@
 -- What the parts of the machine stand for before and after a step.
 use Rattle.std.proofs.Common.{◌≡◌, ◌<◌, ◌-◌, ℕ, List, length, Some, Result, Ok, Err, OnOk, refl, ap, ◌∙◌, subst, arith}
-use Rattle.std.specs.Prelude.{slice_get, slice_index_or}
+use Rattle.std.specs.Prelude.{slice_get, slice_index_or, nat_lt}
+use Rattle.std.proofs.lemmas.Bool.{ltb-true, and_parts, not-false}
 use Rattle.std.proofs.lemmas.Option.{slice_get_read}
 use Rattle.std.proofs.Math.Logic.{∥∥₁_elim}
 use Rattle.std.proofs.Math.Bridge.{le_prop}
 use Rattle.ep_defs.specs.declared.limits.TheConstants.{THREADS}
 use Rattle.nt_write.specs.declared.fault.Fault.{Fault}
 use Rattle.nt_write.specs.declared.fault.Fault.TheVariants.{WriteFault, TooLong, OutOfMemory}
+use Rattle.ep_model.specs.Lawful.{objections, is_next_thread}
+use Rattle.ep_model.proofs.Objections.{none_there}
 use Rattle.ep_model.specs.declared.step.Step.{Step}
+use Rattle.ep_model.specs.declared.step.Step.TheVariants.{Enter}
 use Rattle.ep_stream.specs.Fates.{fate_after}
 use Rattle.ep_stream.specs.Rows.{IsRow}
 use Rattle.ep_stream.specs.declared.session.Fate.TheVariants.{ProgramEnd, Requested}
@@ -37,6 +41,13 @@ not_requested (Err OutOfMemory) conn is = cc
 
 pub tied_once : {step : Step} {work : Work} → ∥ CanGoOn step work ∥₁ → AreTied work.tables
 tied_once {work = work} goes = ∥∥₁_elim goes (AreTied-prop work.tables) (λ goes. goes.before.works.tied)
+
+-- A thread that comes has a number above those of the first threads.
+pub comes_above : {thread : ℕ} {work : Work} → ∥ CanGoOn (Enter thread) work ∥₁ → THREADS < thread
+comes_above {thread = thread} goes =
+    ∥∥₁_elim goes le_prop (λ goes.
+    let next = and_parts (nat_lt THREADS thread) _ (not-false (is_next_thread thread goes.past) (none_there (objections goes.events goes.past (Enter thread)) goes.before.lawful.1).0) in
+    ltb-true THREADS thread next.0)
 
 -- A row has its place in the list.
 pub place_within : {step : Step} {work : Work} (row : ℕ) → ∥ CanGoOn step work ∥₁ → IsRow THREADS row → row - 1 < length work.begun.items

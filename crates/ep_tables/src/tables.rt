@@ -13,6 +13,7 @@ mod start;
 mod threads;
 
 use ep_defs::EventDef;
+use ep_defs::limits::THREADS;
 use ep_rows::Rows;
 use ep_stream::Session;
 use ep_table::Table;
@@ -50,18 +51,30 @@ pub struct Tables {
     // How many writes were begun.
     begins: u32,
     ghost given: { (thread row : ℕ) → get nat_cmp threads thread ≡ Some row → IsRow ROWS row },
+    ghost first: { (thread : ℕ) → IsRow ROWS thread → get nat_cmp threads thread ≡ Some thread },
 }
 
 impl Tables {
     ghost use Rattle.ep_tables.specs.Judged.{Tells};
     ghost use Rattle.ep_tables.specs.Tables.{row_of};
 
+    // The row that a thread was given. The first threads have the rows of their numbers, and need no look-up.
+    fn given_row(&self, thread: u32) -> Option<u32>
+        ensures given { result ≡ get nat_cmp self.now.threads thread }
+        ensures row { IfSome result (IsRow ROWS) }
+    {
+        if 0 < thread && thread <= THREADS {
+            return Some(thread);
+        }
+        self.threads.get(&thread).copied()
+    }
+
     // The row of a thread, until another thread takes it.
     fn row_of(&self, thread: u32) -> Option<u32>
         ensures own { result ≡ row_of self.now thread }
         ensures row { IfSome result (IsRow ROWS) }
     {
-        let row = *self.threads.get(&thread)?;
+        let row = self.given_row(thread)?;
         if self.rows.thread(row) == u64::from(thread) {
             Some(row)
         } else {

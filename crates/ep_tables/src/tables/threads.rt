@@ -1,5 +1,5 @@
 //! Steps that a thread makes by itself.
-ghost use Rattle.std.specs.Prelude.{◌≡◌, OnOk};
+ghost use Rattle.std.specs.Prelude.{◌≡◌, ◌<◌, OnOk};
 ghost use Rattle.ep_tables.specs.Judged.{IsReady};
 ghost use Rattle.ep_tables.specs.declared.judged.Judged.TheVariants.{Enter, Leave, Begin, Show, End};
 ghost use Rattle.ep_tables.specs.Made.{MakesBegin, MakesEnd, MakesLeave, MakesEnter, MakesShow, CanTake, HasNumber};
@@ -8,12 +8,14 @@ ghost use Rattle.ep_tables.specs.Tied.{AreTied};
 use crate::judged::{OnBoth, OnRow};
 use crate::tables::Tables;
 use ep_defs::Write;
+use ep_defs::limits::THREADS;
 use std::alloc::AllocError;
 
 impl Tables {
-    /// Gives a thread that comes its row.
+    /// Gives a thread that comes its row. Its number is above those of the first threads.
     pub fn enter(&mut self, on: OnRow) -> Result<(), AllocError>
         requires ready { IsReady self.old (Enter on) }
+        requires above { THREADS < on.thread }
         requires tied { AreTied self.old }
         ensures made { OnOk result (MakesEnter on.thread self.old self.new) }
         ensures tied { OnOk result (AreTied self.new) }
