@@ -1,5 +1,5 @@
 //! What the lines of a schedule have come to.
-ghost use Rattle.std.specs.Prelude.{◌≡◌, ◌≤◌, ◌<◌, ◌+◌, ◌^◌, ℕ, true, false, List, [], ◌∷◌, length, IsTrue, IfOk, IfErr, IfSome, IfNone, OnOk, OnErr};
+ghost use Rattle.std.specs.Prelude.{◌≡◌, ◌≤◌, ◌<◌, ◌+◌, ◌^◌, ℕ, true, false, List, [], ◌∷◌, length, IsTrue, IfOk, IfErr, IfSome, IfNone, None, OnOk, OnErr};
 ghost use Rattle.std.specs.List.{list_all};
 ghost use Rattle.ep_defs.specs.Event.{is_valid_event};
 ghost use Rattle.ep_defs.specs.Definitions.{AreDistinct};
@@ -174,9 +174,33 @@ fn make(
         → result ≡ Err (Refused refusal)
         → IsUnlawful events.now past step (lines + 1) refusal }
 {
-    if let Some(machine) = machine {
-        return make_on(alloc, machine, step, lines + 1);
+    match machine {
+        Some(machine) => make_on(alloc, machine, step, lines + 1),
+        None => make_first(alloc, machine, events, step, lines),
     }
+}
+
+// Makes the first step, on a new machine. It stands apart, since a call pays for all that may stand on its stack, and a
+// machine is large.
+#[cold]
+#[inline(never)]
+fn make_first(
+    alloc: Global,
+    machine: &mut Option<Machine>,
+    events: &[EventDef],
+    step: Step,
+    lines: u64,
+) -> Result<(), Fault>
+    requires none { machine.old ≡ None }
+    requires count { lines < 2 ^ 63 }
+    requires few { length events.now ≤ EVENTS }
+    requires valid { IsTrue (list_all is_valid_event events.now) }
+    requires distinct { AreDistinct (event_at events.now) }
+    ensures made { OnOk result ((objection_to events.now [] step ≡ None)
+        × IsMachineOf events.now (step ∷ []) (lines + 1) machine.new) }
+    ensures refused { (refusal : Refusal) → result ≡ Err (Refused refusal)
+        → IsUnlawful events.now [] step (lines + 1) refusal }
+{
     let mut fresh = new_machine(alloc, events)?;
     make_on(alloc, &mut fresh, step, lines + 1)?;
     *machine = Some(fresh);

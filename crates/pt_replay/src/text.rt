@@ -1,10 +1,11 @@
 //! Reading the lines of a schedule from pieces of its text.
-ghost use Rattle.std.specs.Prelude.{◌≡◌, ◌≤◌, ◌<◌, ◌+◌, ◌^◌, ◌++◌, ◌≢◌, ℕ, List, [], ◌∷◌, length, IfSome, IfNone, OnOk};
+ghost use Rattle.std.specs.Prelude.{◌≡◌, ◌≤◌, ◌<◌, ◌+◌, ◌^◌, ◌++◌, ◌≢◌, ℕ, List, [], ◌∷◌, length, IfSome, IfNone, IsTrue, OnOk};
 
 use crate::errors::{Reason, Refusal};
 use crate::schedule::{Fault, Schedule};
 use ep_plan::LineKind;
 use ep_plan::limits::LINE_BYTES;
+use memchr::memchr;
 use pt_command::Reads;
 use pt_report::laws::a_stream_of_a_session_is_reported;
 use std::alloc::{AllocError, Global};
@@ -34,6 +35,7 @@ impl Reader {
     ghost use Rattle.ep_plan.specs.declared.line.Line.{Line};
     ghost use Rattle.pt_replay.specs.Outcomes.{IsOutcome};
     ghost use Rattle.pt_replay.specs.Reading.{HasRead, IsJudged, HasTaken, used};
+    ghost use Rattle.pt_replay.specs.Text.{is_line};
 
     /// A reader that has read nothing.
     pub(crate) fn new(alloc: Global) -> Reader
@@ -48,20 +50,19 @@ impl Reader {
         }
     }
 
-    fn take_byte(&mut self, byte: u8) -> Result<(), AllocError>
+    // Takes more of a line. A line that is too long is refused before its end comes.
+    fn take_part(&mut self, text: &[u8]) -> Result<(), AllocError>
         requires read { (bytes : List ℕ) × HasRead bytes self.old }
-        requires few { used self.old < 2 ^ 63 }
+        requires line { IsTrue (is_line text.now) }
+        requires few { used self.old + length text.now < 2 ^ 63 }
         ensures read { (bytes : List ℕ) → HasRead bytes self.old
-            → OnOk result (HasRead (bytes ++ byte ∷ []) self.new) }
-        ensures counted { OnOk result (used self.new ≤ used self.old + 1) }
+            → OnOk result (HasRead (bytes ++ text.now) self.new) }
+        ensures counted { OnOk result (used self.new ≤ used self.old + length text.now) }
     {
         if self.refusal.is_some() {
             return Ok(());
         }
-        if byte == b'\n' {
-            return self.end_line();
-        }
-        if self.part.len() >= LINE_BYTES {
+        if self.part.len() + text.len() > LINE_BYTES {
             self.refusal = Some(Refusal {
                 line: self.schedule.lines() + 1,
                 column: 1,
@@ -69,11 +70,52 @@ impl Reader {
             });
             return Ok(());
         }
-        self.part.push(byte)?;
-        Ok(())
+        self.part.extend_from_slice(text)
     }
 
-    // Takes the line that a line feed ended.
+    // Takes the end of a line, without the line feed that ended it.
+    fn take_end(&mut self, text: &[u8]) -> Result<(), AllocError>
+        requires read { (bytes : List ℕ) × HasRead bytes self.old }
+        requires line { IsTrue (is_line text.now) }
+        requires few { used self.old + length text.now < 2 ^ 63 }
+        ensures read { (bytes : List ℕ) → HasRead bytes self.old
+            → OnOk result (HasRead (bytes ++ text.now ++ 10 ∷ []) self.new) }
+        ensures counted { OnOk result (used self.new ≤ used self.old + length text.now + 1) }
+    {
+        if self.part.is_empty() {
+            return self.take_line(text);
+        }
+        self.take_part(text)?;
+        if self.refusal.is_some() {
+            return Ok(());
+        }
+        self.end_line()
+    }
+
+    // Takes a line that came whole, without its line feed. It is not copied.
+    fn take_line(&mut self, text: &[u8]) -> Result<(), AllocError>
+        requires read { (bytes : List ℕ) × HasRead bytes self.old }
+        requires first { self.old.part.items ≡ [] }
+        requires line { IsTrue (is_line text.now) }
+        requires few { used self.old < 2 ^ 63 }
+        ensures read { (bytes : List ℕ) → HasRead bytes self.old
+            → OnOk result (HasRead (bytes ++ text.now ++ 10 ∷ []) self.new) }
+        ensures counted { OnOk result (used self.new ≤ used self.old + 1) }
+    {
+        if self.refusal.is_some() {
+            return Ok(());
+        }
+        match self.schedule.take_line(self.alloc, text) {
+            Ok(()) => Ok(()),
+            Err(Fault::Refused(refusal)) => {
+                self.refusal = Some(refusal);
+                Ok(())
+            }
+            Err(Fault::OutOfMemory) => Err(AllocError),
+        }
+    }
+
+    // Takes the line that came in parts.
     fn end_line(&mut self) -> Result<(), AllocError>
         requires read { (bytes : List ℕ) × HasRead bytes self.old }
         requires good { self.old.refusal ≡ None }
@@ -133,9 +175,11 @@ impl Reads for Reader {
 
     /// Reads the next bytes.
     fn take(&mut self, piece: &[u8]) -> Result<(), AllocError> {
-        for byte in piece {
-            self.take_byte(*byte)?;
+        let mut rest = piece;
+        while let Some(end) = memchr(b'\n', rest) {
+            self.take_end(&rest[..end])?;
+            rest = &rest[end + 1..];
         }
-        Ok(())
+        self.take_part(rest)
     }
 }
