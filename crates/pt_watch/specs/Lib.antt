@@ -1,0 +1,4 @@
+pub mod Words
+pub mod Counting
+pub mod Lines
+pub mod Command
