@@ -5,8 +5,7 @@ use Rattle.std.specs.List.{AllByRecursion}
 use Rattle.std.proofs.lemmas.Bool.{cases_eq}
 use Rattle.ep_defs.specs.declared.session.Write.{Write}
 use Rattle.ep_listen.specs.Heard.{HeardEvent}
-use Rattle.ep_listen.specs.Shares.{AreRising, Contents, IsLess, contents_of, numbered, write_contents}
-use Rattle.ep_listen.specs.Shares.IsLess.{nothing, kept, missing}
+use Rattle.ep_listen.specs.Shares.{AreRising, Contents, IsLess, Kept, Missing, Nothing, contents_of, numbered, write_contents}
 
 -- No more events than numbers.
 pub rising-count : (below most : ℕ) (heard : List HeardEvent) → AreRising below most heard → length heard + below ≤ most
@@ -32,12 +31,12 @@ same a b e = cc
 
 pub all-less : (count first below most : ℕ) (admitted : List Write) (heard : List HeardEvent) → first ≡ below + 1 → AreRising below most heard → most < first + length admitted → AreAt first admitted heard
     → length heard + count ≡ length admitted → IsLess Contents count (numbered first admitted) (map contents_of heard)
-all-less count first below most [] [] e rising within at sum = subst (λ (n : ℕ). IsLess Contents n [] []) (omega (arith, sum)) nothing
+all-less count first below most [] [] e rising within at sum = subst (λ (n : ℕ). IsLess Contents n [] []) (omega (arith, sum)) Nothing
 all-less count first below most [] (h ∷ heard) e rising within at sum = absurd (omega (arith, sum))
 all-less zero first below most (write ∷ rest) [] e rising within at sum = absurd (omega (arith, sum))
 all-less (suc count) first below most (write ∷ rest) [] e rising within at sum =
     let later = all-less count (first + 1) first first rest [] refl (omega arith) (omega arith) tt (omega (arith, sum)) in
-    subst (λ (n : ℕ). IsLess Contents n (numbered first (write ∷ rest)) []) (omega arith) (missing count (write_contents first write) (numbered (first + 1) rest) [] later)
+    subst (λ (n : ℕ). IsLess Contents n (numbered first (write ∷ rest)) []) (omega arith) (Missing count (write_contents first write) (numbered (first + 1) rest) [] later)
 all-less count first below most (write ∷ rest) (h ∷ heard) e rising within at sum =
     let over = rising.0 in
     elim (cases_eq h.number first) [
@@ -47,11 +46,11 @@ all-less count first below most (write ∷ rest) (h ∷ heard) e rising within a
           let rest_rises : AreRising first most heard = rw here at rising.1 in
           let later = all-less count (first + 1) first most rest heard refl rest_rises (omega (arith, within)) (at-later first first most write rest heard (omega arith) rest_rises at.1) (omega (arith, sum)) in
           subst (λ (c : Contents). IsLess Contents count (numbered first (write ∷ rest)) (c ∷ map contents_of heard)) (same (write_contents first write) (contents_of h) is)
-          (kept count (write_contents first write) (numbered (first + 1) rest) (map contents_of heard) later)
+          (Kept count (write_contents first write) (numbered (first + 1) rest) (map contents_of heard) later)
       | inr other ↦
           let all_rise : AreRising first most (h ∷ heard) = (omega (arith, over, e, other), rising.1) in
           let few = rising-count first most (h ∷ heard) all_rise in
           let later = all-less (count - 1) (first + 1) first most rest (h ∷ heard) refl all_rise (omega (arith, within)) (at-later first first most write rest (h ∷ heard) (omega arith) all_rise at) (omega (arith, sum, few, within)) in
           subst (λ (n : ℕ). IsLess Contents n (numbered first (write ∷ rest)) (contents_of h ∷ map contents_of heard)) (omega (arith, sum, few, within))
-          (missing (count - 1) (write_contents first write) (numbered (first + 1) rest) (contents_of h ∷ map contents_of heard) later)
+          (Missing (count - 1) (write_contents first write) (numbered (first + 1) rest) (contents_of h ∷ map contents_of heard) later)
     ]

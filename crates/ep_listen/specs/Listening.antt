@@ -12,11 +12,11 @@ callback_of listener = listener.callback
 
 -- What the session had of the threads on which it was closed, in the order of the closings.
 abbrev pub marks_in : {C : Type 0} → Listener C → List Marks
-marks_in listener = listener.marks.items
+marks_in listener = listener.left.marks.items
 
 -- For how many marks there is room.
 abbrev pub room_of : {C : Type 0} → Listener C → ℕ
-room_of listener = listener.rows
+room_of listener = listener.left.rows
 
 -- The callback was out of memory.
 abbrev pub has_failed : {C : Type 0} → Listener C → Bool

@@ -48,9 +48,9 @@ heard_by thread heard = filter (λ e. e.thread == thread) heard
 
 -- The second list is the first without so many of its members, in the same order.
 pub data IsLess (A : Type 0) : ℕ → List A → List A → Type 0 where
-  nothing : IsLess A 0 [] []
-  kept : (count : ℕ) (a : A) (all some : List A) → IsLess A count all some → IsLess A count (a ∷ all) (a ∷ some)
-  missing : (count : ℕ) (a : A) (all some : List A) → IsLess A count all some → IsLess A (count + 1) (a ∷ all) some
+  Nothing : IsLess A 0 [] []
+  Kept : (count : ℕ) (a : A) (all some : List A) → IsLess A count all some → IsLess A count (a ∷ all) (a ∷ some)
+  Missing : (count : ℕ) (a : A) (all some : List A) → IsLess A count all some → IsLess A (count + 1) (a ∷ all) some
 
 -- What was heard of a thread is what the session admits of its writes, with the numbers 1, 2, 3, .., in their order, each with
 -- its contents, without those that are missing; and as many are missing as were refused, unless the listener has failed.

@@ -12,10 +12,15 @@ use std::alloc::{AllocError, Global};
 #[derive(Drop)]
 pub struct Listener<C: Callback> {
     callback: C,
-    // Of the rows on which the session was closed, in their order. There is room for so many.
+    left: Left,
+    failed: bool,
+}
+
+// What the session had of the rows on which it was closed, in the order of the closings. There is room for so many.
+#[derive(Debug, Drop)]
+struct Left {
     marks: Vec<Marks>,
     rows: u32,
-    failed: bool,
     ghost few: { vec_len marks ≤ rows },
     ghost room: { rows ≤ vec_capacity marks },
 }
@@ -45,8 +50,7 @@ impl<C: Callback> Listener<C> {
         match Vec::with_capacity(alloc, rows as usize) {
             Ok(marks) => Ok(Listener {
                 callback,
-                marks,
-                rows,
+                left: Left { marks, rows },
                 failed: false,
             }),
             Err(AllocError) => Err(callback),
@@ -79,7 +83,7 @@ impl<C: Callback> Listener<C> {
         ensures marks { marks_in self.new ≡ marks_in self.old ++ marks ∷ [] }
         ensures room { room_of self.new ≡ room_of self.old }
     {
-        self.marks.push_reserved(marks);
+        self.left.marks.push_reserved(marks);
         self.hear(alloc, batch)
     }
 
@@ -91,7 +95,7 @@ impl<C: Callback> Listener<C> {
     {
         ListenEnd {
             callback: self.callback,
-            marks: Items::new(self.marks),
+            marks: Items::new(self.left.marks),
             failed: self.failed,
         }
     }

@@ -96,3 +96,14 @@ module _ {C : Type 0} (has_heard : C → List HeardEvent → Type 0) (plan : Pla
             ]) in
             empty (heard_by thread ended.heard.heard) (let few = (ended.heard.are thread).few in omega (arith, few, ap (λ (a : Account). a.taken) none));
       }
+
+-- The session was one over the sample program.
+pub ended-as : {C : Type 0} (has_heard : C → List HeardEvent → Type 0) (plan : Plan) (rows : ℕ) (events : List EventDef) (writes : ℕ → List Write) (config : Config) (at_first : List HeardEvent → Type 0) (ends : ℕ) (callback : C) (marks : List Marks) (failed : Bool) (seat : SeatState)
+    → rows ≡ plan.threads → events ≡ sample → writes ≡ writes_of plan → ends ≡ plan.writes
+    → HasEnded has_heard rows events writes config at_first ends callback marks failed seat
+    → HasEnded has_heard plan.threads sample (writes_of plan) config at_first plan.writes callback marks failed seat
+ended-as has_heard plan rows events writes config at_first ends callback marks failed seat rows_are events_are writes_are ends_are ended =
+    subst (λ (n : ℕ). HasEnded has_heard n sample (writes_of plan) config at_first plan.writes callback marks failed seat) rows_are
+    (subst (λ (es : List EventDef). HasEnded has_heard rows es (writes_of plan) config at_first plan.writes callback marks failed seat) events_are
+    (subst (λ (ws : ℕ → List Write). HasEnded has_heard rows events ws config at_first plan.writes callback marks failed seat) writes_are
+    (subst (λ (n : ℕ). HasEnded has_heard rows events writes config at_first n callback marks failed seat) ends_are ended)))

@@ -2,7 +2,7 @@
 use Rattle.std.proofs.Common.{◌≡◌, ◌≢◌, ◌∙◌, ℕ, zero, suc, ◌+◌, ◌-◌, ◌<◌, ◌≤◌, Bool, true, false, inl, inr, List, [], ◌∷◌, ◌++◌, Option, None, Some, length, refl, sym, ap, subst, arith, append_assoc, length-append}
 use Rattle.std.specs.Prelude.{IsSome, Result, slice_get, slice_set, slice_index_or, ◌==◌, if◌then◌else◌}
 use Rattle.std.specs.List.{All, sum_by}
-use Rattle.std.proofs.lemmas.Bool.{cases_eq, eq-eqb, ne_eqb}
+use Rattle.std.proofs.lemmas.Bool.{cases_eq, cases_lt, eq-eqb, ne_eqb}
 use Rattle.std.proofs.lemmas.List.Sums.{sum_by-append}
 use Rattle.std.proofs.lemmas.Option.{slice_get_within}
 use Rattle.ep_defs.specs.declared.event.EventDef.{EventDef}
@@ -12,6 +12,7 @@ use Rattle.ep_defs.specs.declared.session.Write.{Write}
 use Rattle.ep_chunk.specs.Record.{Record}
 use Rattle.ep_guarded.specs.Tied.{AreCounted}
 use Rattle.ep_model.specs.History.{admitted_from}
+use Rattle.ep_pool.specs.Shared.{SeatState}
 use Rattle.ep_slot.specs.Hand.{HandState}
 use Rattle.ep_slot.specs.Slot.{AreRising}
 use Rattle.ep_row.specs.AtRest.{write_of}
@@ -24,8 +25,8 @@ use Rattle.ep_listen.specs.Shares.{Account, AreHeard, AreNext, IsPartOf, no_acco
 use Rattle.ep_listen.specs.declared.listener.Listener.{Listener}
 use Rattle.ep_live.proofs.Pushing.{each-push}
 use Rattle.ep_live.specs.RowSet.{LiveRowsState}
-use Rattle.pt_listen.specs.state.Hearing.{AreItsRows, HasHeard, IsHandBy, IsHearing, IsMarkBy, admitted_in}
-use Rattle.pt_listen.proofs.Rows.{its-moved, other-hand}
+use Rattle.pt_listen.specs.state.Hearing.{AreItsRows, HasEnded, HasHeard, IsHandBy, IsHearing, IsMarkBy, admitted_in}
+use Rattle.pt_listen.proofs.Rows.{hand-past, its-moved, other-hand}
 
 -- The law on batches.
 abbrev pub ABatchIsHeard : Type 0
@@ -295,4 +296,36 @@ hearing-ends has_heard count events writes config at_first ends slot set hands l
       marks = was.marks;
       marks_are = λ k mark is. let small = slice_get_within (marks_in listener) k mark is in absurd (omega (arith, small, was.marks));
       dry = was.dry;
+    }
+
+-- No row has a hand once the session was closed on each.
+pub none-left : {C : Type 0} (has_heard : C → List HeardEvent → Type 0) (count : ℕ) (events : List EventDef) (writes : ℕ → List Write) (config : Config) (at_first : List HeardEvent → Type 0) (ends low slot : ℕ) (set : LiveRowsState) (hands : List (Option HandState)) (listener : Listener C)
+    → count ≤ low → IsHearing has_heard count events writes config at_first ends low slot set hands listener → (row : ℕ) → hand_at hands row ≡ None
+none-left has_heard count events writes config at_first ends low slot set hands listener all was row =
+    elim (cases_lt count row) [
+      | inl past ↦ hand-past hands row (omega (arith, past, was.long))
+      | inr within ↦ was.shut row (omega (arith, within, all))
+    ]
+
+-- What it comes to.
+pub hearing-ended : {C : Type 0} (has_heard : C → List HeardEvent → Type 0) (count : ℕ) (events : List EventDef) (writes : ℕ → List Write) (config : Config) (at_first : List HeardEvent → Type 0) (ends low slot : ℕ) (set : LiveRowsState) (hands : List (Option HandState)) (listener : Listener C)
+    (callback : C) (marks : List Marks) (failed : Bool) (seat : SeatState)
+    → low ≡ count → IsHearing has_heard count events writes config at_first ends low slot set hands listener
+    → callback ≡ callback_of listener → marks ≡ marks_in listener → failed ≡ has_failed listener
+    → seat.share ≡ seat.seats → seat.taken ≡ seat.given → seat.total ≡ set.grant.config.chunks → seat.dry ≡ set.seat.dry
+    → HasEnded has_heard count events writes config at_first ends callback marks failed seat
+hearing-ended has_heard count events writes config at_first ends low slot set hands listener callback marks failed seat all was callback_is marks_are failed_is alone back chunks dry =
+    record {
+      accounts = was.accounts;
+      heard =
+          subst (λ (c : C). HasHeard has_heard count (admitted_in events writes config) at_first was.accounts c failed) (sym callback_is)
+          (subst (λ (v : Bool). HasHeard has_heard count (admitted_in events writes config) at_first was.accounts (callback_of listener) v) (sym failed_is) was.heard);
+      marks_count = ap length marks_are ∙ was.marks ∙ all;
+      marks_are = subst (λ (ms : List Marks). (k : ℕ) (m : Marks) → slice_get ms k ≡ Some m → IsMarkBy events writes config was.accounts ends k m) (sym marks_are) was.marks_are;
+      spent = record {
+        alone = alone;
+        back = back;
+        chunks = chunks ∙ ap (λ (c : Config). c.chunks) was.rows.config_is;
+        dry = dry ∙ was.dry ∙ sym (ap (λ (ms : List Marks). sum_by (λ mark. mark.refused) ms) marks_are);
+      };
     }

@@ -17,3 +17,6 @@ mod threads;
 mod watch;
 
 pub use watch::{WatchEnd, run_watch};
+
+#[cfg(test)]
+mod tests;

@@ -47,7 +47,7 @@ pub(crate) fn take_row<P: WatchRun, R: Wait, K: Callback>(
     requires row { (0 < row) × (row ≤ P.rows) }
     requires hearing { IsHearing K.has_heard P.rows P.events P.writes P.config P.at_first 0 0
         slot rows.old hands.old.items listener.old }
-    ensures hearing { IsHearing K.has_heard P.rows P.events P.writes P.config P.at_first 0 0
+    ensures { IsHearing K.has_heard P.rows P.events P.writes P.config P.at_first 0 0
         slot rows.new hands.new.items listener.new }
 {
     a_batch_is_heard();

@@ -16,46 +16,46 @@ loop-place-init g c =
 
 pub hand_chunk-requires : goal.hand_chunk-requires
 hand_chunk-requires g c =
-    let long = chunk-few c.args.chain.now c.loop-place.place c.in-Some-chunk.chunk.now (sym c.in-Some-chunk.ensures) in
+    let long = chunk-few c.args.chain.now c.loop-place.place c.in-Some.chunk.now (sym c.in-Some.ensures) in
     omega (arith, long, c.requires)
 
 pub overflow_add-count : goal.overflow_add-count
 overflow_add-count g c =
-    let long = chunk-few c.args.chain.now c.loop-place.place c.in-Some-chunk.chunk.now (sym c.in-Some-chunk.ensures) in
-    omega (arith, long, c.requires, c.loop-place.invariant.count, c.in_ok-hand_chunk.ensures.counted)
+    let long = chunk-few c.args.chain.now c.loop-place.place c.in-Some.chunk.now (sym c.in-Some.ensures) in
+    omega (arith, long, c.requires, c.loop-place.invariant.count, c.in_ok-count.ensures.counted)
 
 pub loop-place-preserved : goal.loop-place-preserved
 loop-place-preserved g c =
     let inv = c.loop-place.invariant in
     let chain = c.args.chain.now in
     let place = c.loop-place.place in
-    let chunk : List Record = c.in-Some-chunk.chunk.now in
+    let chunk : List Record = c.in-Some.chunk.now in
     let first : List Record = records_of (take place chain) in
-    let now : records_of (take (place + 1) chain) ≡ first ++ chunk = take_chain chain place chunk (sym c.in-Some-chunk.ensures) in
-    let handed = c.in_ok-hand_chunk.ensures.handed in
+    let now : records_of (take (place + 1) chain) ≡ first ++ chunk = take_chain chain place chunk (sym c.in-Some.ensures) in
+    let handed = c.in_ok-count.ensures.handed in
     record {
-      count = omega (arith, inv.count, c.in_ok-hand_chunk.ensures.counted, ap length now, length-append first chunk);
+      count = omega (arith, inv.count, c.in_ok-count.ensures.counted, ap length now, length-append first chunk);
       heard = λ before stands.
           subst (g.C.Callback.has_heard c.hand_chunk.new.callback)
           (ap (λ (es : List HeardEvent). (before ++ heard_in first) ++ es) handed.all ∙ heard-behind before first chunk ∙ ap (λ (rs : List Record). before ++ heard_in rs) (sym now))
           (handed.heard (before ++ heard_in first) (inv.heard before stands));
     }
 
-pub returns-in_err-hand_chunk : goal.returns-in_err-hand_chunk
-returns-in_err-hand_chunk g c =
+pub returns-in_err-count : goal.returns-in_err-count
+returns-in_err-count g c =
     let inv = c.loop-place.invariant in
     let chain = c.args.chain.now in
     let place = c.loop-place.place in
-    let chunk : List Record = c.in-Some-chunk.chunk.now in
+    let chunk : List Record = c.in-Some.chunk.now in
     let first : List Record = records_of (take place chain) in
     let after : List Record = records_of (drop (place + 1) chain) in
-    let handed = c.in_err-hand_chunk.ensures.handed in
+    let handed = c.in_err-count.ensures.handed in
     let p = err_from_is_err_and c.from_residual.result c.from_residual.ensures.1 in
     let whole : (heard_in first ++ handed.done) ++ (handed.others ++ heard_in after) ≡ heard_in (records_of chain) =
     append_assoc (heard_in first) handed.done (handed.others ++ heard_in after)
     ∙ ap (λ (es : List HeardEvent). heard_in first ++ es) (sym (append_assoc handed.done handed.others (heard_in after)) ∙ ap (λ (es : List HeardEvent). es ++ heard_in after) handed.front ∙ sym (map-append heard_of chunk after))
     ∙ sym (map-append heard_of first (chunk ++ after))
-    ∙ ap heard_in (sym (split_chain chain place chunk (sym c.in-Some-chunk.ensures)))
+    ∙ ap heard_in (sym (split_chain chain place chunk (sym c.in-Some.ensures)))
     in
     rw p.1
     (record {

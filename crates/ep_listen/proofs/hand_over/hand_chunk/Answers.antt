@@ -43,7 +43,7 @@ loop-rec-preserved g c =
       size = omega (arith, inv.size, t.next, total);
       count = omega (arith, inv.count, length-append inv.done (t.told ∷ []));
       heard = λ before stands.
-          subst (g.C.Callback.has_heard c.heard.new.callback)
+          subst (g.C.Callback.has_heard c.heard.new.self)
           (ap (λ (e : HeardEvent). (before ++ heard_in inv.done) ++ e ∷ []) (c.event_of.ensures t.told t.parts) ∙ heard-behind before inv.done (t.told ∷ []))
           (c.in_ok-heard.ensures.heard (before ++ heard_in inv.done) (inv.heard before stands));
     }

@@ -1,0 +1,29 @@
+use Rattle.std.proofs.Common.{◌≡◌, ◌∙◌, ℕ, ◌+◌, ◌-◌, ◌<◌, ◌≤◌, inl, inr, None, sym, ap, subst, arith}
+use Rattle.ep_slot.specs.Hand.{HandState}
+use Rattle.ep_stream.specs.Hands.{hand_at}
+use Rattle.pt_listen.specs.state.Hearing.{IsHearing}
+use Rattle.pt_listen.proofs.Hearing.{hearing-ends}
+use Rattle.pt_listen.proofs.Rows.{hand-past, none-expected, none-out}
+use Rattle.pt_listen.proofs.hearing.Hearing.end.Goals as goal
+
+pub loop-place-init : goal.loop-place-init
+loop-place-init g c =
+    let old = c.args.self in
+    record {
+      hearing = hearing-ends g.K.Callback.has_heard g.P.Program.rows g.P.Program.events g.P.Program.writes g.P.WatchRun.config g.P.WatchRun.at_first c.args.writes old.slot old.rows old.hands.items old.listener old.hearing;
+      stands = c.requires.stands;
+    }
+
+pub leave_row-requires : goal.leave_row-requires
+leave_row-requires g c =
+    let inv = c.loop-place.invariant in
+    let back : c.loop-place.place ≡ c.loop-place.place + 1 - 1 = omega arith in
+    record {
+      row = (omega arith, omega (arith, c.loop-place-test.true, c.threads-place-end.ensures, c.args.self.hearing.rows.rows));
+      stands = inv.stands;
+      hearing = subst (λ (low : ℕ). IsHearing g.K.Callback.has_heard g.P.Program.rows g.P.Program.events g.P.Program.writes g.P.WatchRun.config g.P.WatchRun.at_first c.args.writes low c.args.self.slot c.loop-place.rows c.loop-place.hands.items c.loop-place.listener) back inv.hearing;
+    }
+
+pub loop-place-preserved : goal.loop-place-preserved
+loop-place-preserved g c =
+    record { hearing = c.leave_row.ensures.hearing; stands = c.leave_row.ensures.stands ∙ c.loop-place.invariant.stands }
