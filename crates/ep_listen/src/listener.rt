@@ -89,9 +89,9 @@ impl<C: Callback> Listener<C> {
 
     /// What is left once nothing more is handed over.
     pub fn end(self) -> ListenEnd<C>
-        ensures callback { result.callback ≡ callback_of self.entry }
-        ensures marks { result.marks ≡ marks_in self.entry }
-        ensures failed { result.failed ≡ has_failed self.entry }
+        ensures callback { result.callback ≡ callback_of self }
+        ensures marks { result.marks ≡ marks_in self }
+        ensures failed { result.failed ≡ has_failed self }
     {
         ListenEnd {
             callback: self.callback,

@@ -1,4 +1,7 @@
 //! Batches of records, and a callback that keeps what it hears.
+ghost use Rattle.std.specs.Prelude.{◌≡◌, ◌+◌, ◌≤◌, IfOk, length};
+ghost use Rattle.ep_slot.specs.Chain.{records_of};
+
 use crate::{Callback, Heard, Listener};
 use ep_chunk::{Chain, Chunk, RecIn};
 use ep_defs::Marks;
@@ -47,8 +50,10 @@ impl Callback for Keeper {
     }
 }
 
-// A record of thread 7 with this number, with one frame and a byte of payload.
-fn append(chunk: &mut Chunk, number: u32) {
+// Appends a record of thread 7 with this number, with one frame and a byte of payload.
+fn append(chunk: &mut Chunk, number: u32)
+    ensures { length chunk.new ≤ length chunk.old + 1 }
+{
     chunk.append(&RecIn {
         event: 3,
         number,
@@ -61,12 +66,32 @@ fn append(chunk: &mut Chunk, number: u32) {
     });
 }
 
-// Hands over a batch of the records 1 and 3, and then the last one, of the records 4, 5 and 7, to a callback that keeps so many events. Gives what it has kept, what
-// both calls answered, what is left of the listener, and its marks.
-fn hear(
-    alloc: Global,
-    most: usize,
-) -> Result<(Vec<Told>, [Option<u32>; 2], bool, Vec<Marks>), Fail> {
+// A chain of one chunk with two records of these numbers.
+fn chain_of(alloc: Global, first: u32, second: u32) -> Result<Chain, Fail>
+    ensures one { IfOk result (λ chain. length chain ≡ 1) }
+    ensures few { IfOk result (λ chain. length (records_of chain) ≤ 2) }
+{
+    let mut chunk = Chunk::new(alloc)?;
+    append(&mut chunk, first);
+    append(&mut chunk, second);
+    match Chain::one(alloc, chunk) {
+        Ok(chain) => Ok(chain),
+        Err(_) => Err(AllocError)?,
+    }
+}
+
+/// What came of a listener.
+#[derive(Drop)]
+struct Left {
+    kept: Vec<Told>,
+    answers: [Option<u32>; 2],
+    failed: bool,
+    marks: Vec<Marks>,
+}
+
+// Hands over a batch of the records 1 and 3, and then the last one, of the records 4, 5, 7 and 8 in two chunks, to a callback
+// that keeps so many events.
+fn hear(alloc: Global, most: usize) -> Result<Left, Fail> {
     let keeper = Keeper {
         kept: Vec::new(alloc),
         most,
@@ -74,53 +99,40 @@ fn hear(
     let Ok(mut listener) = Listener::new(alloc, keeper, 1) else {
         return Err(AllocError)?;
     };
-    let mut chunk = Chunk::new(alloc)?;
-    append(&mut chunk, 1);
-    append(&mut chunk, 3);
-    let Ok(chain) = Chain::one(alloc, chunk) else {
-        return Err(AllocError)?;
+    let batch = Batch {
+        chain: chain_of(alloc, 1, 3)?,
+        last: 3,
     };
-    let first = listener.hear(alloc, &Batch { chain, last: 3 });
-    let mut chunk = Chunk::new(alloc)?;
-    append(&mut chunk, 4);
-    append(&mut chunk, 5);
-    let Ok(mut chain) = Chain::one(alloc, chunk) else {
-        return Err(AllocError)?;
-    };
-    let mut chunk = Chunk::new(alloc)?;
-    append(&mut chunk, 7);
-    let Ok(more) = Chain::one(alloc, chunk) else {
-        return Err(AllocError)?;
-    };
-    chain.join(more);
+    let first = listener.hear(alloc, &batch);
+    let mut chain = chain_of(alloc, 4, 5)?;
+    chain.join(chain_of(alloc, 7, 8)?);
     let marks = Marks {
         thread: 7,
         from: 0,
         to: 9,
-        taken: 5,
+        taken: 6,
         refused: 2,
     };
-    let second = listener.leave(alloc, &Batch { chain, last: 7 }, marks);
+    let second = listener.leave(alloc, &Batch { chain, last: 8 }, marks);
     let end = listener.end();
-    let marks = end.marks.as_slice().to_vec(alloc)?;
-    Ok((
-        end.callback.kept,
-        [first.ok(), second.ok()],
-        end.failed,
-        marks,
-    ))
+    Ok(Left {
+        kept: end.callback.kept,
+        answers: [first.ok(), second.ok()],
+        failed: end.failed,
+        marks: end.marks.as_slice().to_vec(alloc)?,
+    })
 }
 
 #[test]
 fn each_record_is_heard_once_and_unchanged(rt: HostRuntime) -> Result<(), Fail> {
     let alloc = rt.alloc();
-    let (kept, answers, failed, marks) = hear(alloc, 100)?;
-    assert_eq!(rt; answers, [Some(2), Some(3)]);
-    assert!(rt; !failed);
-    assert!(rt; marks.len() == 1 && marks[0].thread == 7 && marks[0].refused == 2);
-    let numbers = [1, 3, 4, 5, 7];
-    assert_eq!(rt; kept.len(), numbers.len());
-    for (told, number) in kept.iter().zip(numbers) {
+    let left = hear(alloc, 100)?;
+    assert_eq!(rt; left.answers, [Some(2), Some(4)]);
+    assert!(rt; !left.failed);
+    assert!(rt; left.marks.len() == 1);
+    let numbers = [1, 3, 4, 5, 7, 8];
+    assert_eq!(rt; left.kept.len(), numbers.len());
+    for (told, number) in left.kept.iter().zip(numbers) {
         let wanted = Told {
             event: 3,
             number,
@@ -141,13 +153,13 @@ fn after_want_of_memory_nothing_more_is_heard_and_marks_are_kept(
     rt: HostRuntime,
 ) -> Result<(), Fail> {
     let alloc = rt.alloc();
-    for most in 0..5 {
-        let (kept, answers, failed, marks) = hear(alloc, most)?;
+    for most in 0..6 {
+        let left = hear(alloc, most)?;
         let first = if most < 2 { None } else { Some(2) };
-        assert_eq!(rt; answers, [first, None]);
-        assert_eq!(rt; kept.len(), most);
-        assert!(rt; failed);
-        assert_eq!(rt; marks.len(), 1);
+        assert_eq!(rt; left.answers, [first, None]);
+        assert_eq!(rt; left.kept.len(), most);
+        assert!(rt; left.failed);
+        assert_eq!(rt; left.marks.len(), 1);
     }
     Ok(())
 }

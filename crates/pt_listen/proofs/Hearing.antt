@@ -3,6 +3,7 @@ use Rattle.std.proofs.Common.{◌≡◌, ◌≢◌, ◌∙◌, ℕ, zero, suc, �
 use Rattle.std.specs.Prelude.{IsSome, Result, slice_get, slice_set, slice_index_or, ◌==◌, if◌then◌else◌}
 use Rattle.std.specs.List.{All, sum_by}
 use Rattle.std.proofs.lemmas.Bool.{cases_eq, cases_lt, eq-eqb, ne_eqb}
+use Rattle.std.proofs.lemmas.List.{length-set}
 use Rattle.std.proofs.lemmas.List.Sums.{sum_by-append}
 use Rattle.std.proofs.lemmas.Option.{slice_get_within}
 use Rattle.ep_defs.specs.declared.event.EventDef.{EventDef}
@@ -156,7 +157,7 @@ hearing-taken has_heard count events writes config at_first slot row last chunks
     }
   where
     long-set : (xs : List (Option HandState)) (place : ℕ) (x : Option HandState) → length (slice_set xs place x) ≡ length xs
-    long-set xs place x = search arith
+    long-set xs place x = length-set xs place x
 
     no-mark : (ms : List Marks) → length ms ≡ 0 → (k : ℕ) (mark : Marks) → slice_get ms k ≡ Some mark → ⊥
     no-mark ms none k mark is = let small = slice_get_within ms k mark is in omega (arith, small, none)
@@ -245,7 +246,7 @@ hearing-left has_heard count events writes config at_first ends slot row last ol
     }
   where
     long-set : (xs : List (Option HandState)) (place : ℕ) (x : Option HandState) → length (slice_set xs place x) ≡ length xs
-    long-set xs place x = search arith
+    long-set xs place x = length-set xs place x
 
     rest-of : (r : ℕ) (o : Option HandState) → (r ≡ row → ⊥) → (if r == row then o else hand_at hands r) ≡ hand_at hands r
     rest-of r o apart = rw (ne_eqb r row apart) refl

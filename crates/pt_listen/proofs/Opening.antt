@@ -1,7 +1,7 @@
 -- A session that is opened on one row after another, before anything was written.
 use Rattle.std.proofs.Common.{◌≡◌, ◌≢◌, ◌∙◌, ℕ, zero, suc, ◌+◌, ◌*◌, ◌-◌, ◌<◌, ◌≤◌, Bool, true, false, inl, inr, List, [], ◌∷◌, ◌++◌, Option, None, Some, length, refl, sym, ap, subst, arith}
 use Rattle.std.specs.Prelude.{IsSome, slice_get, ◌==◌, if◌then◌else◌}
-use Rattle.std.proofs.lemmas.Option.{slice_get_within}
+use Rattle.std.proofs.lemmas.Option.{none-some, slice_get_within}
 use Rattle.std.specs.List.{sum_by}
 use Rattle.std.proofs.lemmas.Bool.{cases_eq, eq-eqb, ne_eqb}
 use Rattle.std.proofs.lemmas.List.{append-nil, get_or_past}
@@ -28,15 +28,9 @@ use Rattle.pt_listen.proofs.Rows.{hand_at-push}
 abbrev pub NothingIsHeard : Type 0
 NothingIsHeard = (admitted : ℕ → List Write) → AreHeard admitted (λ thread. no_account) false []
 
-no-hand : (row : ℕ) → hand_at [] row ≡ None
+pub no-hand : (row : ℕ) → hand_at [] row ≡ None
 no-hand zero = refl
 no-hand (suc place) = get_or_past {X = Option HandState} [] place None (omega arith)
-
-no-some : {A : Type 0} (hand : HandState) → None ≡ Some hand → A
-no-some hand e = absurd (clash e)
-  where
-    clash : None ≡ Some hand → ⊥
-    clash e = cc
 
 -- The rows of a session that is open nowhere.
 pub its-first : (count slot : ℕ) (config : Config) (grant : Grant) (seat : SeatState) (stands : Option ℕ) (lives : List ℕ) (set : LiveRowsState) → slot < SESSIONS → grant.config ≡ config → AreFresh count slot grant seat stands lives set → AreItsRows count slot config set []
@@ -47,7 +41,7 @@ its-first count slot config grant seat stands lives set within asked fresh =
       slot_is = fresh.slot_is;
       config_is = ap (λ (g : Grant). g.config) fresh.grant_is ∙ asked;
       expected = λ row. fresh.closed row slot ∙ sym (no-hand row);
-      configured = λ row hand is. no-some hand (sym (no-hand row) ∙ is);
+      configured = λ row hand is. absurd (none-some hand (sym (no-hand row) ∙ is));
       out = fresh.given slot;
     }
 

@@ -1,14 +1,17 @@
 -- A session's rows after a call.
 use Rattle.std.proofs.Common.{◌≡◌, ◌≢◌, ◌∙◌, ℕ, zero, suc, ◌+◌, ◌-◌, ◌<◌, ◌≤◌, true, false, List, [], ◌∷◌, ◌++◌, Option, None, Some, length, refl, sym, ap, subst, arith, length-append}
 use Rattle.std.specs.Prelude.{Bool, slice_index_or, slice_set, ◌==◌, ◌&&◌, if◌then◌else◌}
-use Rattle.std.proofs.lemmas.Bool.{eqb-true, eqb-false}
+use Rattle.std.specs.List.{sum_by}
+use Rattle.std.proofs.lemmas.Bool.{eqb-true, eqb-false, ne_eqb}
 use Rattle.std.proofs.lemmas.List.{get_or_past}
+use Rattle.std.proofs.lemmas.Option.{none-some}
 use Rattle.ep_defs.specs.declared.session.Config.{Config}
+use Rattle.ep_guarded.specs.Tied.{hand_in}
 use Rattle.ep_slot.specs.Hand.{HandState}
 use Rattle.ep_stream.specs.Hands.{hand_at}
 use Rattle.ep_stream.specs.Rows.{IsSame, IsSetAt, StillAttaches}
 use Rattle.ep_stream.proofs.Taking.{at_slot, had_hand, hand_back, hand_gone, same_slot}
-use Rattle.ep_live.specs.RowSet.{LiveRowsState, configured_in, expected_in, out_in}
+use Rattle.ep_live.specs.RowSet.{LiveRowsState, configured_in, expected_in, half_at, out_in, stolen_in}
 use Rattle.pt_listen.specs.state.Hearing.{AreItsRows, can_attach}
 
 -- What a call takes out: of the session's slot so many chunks more are out.
@@ -67,21 +70,11 @@ its-taken count slot row chunks config old mid new hands hand now its was expect
 -- What stands where a row's hand was taken out stood there before, and on another row.
 pub other-hand : (hands : List (Option HandState)) (row r : ℕ) (hand other : HandState) → hand_at hands row ≡ Some hand → hand_at (slice_set hands (row - 1) None) r ≡ Some other → (r ≢ row) × (hand_at hands r ≡ Some other)
 other-hand hands row r hand other was is =
-    by_case (sym (hand_gone hands row hand r was) ∙ is)
-  where
-    clash : {A : Type 0} → None ≡ Some other → A
-    clash e = absurd (apart e)
-      where
-        apart : None ≡ Some other → ⊥
-        apart e = cc
-
-    by_case : (if r == row then None else hand_at hands r) ≡ Some other → (r ≢ row) × (hand_at hands r ≡ Some other)
-    by_case =
-        elim (r == row) as (λ v. (r == row) ≡ v → (if v then None else hand_at hands r) ≡ Some other → (r ≢ row) × (hand_at hands r ≡ Some other)) [
-          | true ↦ λ same at. clash at
-          | false ↦ λ same at. (eqb-false r row same, at)
-        ]
-        refl
+    elim (r == row) as (λ v. (r == row) ≡ v → (if v then None else hand_at hands r) ≡ Some other → (r ≢ row) × (hand_at hands r ≡ Some other)) [
+      | true ↦ λ same at. absurd (none-some other at)
+      | false ↦ λ same at. (eqb-false r row same, at)
+    ]
+    refl (sym (hand_gone hands row hand r was) ∙ is)
 
 -- The session was closed on a row, and what was pending there was given back.
 pub its-left : (count slot row chunks : ℕ) (config : Config) (old mid new : LiveRowsState) (hands : List (Option HandState)) (hand : HandState)
@@ -124,16 +117,20 @@ its-left count slot row chunks config old mid new hands hand its was expected co
 
 -- ---- the opening
 
+index-push : (hands : List (Option HandState)) (hand : HandState) (place : ℕ) → slice_index_or (hands ++ Some hand ∷ []) place None ≡ (if place == length hands then Some hand else slice_index_or hands place None)
+index-push [] hand zero = refl
+index-push [] hand (suc place) = refl
+index-push (h ∷ hands) hand zero = refl
+index-push (h ∷ hands) hand (suc place) = index-push hands hand place
+
 -- A hand behind others is that of the next row.
 pub hand_at-push : (hands : List (Option HandState)) (hand : HandState) (r : ℕ) → hand_at (hands ++ Some hand ∷ []) r ≡ (if r == length hands + 1 then Some hand else hand_at hands r)
-hand_at-push hands hand zero = refl
-hand_at-push hands hand (suc place) = index-push hands place
+hand_at-push hands hand zero = ap (λ (v : Bool). if v then Some hand else None) (sym (ne_eqb 0 (length hands + 1) (λ same. omega (arith, same))))
+hand_at-push hands hand (suc place) =
+    index-push hands hand place ∙ ap (λ (n : ℕ). if suc place == n then Some hand else slice_index_or hands place None) (up hands)
   where
-    index-push : (hs : List (Option HandState)) (place : ℕ) → slice_index_or (hs ++ Some hand ∷ []) place None ≡ (if suc place == length hs + 1 then Some hand else slice_index_or hs place None)
-    index-push [] zero = refl
-    index-push [] (suc place) = refl
-    index-push (h ∷ hs) zero = refl
-    index-push (h ∷ hs) (suc place) = index-push hs place
+    up : (hs : List (Option HandState)) → suc (length hs) ≡ length hs + 1
+    up hs = omega arith
 
 -- The session was opened on the next row.
 pub its-opened : (count slot row : ℕ) (config : Config) (old new : LiveRowsState) (hands : List (Option HandState)) (hand : HandState)
@@ -192,19 +189,19 @@ hand-past hands (suc place) past = get_or_past hands place None (omega (arith, p
 pub none-expected : (count slot : ℕ) (config : Config) (set : LiveRowsState) (hands : List (Option HandState)) → AreItsRows count slot config set hands → ((row : ℕ) → hand_at hands row ≡ None)
     → (row s : ℕ) → expected_in set row s ≡ None
 none-expected count slot config set hands its none row s =
+    let says : Option HandState = hand_in (half_at set.halves row).value in
     let here : expected_in set row set.slot ≡ None = ap (λ (n : ℕ). expected_in set row n) its.slot_is ∙ its.expected row ∙ none row in
-    elim (s == set.slot) as (λ v. (s == set.slot) ≡ v → expected_in set row s ≡ None) [
-      | true ↦ λ is. ap (λ (n : ℕ). expected_in set row n) (eqb-true s set.slot is) ∙ here
-      | false ↦ λ is. rw is refl
+    elim (s == set.slot) as (λ v. (if v then hand_in (half_at set.halves row).value else None) ≡ None) [
+      | true ↦ sym (same_slot set.slot says None) ∙ here
+      | false ↦ refl
     ]
-    refl
 
 -- Nor is anything out.
 pub none-out : (count slot : ℕ) (config : Config) (set : LiveRowsState) (hands : List (Option HandState)) → AreItsRows count slot config set hands → (s : ℕ) → out_in set s ≡ 0
 none-out count slot config set hands its s =
+    let all : ℕ = sum_by stolen_in set.halves + set.seat.taken - set.seat.given in
     let here : out_in set set.slot ≡ 0 = ap (λ (n : ℕ). out_in set n) its.slot_is ∙ its.out in
-    elim (s == set.slot) as (λ v. (s == set.slot) ≡ v → out_in set s ≡ 0) [
-      | true ↦ λ is. ap (λ (n : ℕ). out_in set n) (eqb-true s set.slot is) ∙ here
-      | false ↦ λ is. rw is refl
+    elim (s == set.slot) as (λ v. (if v then sum_by stolen_in set.halves + set.seat.taken - set.seat.given else 0) ≡ 0) [
+      | true ↦ sym (same_slot set.slot all 0) ∙ here
+      | false ↦ refl
     ]
-    refl

@@ -43,7 +43,7 @@ pub(crate) struct Hearing<'r, 'a, P: WatchRun, R: Wait, K: Callback> {
 }
 
 /// Opens a session on each row of a run in which no thread has made a write. Where there is no memory for it all is let go.
-pub(crate) fn open_all<'r, 'a, P: WatchRun, R: Wait, K: Callback>(
+pub(crate) fn open_all<'r, 'a, P: WatchRun, R: Wait, K: Callback + Drop>(
     alloc: Global,
     rows: LiveRows<'r, 'a, P, R>,
     slot: u32,
@@ -151,37 +151,6 @@ impl<'r, 'a, P: WatchRun, R: Wait, K: Callback> Hearing<'r, 'a, P, R, K> {
         (hearing, taken)
     }
 
-    /// Takes what the threads write, again and again, until they have ended.
-    pub(crate) fn run<C: Clock, G: Gate>(
-        self,
-        alloc: Global,
-        around: &Around<'_, P, R, C, G>,
-        ended: &AtomicBool,
-    ) -> Hearing<'r, 'a, P, R, K>
-    where
-        R: Timer,
-    {
-        let mut hearing = self;
-        for _ in around.rt.forever() {
-            // Asked before the sweep, so that the last sweep comes after the last write.
-            let last = ended.load(Ordering::SeqCst);
-            let (swept, taken) = hearing.sweep(alloc);
-            hearing = swept;
-            around.gate.pass(Moment::Swept {
-                session: SESSION,
-                taken,
-            });
-            if last {
-                return hearing;
-            }
-            if taken == 0 {
-                // The processor is left to the writers, whose locks each sweep takes.
-                thread::sleep(around.rt, Duration::from_millis(REST));
-            }
-        }
-        unreachable!()
-    }
-
     /// Closes the session on each row, whose threads have made so many writes, and ends the listener. Gives the seat of the session's pool, which has all
     /// shares then.
     pub(crate) fn end(self, alloc: Global, writes: u32) -> (ListenEnd<K>, PoolSeat)
@@ -208,5 +177,35 @@ impl<'r, 'a, P: WatchRun, R: Wait, K: Callback> Hearing<'r, 'a, P, R, K> {
         }
         let seat = rows.end().into_seat();
         (listener.end(), seat)
+    }
+}
+
+impl<'r, 'a, P: WatchRun, R: Wait + Timer, K: Callback> Hearing<'r, 'a, P, R, K> {
+    /// Takes what the threads write, again and again, until they have ended.
+    pub(crate) fn run<C: Clock, G: Gate>(
+        self,
+        alloc: Global,
+        around: &Around<'_, P, R, C, G>,
+        ended: &AtomicBool,
+    ) -> Hearing<'r, 'a, P, R, K> {
+        let mut hearing = self;
+        for _ in around.rt.forever() {
+            // Asked before the sweep, so that the last sweep comes after the last write.
+            let last = ended.load(Ordering::SeqCst);
+            let (swept, taken) = hearing.sweep(alloc);
+            hearing = swept;
+            around.gate.pass(Moment::Swept {
+                session: SESSION,
+                taken,
+            });
+            if last {
+                return hearing;
+            }
+            if taken == 0 {
+                // The processor is left to the writers, whose locks each sweep takes.
+                thread::sleep(around.rt, Duration::from_millis(REST));
+            }
+        }
+        unreachable!()
     }
 }

@@ -2,7 +2,7 @@
 use Rattle.std.proofs.Common.{◌≡◌, ◌≢◌, ◌∙◌, ℕ, ◌+◌, ◌-◌, ◌<◌, ◌≤◌, inl, inr, List, [], ◌∷◌, ◌++◌, filter, length, refl, sym, ap, arith, length-append}
 use Rattle.std.specs.Prelude.{min, slice_index, slice_set, ◌^◌, ◌==◌}
 use Rattle.std.proofs.lemmas.Bool.{cases_eq, eq-eqb, ne_eqb}
-use Rattle.std.proofs.lemmas.List.{get_or-set_same, get_or-set_other}
+use Rattle.std.proofs.lemmas.List.{get_or-set_same, get_or-set_other, length-set}
 use Rattle.std.proofs.lemmas.List.Elements.{filter-append}
 use Rattle.ep_listen.specs.Heard.{HeardEvent}
 use Rattle.pt_watch.specs.Counting.{AreCountsOf, count_of, times}
@@ -22,7 +22,7 @@ times-other event heard e apart = times-more event heard e ∙ ap (λ (n : ℕ).
 pub count-more : (counts : List ℕ) (heard : List HeardEvent) (e : HeardEvent) → e.event < length counts → AreCountsOf counts heard
     → AreCountsOf (slice_set counts e.event (min (2 ^ 64 - 1) (slice_index counts e.event + 1))) (heard ++ e ∷ [])
 count-more counts heard e within are event low =
-    let long : length (slice_set counts e.event (min (2 ^ 64 - 1) (slice_index counts e.event + 1))) ≡ length counts = search arith in
+    let long : length (slice_set counts e.event (min (2 ^ 64 - 1) (slice_index counts e.event + 1))) ≡ length counts = length-set counts e.event (min (2 ^ 64 - 1) (slice_index counts e.event + 1)) in
     elim (cases_eq event e.event) [
       | inl here ↦
           ap (λ (k : ℕ). slice_index (slice_set counts e.event (min (2 ^ 64 - 1) (slice_index counts e.event + 1))) k) here

@@ -1,5 +1,5 @@
 -- How often events were heard (this project's profile).
-use Rattle.std.specs.Prelude.{◌≡◌, ℕ, ◌+◌, ◌-◌, ◌^◌, ◌<◌, min, ◌==◌, List, length, filter, slice_index}
+use Rattle.std.specs.Prelude.{◌≡◌, ℕ, ◌+◌, ◌-◌, ◌^◌, ◌<◌, min, ◌==◌, List, [], length, filter, slice_index}
 use Rattle.ep_listen.specs.Heard.{HeardEvent}
 use Rattle.pt_watch.specs.declared.counts.Counts.{Counts}
 use Rattle.pt_watch.specs.declared.limits.TheConstants.{EVENTS}
@@ -22,3 +22,7 @@ AreCountsOf counts heard = (event : ℕ) → event < length counts → slice_ind
 -- Counts of the sample program's events stand for each list of events that has them.
 abbrev pub StandsFor : Counts → List HeardEvent → Type 0
 StandsFor counts heard = (length (counts_in counts) ≡ EVENTS + 1) × AreCountsOf (counts_in counts) heard
+
+-- Nothing was heard.
+abbrev pub IsNothing : List HeardEvent → Type 0
+IsNothing heard = heard ≡ []

@@ -1,21 +1,23 @@
 //! The command `watch`.
-ghost use Rattle.std.specs.Prelude.{◌≡◌, ◌+◌, ◌<◌, ◌++◌, [], IfOk, length};
+ghost use Rattle.std.specs.Prelude.{◌≡◌, ◌+◌, IfOk, IsTrue, length};
+ghost use Rattle.ep_defs.specs.Session.{is_valid_config};
 ghost use Rattle.pt_listen.specs.Watched.{WatchedFrom};
 ghost use Rattle.pt_watch.specs.Command.{Tells, Watches};
-ghost use Rattle.pt_watch.specs.Counting.{StandsFor, counts_in};
+ghost use Rattle.pt_watch.specs.Counting.{IsNothing, StandsFor, counts_in};
 ghost use Rattle.pt_watch.specs.Lines.{told_lines};
-ghost use Rattle.pt_watch.specs.Words.{Fits};
+ghost use Rattle.pt_watch.specs.Words.{Fits, FitsPlan};
 
 use crate::counts::Counts;
 use crate::limits::EVENTS;
 use crate::lines::{put_count, put_heard};
 use crate::words::Asked;
-use ep_defs::{Items, MarkList, Marks};
+use ep_defs::{Config, Items, MarkList, Marks};
 use ep_listen::ListenEnd;
 use ep_pool::PoolSeat;
 use pt_command::{End, say};
 use pt_io::{Clock, Gate, Sink};
 use pt_listen::{WatchEnd, run_watch};
+use pt_load::Plan;
 use std::alloc::{AllocError, Global};
 use std::sync::Wait;
 use std::thread::Threads;
@@ -48,11 +50,7 @@ pub fn watch<R: Threads + Wait + Timer + Sync, O: Sink, C: Clock, G: Gate>(
     ensures { Watches O.Sink asked output.old output.new result.rows.items result.seat result.marks result.end }
 {
     let Asked { plan, config } = asked;
-    let run = match Counts::new(alloc) {
-        Ok(counts) => run_watch(rt, alloc, &plan, config, counts, clock, gate),
-        Err(AllocError) => Err(AllocError),
-    };
-    match run {
+    match counted(rt, alloc, &plan, config, clock, gate) {
         Ok(run) => {
             let WatchEnd {
                 rows,
@@ -79,6 +77,23 @@ pub fn watch<R: Threads + Wait + Timer + Sync, O: Sink, C: Clock, G: Gate>(
             seat: None,
         },
     }
+}
+
+// Runs the sample program, and counts what one session gets of it.
+fn counted<R: Threads + Wait + Timer + Sync, C: Clock, G: Gate>(
+    rt: &R,
+    alloc: Global,
+    plan: &Plan,
+    config: Config,
+    clock: &C,
+    gate: &G,
+) -> Result<WatchEnd<Counts>, AllocError>
+    requires plan { FitsPlan plan.now }
+    requires config { IsTrue (is_valid_config config) }
+    ensures { IfOk result (WatchedFrom StandsFor IsNothing plan.now config) }
+{
+    let counts = Counts::new(alloc)?;
+    run_watch(rt, alloc, plan, config, counts, clock, gate)
 }
 
 // Writes what was heard, and says how the command ends.

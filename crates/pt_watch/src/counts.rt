@@ -34,8 +34,9 @@ impl Callback for Counts {
     ghost has_heard = { StandsFor };
 
     fn heard(&mut self, _alloc: Global, event: &Heard<'_>) -> Result<(), AllocError> {
-        if let Some(count) = self.counts.get_mut(event.event as usize) {
-            *count = count.saturating_add(1);
+        let place = event.event as usize;
+        if place < self.counts.len() {
+            self.counts[place] = self.counts[place].saturating_add(1);
         }
         Ok(())
     }

@@ -27,6 +27,7 @@ pub struct Kit<'w, 'g, P: SampleRun> {
 }
 
 impl<'w, 'g, P: SampleRun> Kit<'w, 'g, P> {
+    /// Of a run over these rows. It takes the memory for all that its threads need.
     pub fn new<R, C, G>(
         alloc: Global,
         around: &Around<'_, P, R, C, G>,

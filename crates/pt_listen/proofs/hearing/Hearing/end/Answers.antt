@@ -1,9 +1,9 @@
-use Rattle.std.proofs.Common.{◌≡◌, ◌∙◌, ℕ, ◌+◌, ◌-◌, ◌<◌, ◌≤◌, inl, inr, None, sym, ap, subst, arith}
+use Rattle.std.proofs.Common.{◌≡◌, ◌∙◌, ℕ, ◌+◌, ◌-◌, ◌<◌, ◌≤◌, sym, ap, subst, arith}
 use Rattle.ep_slot.specs.Hand.{HandState}
 use Rattle.ep_stream.specs.Hands.{hand_at}
 use Rattle.pt_listen.specs.state.Hearing.{IsHearing}
-use Rattle.pt_listen.proofs.Hearing.{hearing-ends}
-use Rattle.pt_listen.proofs.Rows.{hand-past, none-expected, none-out}
+use Rattle.pt_listen.proofs.Hearing.{hearing-ended, hearing-ends, none-left}
+use Rattle.pt_listen.proofs.Rows.{none-expected, none-out}
 use Rattle.pt_listen.proofs.hearing.Hearing.end.Goals as goal
 
 pub loop-place-init : goal.loop-place-init
@@ -27,3 +27,13 @@ leave_row-requires g c =
 pub loop-place-preserved : goal.loop-place-preserved
 loop-place-preserved g c =
     record { hearing = c.leave_row.ensures.hearing; stands = c.leave_row.ensures.stands ∙ c.loop-place.invariant.stands }
+
+pub end-requires : goal.end-requires
+end-requires g c =
+    let inv = c.loop-place.invariant.hearing in
+    let all : g.P.Program.rows ≤ c.loop-place.place = omega (arith, c.loop-place-test.false, c.threads-place-end.ensures, c.args.self.hearing.rows.rows) in
+    let none = none-left g.K.Callback.has_heard g.P.Program.rows g.P.Program.events g.P.Program.writes g.P.WatchRun.config g.P.WatchRun.at_first c.args.writes c.loop-place.place c.args.self.slot c.loop-place.rows c.loop-place.hands.items c.loop-place.listener all inv in
+    record {
+      closed = none-expected g.P.Program.rows c.args.self.slot g.P.WatchRun.config c.loop-place.rows c.loop-place.hands.items inv.rows none;
+      given = none-out g.P.Program.rows c.args.self.slot g.P.WatchRun.config c.loop-place.rows c.loop-place.hands.items inv.rows;
+    }
