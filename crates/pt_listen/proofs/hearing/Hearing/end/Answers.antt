@@ -1,4 +1,6 @@
 use Rattle.std.proofs.Common.{◌≡◌, ◌∙◌, ℕ, ◌+◌, ◌-◌, ◌<◌, ◌≤◌, sym, ap, subst, arith}
+use Rattle.ep_guarded.specs.declared.grant.Grant.{Grant}
+use Rattle.ep_pool.specs.Shared.{SeatState}
 use Rattle.ep_slot.specs.Hand.{HandState}
 use Rattle.ep_stream.specs.Hands.{hand_at}
 use Rattle.pt_listen.specs.state.Hearing.{IsHearing}
@@ -37,3 +39,14 @@ end-requires g c =
       closed = none-expected g.P.Program.rows c.args.self.slot g.P.WatchRun.config c.loop-place.rows c.loop-place.hands.items inv.rows none;
       given = none-out g.P.Program.rows c.args.self.slot g.P.WatchRun.config c.loop-place.rows c.loop-place.hands.items inv.rows;
     }
+
+pub returns : goal.returns
+returns g c =
+    let inv = c.loop-place.invariant.hearing in
+    let all : c.loop-place.place ≡ g.P.Program.rows = omega (arith, c.loop-place-test.false, c.loop-place.auto, c.threads-place-end.ensures, c.args.self.hearing.rows.rows) in
+    hearing-ended g.K.Callback.has_heard g.P.Program.rows g.P.Program.events g.P.Program.writes g.P.WatchRun.config g.P.WatchRun.at_first c.args.writes c.loop-place.place c.args.self.slot c.loop-place.rows c.loop-place.hands.items c.loop-place.listener
+    c.end-2.result.callback c.end-2.result.marks c.end-2.result.failed c.into_seat-seat.result
+    all inv c.end-2.ensures.callback c.end-2.ensures.marks c.end-2.ensures.failed
+    c.into_seat-seat.ensures.shares c.into_seat-seat.ensures.back
+    (c.into_seat-seat.ensures.chunks ∙ ap (λ (grant : Grant). grant.config.chunks) c.end.ensures.ended.1.0)
+    (ap (λ (seat : SeatState). seat.dry) (c.into_seat-seat.ensures.seat ∙ c.end.ensures.ended.1.1))
