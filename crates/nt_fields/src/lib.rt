@@ -2,8 +2,7 @@
 //!
 //! `kind` has what a field of each type code holds, `value` the values, and `take` takes the value at the front of some
 //! bytes. It stands on pt_num, for numbers and texts, and on ep_defs, for the fields. Which values stand in a payload, or
-//! that it does not fit its fields, is `specs/Values`; `specs/Payload` has the bytes of each value, and the laws of `laws`
-//! join the two.
+//! that it does not fit its fields, is `specs/Values`; what a field of each type code holds is `specs/Kinds`.
 //!
 //! Its one contract: what is taken is the value at the front of the bytes, and none is taken where none stands there.
 //!
