@@ -4,6 +4,8 @@ use ep_plan::{Line, LineFault, print_step, read_line};
 use std::alloc::{AllocError, Global};
 use std::test::Fail;
 
+mod auto;
+
 // How a line prints that was read, or its column and kind.
 fn told(
     alloc: Global,

@@ -6,5 +6,6 @@ mod program;
 mod replayed;
 mod reported_items;
 mod reported_streams;
+mod texts;
 mod trace_words;
 mod words;

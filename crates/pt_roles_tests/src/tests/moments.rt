@@ -37,18 +37,49 @@ fn threads_do_not_wait_for_one_another(rt: HostRuntime) -> Result<(), Fail> {
             ],
             "rows [1-1 40000]\nsession 1 of 1: program [1-1 0..40000 20000+0]\nsession 2 of 2: program [1-1 0..40000 5000+0]\nsession 3 of 3: program [1-1 0..40000 12288+2712]",
         ),
-        // The 65th session finds no slot.
+        // The 65th session finds no slot. Each of the others has a place on both rows.
         (
-            runs(1, 10, 64),
+            runs(2, 8, 64),
             &[jobs; 65],
             &[until(wrote(1, 0), answered(65))],
-            "rows [1-1 10]\nsession 1 of 1: program [1-1 0..10 1+0]*\nsession 64 of 64: program [1-1 0..10 1+0]\nconnection 65: error 80004005 24 bytes",
+            "rows [1-2 8]\nsession 1 of 1: program [1-2 0..8 1+0]*\nsession 64 of 64: program [1-2 0..8 1+0]\nconnection 65: error 80004005 24 bytes",
         ),
     ];
     for (asked, peers, holds, want) in &cases {
         let told = run(&rt, rt.alloc(), *asked, peers, holds)?;
         assert!(rt; told.says(want), "{}", told.text());
     }
+    Ok(())
+}
+
+// The role of one of three sessions takes nothing until four threads have written all, which its 16 chunks have no room for.
+// What the others get is not less for it.
+#[test]
+fn one_of_three_sessions_is_spent_by_four_threads(rt: HostRuntime) -> Result<(), Fail> {
+    let peers = [
+        sound(Request::Most),
+        sound(Request::Jobs),
+        sound(Request::Web),
+    ];
+    let holds = [
+        until(begun(1, 0), swept(3, 0)),
+        until(begun(2, 0), swept(3, 0)),
+        until(begun(3, 0), swept(3, 0)),
+        until(begun(4, 0), swept(3, 0)),
+        until(swept(3, 0), wrote(1, 9_999)),
+        until(swept(3, 0), wrote(2, 9_999)),
+        until(swept(3, 0), wrote(3, 9_999)),
+        until(swept(3, 0), wrote(4, 9_999)),
+    ];
+    let told = run(&rt, rt.alloc(), runs(4, 10_000, 3), &peers, &holds)?;
+    let both =
+        "rows [1-4 10000]\nsession 1 of 1: program [1-4 0..10000 5000+0]\nsession 2 of 2: program [1-4 0..10000 1250+0]\nsession 3 of 3: program [*]";
+    assert!(rt; told.says(both), "{}", told.text());
+    let spent = match told.totals.get(2) {
+        Some((taken, refused)) => taken.checked_add(*refused) == Some(15_000) && *refused >= 2_712,
+        None => false,
+    };
+    assert!(rt; spent);
     Ok(())
 }
 

@@ -4,7 +4,7 @@ use super::peers::{Peer, links_of};
 use super::text::text_of;
 use super::watched::WatchedDock;
 use ep_defs::limits::{SESSIONS, THREADS, WRITES};
-use ep_defs::{Facts, Items, standard_info};
+use ep_defs::{Facts, Items, Marks, standard_info};
 use pt_io::{MemDock, StepClock};
 use pt_load::Plan;
 use pt_roles::{LIVES, LiveOptions, run_live};
@@ -50,6 +50,8 @@ pub(super) fn lives(threads: u32, writes: u32, wait: u32, lives: u32) -> Asked {
 pub(super) struct Told {
     text: String,
     pub(super) taken: Vec<Vec<u8>>,
+    /// How many writes each session has in all, and how many were refused.
+    pub(super) totals: Vec<(u64, u64)>,
 }
 
 impl Told {
@@ -99,12 +101,27 @@ pub(super) fn run<R: Threads + Wait + Timer + Sync>(
     let clock = StepClock::new(100);
     let end = run_live(rt, alloc, &plan, &options, &facts, &mut dock, &clock, &gate)?;
     let mut taken = Vec::new(alloc);
+    let mut totals = Vec::new(alloc);
     for session in &end.sessions {
         taken.push(session.link.taken().to_vec(alloc)?)?;
+        totals.push(total_of(session.marks.as_slice()))?;
     }
     let mut text = text_of(alloc, &end)?;
     if !gate.have_met() {
         text.push_str("\nsomebody waited in vain")?;
     }
-    Ok(Told { text, taken })
+    Ok(Told {
+        text,
+        taken,
+        totals,
+    })
+}
+
+fn total_of(marks: &[Marks]) -> (u64, u64) {
+    let mut total = (0u64, 0u64);
+    for mark in marks {
+        total.0 = total.0.saturating_add(u64::from(mark.taken));
+        total.1 = total.1.saturating_add(u64::from(mark.refused));
+    }
+    total
 }

@@ -8,9 +8,8 @@ ghost use Rattle.ep_guarded.specs.Granted.{IsGrantFor};
 ghost use Rattle.ep_guarded.specs.Tied.{left_in};
 ghost use Rattle.ep_live.specs.Made.{AreStands};
 ghost use Rattle.pt_stream.specs.State.{first_seat};
-ghost use Rattle.pt_stream.specs.Tests.{IsProgram, IsThread};
+ghost use Rattle.pt_stream_tests.specs.Tests.{IsProgram, IsThread};
 
-use crate::{Accepted, Run, Stream};
 use ep_defs::{
     Config, EventDef, Items, MarkList, Marks, Rule, TraceInfo, Units, Write, standard_info,
 };
@@ -21,6 +20,7 @@ use ep_stream::Fate;
 use ep_tie::{Blank, Right};
 use nt_write::Fault;
 use pt_io::{MemSink, Moment, OpenGate, Sink};
+use pt_stream::{Accepted, Run, Stream};
 use std::alloc::{AllocError, Global};
 use std::marker::Brand;
 use std::process::Abort;

@@ -9,7 +9,7 @@ use Rattle.ep_defs.specs.declared.session.Write.{Write}
 use Rattle.ep_defs.specs.Definitions.{definition_at}
 use Rattle.ep_defs.specs.Event.{is_valid_event}
 use Rattle.ep_defs.specs.Session.{fits}
-use Rattle.pt_stream.specs.Tests.{IsProgram}
+use Rattle.pt_stream_tests.specs.Tests.{IsProgram}
 
 one-of : (events : List EventDef) → length events ≡ 1 → (i : ℕ) (def : EventDef) → definition_at events i ≡ Some def → i ≡ 1
 one-of [] one i def is = absurd (omega (arith, one))

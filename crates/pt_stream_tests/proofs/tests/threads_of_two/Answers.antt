@@ -4,8 +4,8 @@ use Rattle.std.specs.Prelude.{is_some}
 use Rattle.ep_tie.specs.Tied.{Tied}
 use Rattle.ep_guarded.specs.declared.agreed.Agreed.{Agreed}
 use Rattle.ep_live.specs.Made.{AreStands, IsStand}
-use Rattle.pt_stream.specs.Tests.{IsThread}
-use Rattle.pt_stream.proofs.tests.threads_of_two.Goals as goal
+use Rattle.pt_stream_tests.specs.Tests.{IsThread}
+use Rattle.pt_stream_tests.proofs.tests.threads_of_two.Goals as goal
 
 stands-there : (number : ℕ) (half : Tied Agreed) → IsStand 0 number half → IsThread number half
 stands-there number half s = record { place = s.place; here = ap is_some s.stands }

@@ -1,6 +1,6 @@
 //! Messages of the protocol as they stand on a connection.
 
-use crate::{Framed, put_message, take_message};
+use ipc_frame::{Framed, put_message, take_message};
 use std::test::Fail;
 
 // The request for a process's description, of 20 bytes.

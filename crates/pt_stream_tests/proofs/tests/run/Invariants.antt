@@ -1,5 +1,5 @@
 use Rattle.std.specs.Prelude.{◌++◌, replicate}
-use Rattle.pt_stream.proofs.tests.run.Given as goal
+use Rattle.pt_stream_tests.proofs.tests.run.Given as goal
 
 -- the ties that were just made
 abbrev pub ghosts-middle-P-Named : goal.ghosts-middle-P-Named

@@ -1,5 +1,5 @@
-use Rattle.pt_stream.specs.Tests.{IsThread}
-use Rattle.pt_stream.proofs.tests.Scene.writes.Given as goal
+use Rattle.pt_stream_tests.specs.Tests.{IsThread}
+use Rattle.pt_stream_tests.proofs.tests.Scene.writes.Given as goal
 
 -- its thread is there
 abbrev pub invariant-loop-turn : goal.invariant-loop-turn

@@ -1,4 +1,5 @@
-use crate::{Lack, receive};
+//! One message of a link, in pieces of any length.
+use ipc_take::{Lack, receive};
 use pt_io::{MemLink, MemSink, MemSource, Source};
 use std::alloc::{AllocError, Global};
 use std::test::Fail;

@@ -1,9 +1,9 @@
 //! The answers to requests as they stand on a connection, byte by byte.
 
-use crate::codes::{BAD_ENCODING, REFUSED, UNKNOWN_COMMAND, UNKNOWN_MAGIC};
-use crate::{Action, decide};
 use ep_defs::{Facts, Items, Units, standard_info};
 use ep_table::{StopTicket, Table};
+use ipc_serve::codes::{BAD_ENCODING, REFUSED, UNKNOWN_COMMAND, UNKNOWN_MAGIC};
+use ipc_serve::{Action, decide};
 use std::alloc::{AllocError, Global};
 use std::test::Fail;
 

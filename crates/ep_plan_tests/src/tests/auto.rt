@@ -1,4 +1,5 @@
-use crate::{AutoFault, AutoKind, a_text_is_good_or_bad, read_auto};
+//! Start-up texts, good and bad.
+use ep_auto::{AutoFault, AutoKind, a_text_is_good_or_bad, read_auto};
 use ep_defs::limits::CHUNKS;
 use ep_defs::{Config, Items, Rule};
 use std::alloc::{AllocError, Global};

@@ -1,4 +1,5 @@
-use crate::{one_text, run_texts, session_text, several_texts, trace_texts, two_texts};
+//! The words after a command's name as texts.
+use pt_words::{one_text, run_texts, session_text, several_texts, trace_texts, two_texts};
 use std::alloc::Global;
 use std::test::Fail;
 
