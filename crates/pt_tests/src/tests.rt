@@ -6,6 +6,8 @@ mod program;
 mod replayed;
 mod reported_items;
 mod reported_streams;
+mod run_lines;
+mod run_words;
 mod texts;
 mod trace_words;
 mod words;

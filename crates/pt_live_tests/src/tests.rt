@@ -1,10 +1,10 @@
 //! Runs with threads.
-use crate::{TraceEnd, run_trace};
 use ep_defs::limits::{THREADS, WRITES};
 use ep_defs::{Config, ItemKind, Items, Marks, Rule, standard_info};
 use ep_stream::Fate;
 use nt_read::TraceReader;
 use pt_io::{Gate, MemSink, Moment, OpenGate, StepClock};
+use pt_live::{TraceEnd, run_trace};
 use pt_load::{JOBS, Plan, STORE, WEB, units};
 use std::alloc::{AllocError, Global};
 use std::process::Abort;

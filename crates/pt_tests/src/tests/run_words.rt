@@ -1,4 +1,5 @@
-use crate::asked_of;
+//! The words of a run.
+use pt_run::asked_of;
 use std::alloc::Global;
 use std::test::Fail;
 
