@@ -12,7 +12,7 @@
 # All of it takes some minutes. Nothing is waited for longer than a minute, or ten under callgrind, and all that was started
 # is ended with it. It needs python3, and valgrind (a Debian package) for the instructions.
 #
-# TRACEPIPE names another build of the program.
+# TRACEPIPE names another build of the program, and SECONDS_AT_MOST another limit than a minute, for a busy machine.
 here=$(cd "$(dirname "$0")/.." && pwd) || exit 1
 if [ -z "$TRACEPIPE" ]; then
     "$here/tracepipe" gen 0 1 >/dev/null || exit 1
@@ -21,115 +21,18 @@ fi
 work=$(mktemp -d) || exit 1
 trap 'rm -rf "$work"' EXIT
 trap 'exit 143' TERM HUP
+export PYTHONPATH="$here/bench" PYTHONDONTWRITEBYTECODE=1
 python3 - "$TRACEPIPE" "$work" <<'MEASURE'
-import atexit, os, re, resource, shutil, signal, socket, struct, subprocess, sys, time
+import os, re, shutil, signal, subprocess, time
 
-program, work = sys.argv[1], sys.argv[2]
-ALL = [f"Sample-{name}:ffffffffffffffff:5" for name in ("Web", "Store", "Jobs")]
+from peers import (
+    ALL, INFO_REQUEST, LIMIT, OK, WEB, Run, ask, client, collect_request, connected, ended, marks_in, program, read, sessions_in,
+    start, stop_request, threads_in, until, wanted, work,
+)
+
 SOME = ["Sample-Jobs:4:3"]
 ENDLESS = 4_000_000_000  # writes of a thread, some minutes at least
-LIMIT = 60  # seconds that anything may take
 MEMORY = 8 << 30  # bytes of addresses, where a run is held to some
-
-started = []
-
-
-def start(words, **more):
-    started.append(subprocess.Popen(words, **more))
-    return started[-1]
-
-
-@atexit.register
-def end_all():
-    for process in started:
-        if process.poll() is None:
-            process.kill()
-            process.wait()
-
-
-signal.signal(signal.SIGTERM, lambda *_: sys.exit(143))
-
-
-def wanted(what, is_so):
-    if not is_so:
-        sys.exit(f"wrong: {what}")
-
-
-def until(what, is_so):
-    """Waits until it is so."""
-    last = time.monotonic() + LIMIT
-    while not is_so():
-        wanted(f"{what}, within {LIMIT} seconds", time.monotonic() < last)
-        time.sleep(0.001)
-
-
-def ended(process, what, limit=LIMIT):
-    """The status of a process, once it has ended."""
-    try:
-        return process.wait(timeout=limit)
-    except subprocess.TimeoutExpired:
-        wanted(f"{what} ends within {limit} seconds", False)
-
-
-def read(path):
-    with open(path) as it:
-        return it.read()
-
-
-class Run:
-    """The program at `run`, and the path of its socket. What it says goes to files, so that nobody has to read it."""
-
-    count = 0
-
-    def __init__(self, *words, before=(), limit=None):
-        Run.count += 1
-        self.output, self.errors = (f"{work}/run-{Run.count}.{kind}" for kind in ("out", "err"))
-        held = (lambda: resource.setrlimit(resource.RLIMIT_AS, (limit, limit))) if limit else None
-        with open(self.output, "wb") as output, open(self.errors, "wb") as errors:
-            self.process = start(
-                [*before, program, "run", *map(str, words)],
-                env={**os.environ, "TMPDIR": work},
-                stdout=output,
-                stderr=errors,
-                preexec_fn=held,
-            )
-        until("run listens or ends", lambda: self.listens() or self.process.poll() is not None)
-        wanted(f"run listens: {read(self.errors)}", self.listens())
-        self.path = self.listens()[1]
-
-    def listens(self):
-        return re.search(r"^listening at (.+)\n", read(self.errors), re.M)
-
-    def end(self):
-        """Its summary as lists of words, once it has ended by itself."""
-        status = ended(self.process, "run")
-        wanted(f"run ends well, and not with {status}: {read(self.errors)}", status == 0)
-        wanted("its socket's file is gone", not os.path.exists(self.path))
-        return [line.split() for line in read(self.output).splitlines()]
-
-    def kill(self, by=signal.SIGKILL):
-        """Ends it by a signal, which leaves the file."""
-        self.process.send_signal(by)
-        ended(self.process, "run after a signal")
-        os.remove(self.path)
-
-    def spent(self):
-        """The processor time of each of its threads, in seconds."""
-        found = {}
-        try:
-            for thread in os.listdir(f"/proc/{self.process.pid}/task"):
-                found[thread] = int(read(f"/proc/{self.process.pid}/task/{thread}/schedstat").split()[0]) / 1e9
-        except OSError:
-            pass  # It has ended meanwhile.
-        return found
-
-    def memory(self):
-        """The megabytes that it has in memory."""
-        return int(re.search(r"VmRSS:\s+(\d+)", read(f"/proc/{self.process.pid}/status"))[1]) / 1024
-
-
-def client(*words):
-    return subprocess.run([program, *map(str, words)], capture_output=True, text=True, timeout=LIMIT)
 
 
 def collect(run, megabytes, rules, to):
@@ -150,18 +53,7 @@ def reported(path):
     with open(path, "rb") as stream:
         report = subprocess.run([program, "report"], stdin=stream, capture_output=True, text=True, timeout=LIMIT)
     wanted(f"{path} is a whole stream: {report.stdout}", report.returncode == 0)
-    return {line.split()[1]: line.split()[2:] for line in report.stdout.splitlines() if line.startswith("thread")}
-
-
-def sessions_in(summary):
-    """Of each session, by id: how many events it wrote, how many were refused, and why it ended."""
-    return {line[1]: line[2:] for line in summary if line[0] == "session"}
-
-
-def marks_in(summary, session):
-    """What a report is to count of each thread of a session."""
-    marks = [line[2:] for line in summary if line[:2] == ["mark", session]]
-    return {thread: [taken, str(int(taken) + int(refused)), refused] for thread, _, _, taken, refused in marks}
+    return threads_in(report.stdout)
 
 
 def whole():
@@ -201,42 +93,12 @@ def signals():
     print("a signal ends it and leaves its file, and connecting there is refused")
 
 
-def connected(run):
-    link = socket.socket(socket.AF_UNIX)
-    link.settimeout(LIMIT)
-    link.connect(run.path)
-    return link
-
-
-def ask(run, message):
-    """The first bytes of the reply to a message, and how many seconds they took."""
-    at = time.monotonic()
-    with connected(run) as link:
-        link.sendall(message)
-        reply = link.recv(4096)
-    return reply, time.monotonic() - at
-
-
-def message(commands, command, body=b""):
-    return b"DOTNET_IPC_V1\0" + struct.pack("<HBBH", 20 + len(body), commands, command, 0) + body
-
-
-def text(word):
-    return struct.pack("<I", len(word) + 1) + (word + "\0").encode("utf-16le")
-
-
-def request(megabytes):
-    """A collect request for all events of one provider."""
-    provider = struct.pack("<QI", 2**64 - 1, 5) + text("Sample-Web") + struct.pack("<I", 0)
-    return message(2, 3, struct.pack("<IIBI", megabytes, 1, 0, 1) + provider)
-
-
 def asked():
     """How fast a request is answered while threads write."""
     run = Run(4, ENDLESS)
     collect(run, 64, ALL, os.devnull)
     until("threads write", lambda: sum(run.spent().values()) > 0.5)
-    times = sorted(ask(run, message(4, 0))[1] for _ in range(400))
+    times = sorted(ask(run, INFO_REQUEST)[1] for _ in range(400))
     print(
         f"`ps` beside 4 writing threads: {len(times) / sum(times):,.0f} connections a second, median {times[200] * 1e6:.0f} us,"
         f" most {times[-1] * 1e6:.0f} us"
@@ -250,11 +112,11 @@ def stopped():
     for _ in range(20):
         run = Run(4, ENDLESS)
         with connected(run) as link:
-            link.sendall(request(64))
+            link.sendall(collect_request(64, WEB))
             wanted("a session begins", link.recv(28) and link.recv(65536))
             at = time.monotonic()
-            reply, _ = ask(run, message(2, 1, struct.pack("<Q", 1)))
-            wanted("the stop is granted", reply[16:18] == b"\xff\0")
+            reply, _ = ask(run, stop_request(1))
+            wanted("the stop is granted", reply[16:18] == OK)
             while link.recv(65536):
                 pass
             latest.append(time.monotonic() - at)
@@ -267,7 +129,7 @@ def slow():
     """A client that never reads is given up; the other one's stream is whole."""
     run = Run(2, 1_000_000, "--wait", 2)
     with connected(run) as link:
-        link.sendall(request(1))
+        link.sendall(collect_request(1, WEB))
         process = collect(run, 256, ALL, f"{work}/stream")
         summary = run.end()
     wanted("the other client ends well", ended(process, "a collect") == 0)

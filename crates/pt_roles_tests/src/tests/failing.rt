@@ -1,7 +1,28 @@
 //! Asked of which a link or the dock fails.
 use super::peers::{Peer, Request, deaf, sound, unheard};
 use super::scene::{Asked, lives, run, runs};
+use nt_read::{ReadFault, ReadKind, TraceReader};
+use std::alloc::Global;
 use std::test::Fail;
+
+// Whether what a session's link has taken behind the reply of 28 bytes is a first part of a stream.
+fn is_part(alloc: Global, taken: &[u8]) -> bool {
+    let Some(stream) = taken.get(28..) else {
+        return false;
+    };
+    let mut reader = TraceReader::new(alloc);
+    let mut items = Vec::new(alloc);
+    let fed = reader.feed(stream, &mut items);
+    let end = reader.finish();
+    fed.is_ok()
+        && matches!(
+            end,
+            Err(ReadFault::Bad {
+                kind: ReadKind::Truncated,
+                ..
+            })
+        )
+}
 
 // The first link fails at its read, at its reply, at the start of its stream, and behind that; another session gets all.
 #[test]
@@ -33,6 +54,11 @@ fn a_link_that_fails_ends_its_own_session(rt: HostRuntime) -> Result<(), Fail> {
         assert_eq!(rt; told.text(), *want);
         if *bytes > 0 {
             assert_eq!(rt; told.taken.first().map(|taken| taken.len()), Some(*bytes));
+            assert!(rt;
+                told.taken
+                    .first()
+                    .is_some_and(|taken| is_part(rt.alloc(), taken))
+            );
         }
     }
     Ok(())
@@ -56,6 +82,11 @@ fn each_write_of_a_link_fails_in_turn(rt: HostRuntime) -> Result<(), Fail> {
             if !told.text().contains("session 1 of 1: link\n") {
                 break;
             }
+            assert!(rt;
+                told.taken
+                    .first()
+                    .is_some_and(|taken| is_part(rt.alloc(), taken))
+            );
             failing += 1;
         }
         assert!(rt; 4 < failing && failing < 1_000);

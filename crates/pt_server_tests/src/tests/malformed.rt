@@ -65,3 +65,10 @@ fn each_finding_has_its_code(rt: HostRuntime) -> Result<(), Fail> {
     }
     Ok(())
 }
+
+#[test]
+fn a_question_of_the_process_has_no_body(rt: HostRuntime) -> Result<(), Fail> {
+    let asked = b"DOTNET_IPC_V1\0\x15\0\x04\0\0\0\0";
+    assert_eq!(rt; code(rt.alloc(), asked)?, BAD_ENCODING);
+    Ok(())
+}

@@ -1,4 +1,8 @@
 //! The program with everything around it in memory.
+ghost use Rattle.std.specs.Prelude.{IfOk};
+ghost use Rattle.std.specs.List.{All};
+ghost use Rattle.pt_io.specs.Memory.{IsUnused};
+
 use ep_defs::{Facts, Items, Marks, standard_info};
 use pt_cli::tracepipe;
 use pt_command::status;
@@ -56,7 +60,9 @@ fn facts(alloc: Global) -> Facts {
 }
 
 // A link that gives these bytes and takes all.
-fn link_of(alloc: Global, bytes: Vec<u8>) -> MemLink {
+fn link_of(alloc: Global, bytes: Vec<u8>) -> MemLink
+    ensures { IsUnused result }
+{
     MemLink::new(
         MemSource::new(bytes, 4_096, Vec::new(alloc)),
         MemSink::new(Vec::new(alloc)),
@@ -366,9 +372,30 @@ mark          2          4          0      10000       1250          0
 connections          2
 ";
 
-#[test]
-fn a_run_of_two_sessions_tells_of_both(rt: HostRuntime) -> Result<(), Fail> {
-    let alloc = rt.alloc();
+// The lines of a run whose rows have three threads each, one after another.
+const LIVES_LINES: &str = "run          2         80
+session          1        240          0 end
+mark          1          1          0         80         40          0
+mark          1          2          0         80         40          0
+mark          1          3          0         80         40          0
+mark          1          4          0         80         40          0
+mark          1          5          0         80         40          0
+mark          1          6          0         80         40          0
+connections          1
+";
+
+// The lines of a run to whose second session the dock has failed.
+const ONE_LINES: &str = "run          2         80
+session          1         80          0 end
+mark          1          1          0         80         40          0
+mark          1          2          0         80         40          0
+connections          1
+";
+
+// The links of two peers, each of which asks for a session: one that gets every second write, one that gets every eighth.
+fn two_links(alloc: Global) -> Result<VecDeque<MemLink>, Fail>
+    ensures { IfOk result (λ links. All IsUnused links.items) }
+{
     let first = [
         ("Sample-Web", u64::MAX, 5),
         ("Sample-Store", 1, 4),
@@ -378,25 +405,64 @@ fn a_run_of_two_sessions_tells_of_both(rt: HostRuntime) -> Result<(), Fail> {
     links.push_back(link_of(alloc, request(alloc, 256, &first)?))?;
     let second = request(alloc, 1, &[("Sample-Jobs", 4, 3)])?;
     links.push_back(link_of(alloc, second))?;
+    Ok(links)
+}
+
+// A run to whose dock these links come, and a call of its and a write of the output that fail, none where they are 0.
+fn serve<R: Threads + Wait + time::Clock + Sync>(
+    rt: &R,
+    alloc: Global,
+    words: &str,
+    links: VecDeque<MemLink>,
+    call: u64,
+    write: u64,
+) -> Result<(u8, Vec<u8>), Fail>
+    requires { All IsUnused links.items }
+{
     let mut outside = Outside::new(alloc, b"not read")?;
-    outside.dock = MemDock::new(links, 0, Vec::new(alloc));
-    let end = run(&rt, alloc, "run 4 10000 --wait 2", &mut outside)?;
-    assert_eq!(rt; end.status, status::DONE);
-    assert_eq!(rt; outside.output.taken(), RUN_LINES.as_bytes());
-    Ok(())
+    outside.output = MemSink::partial([write].to_vec(alloc)?, 7);
+    outside.dock = MemDock::new(links, 0, [call].to_vec(alloc)?);
+    let end = run(rt, alloc, words, &mut outside)?;
+    Ok((end.status, outside.output.taken().to_vec(alloc)?))
 }
 
 #[test]
-fn a_dock_that_fails_ends_a_run_with_its_status(rt: HostRuntime) -> Result<(), Fail> {
+fn a_run_tells_of_its_sessions(rt: HostRuntime) -> Result<(), Fail> {
     let alloc = rt.alloc();
-    for (failing, status) in [(1, status::LINK_FAULT), (2, status::DONE)] {
-        let mut outside = Outside::new(alloc, b"")?;
-        let fails = [failing].to_vec(alloc)?;
-        outside.dock = MemDock::new(VecDeque::new(alloc), 0, fails);
-        let end = run(&rt, alloc, "run 1 0", &mut outside)?;
-        assert_eq!(rt; end.status, status);
-        let want = b"run          1          0\nconnections          0\n".as_slice();
-        assert_eq!(rt; outside.output.taken(), want);
+    for (words, text) in [
+        ("run 4 10000 --wait 2", RUN_LINES),
+        ("run 2 80 --wait 1 --lives 3", LIVES_LINES),
+    ] {
+        let mut links = two_links(alloc)?;
+        if text == LIVES_LINES {
+            let _second = links.pop_back();
+        }
+        let (status, written) = serve(&rt, alloc, words, links, 0, 0)?;
+        assert_eq!(rt; status, status::DONE);
+        assert_eq!(rt; written.as_slice(), text.as_bytes());
+    }
+    Ok(())
+}
+
+// A dock that fails ends no session. Where the output fails too, that is told.
+#[test]
+fn a_run_ends_with_the_status_of_its_fault(rt: HostRuntime) -> Result<(), Fail> {
+    let alloc = rt.alloc();
+    for (call, write, want, text) in [
+        (2, 0, status::LINK_FAULT, ONE_LINES),
+        (2, 1, status::WRITE_FAULT, "run    "),
+        (0, 2, status::DONE, ""),
+    ] {
+        let links = two_links(alloc)?;
+        let (status, written) = serve(&rt, alloc, "run 2 80 --wait 2", links, call, write)?;
+        assert_eq!(rt; status, want);
+        assert!(rt; text.is_empty() || written.as_slice() == text.as_bytes());
+    }
+    let none = b"run          1          0\nconnections          0\n".as_slice();
+    for (call, want) in [(1, status::LINK_FAULT), (2, status::DONE)] {
+        let (status, written) = serve(&rt, alloc, "run 1 0", VecDeque::new(alloc), call, 0)?;
+        assert_eq!(rt; status, want);
+        assert_eq!(rt; written.as_slice(), none);
     }
     Ok(())
 }

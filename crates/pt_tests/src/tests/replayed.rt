@@ -430,3 +430,25 @@ fn a_failed_write_ends_the_run(rt: HostRuntime) -> Result<(), Fail> {
     }
     Ok(())
 }
+
+// However much of the failing write is taken.
+#[test]
+fn each_failed_write_leaves_a_part_of_the_stream(rt: HostRuntime) -> Result<(), Fail> {
+    let alloc = rt.alloc();
+    let whole = stream(alloc, &ONE_WRITTEN)?;
+    for keep in [0, 5, 400] {
+        let mut written = false;
+        for failing in 1..1_000u64 {
+            let output = MemSink::partial(vec![in alloc; failing]?, keep);
+            let run = run_over(alloc, 1, source(alloc, ONE_EVENT, 4096)?, output)?;
+            assert!(rt; whole.starts_with(&run.taken));
+            if run.status == status::DONE {
+                written = failing > 1 && run.taken.len() == whole.len();
+                break;
+            }
+            assert_eq!(rt; run.status, status::WRITE_FAULT);
+        }
+        assert!(rt; written);
+    }
+    Ok(())
+}

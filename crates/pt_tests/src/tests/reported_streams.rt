@@ -41,13 +41,16 @@ fn run_report(alloc: Global, bytes: &[u8], most: usize, read: u64, write: u64) -
     })
 }
 
-// Reports the stream with another byte in a place.
-fn run_changed(alloc: Global, place: usize, byte: u8) -> Result<Run, Fail> {
+// Reports the stream with another byte in a place, of which a read gives at most this many.
+fn run_changed(alloc: Global, place: usize, byte: u8, most: usize) -> Result<Run, Fail>
+    requires { 0 < most }
+{
     let mut bytes = STREAM.to_vec(alloc)?;
-    if let Some(old) = bytes.get_mut(place) {
-        *old = byte;
+    match bytes.get_mut(place) {
+        Some(old) => *old = byte,
+        None => bytes.push(byte)?,
     }
-    run_report(alloc, &bytes, 64, 0, 0)
+    run_report(alloc, &bytes, most, 0, 0)
 }
 
 #[test]
@@ -71,27 +74,50 @@ fn a_stream_that_is_cut_ends_too_early(rt: HostRuntime) -> Result<(), Fail> {
     Ok(())
 }
 
-// The first byte of all, the id in the event's header, and the size of the metadata block.
+// Another byte in a place, where that is found, and as what.
+const CHANGES: [(usize, u8, u64, &str); 25] = [
+    (0, b'n', 0, "BadMagic"),
+    (32, 6, 32, "BadObject"),
+    (32, 1, 32, "BadObject"),
+    (33, 4, 33, "BadObject"),
+    (43, 6, 33, "BadObject"),
+    (35, 5, 35, "BadVersion"),
+    (39, 5, 39, "BadVersion"),
+    (47, 88, 47, "BadObject"),
+    (101, 0, 101, "BadObject"),
+    (134, 1, 131, "TooLarge 16777275"),
+    (134, 2, 131, "TooLarge 33554491"),
+    (136, 19, 136, "BadBlock"),
+    (138, 0, 138, "Uncompressed"),
+    (159, 0, 159, "BadMeta"),
+    (191, 1, 159, "BadMeta"),
+    (248, 6, 248, "BadHead"),
+    (249, 5, 248, "UnknownMetadata 5"),
+    (254, 228, 248, "BadHead"),
+    (292, 2, 284, "BadBlock"),
+    (308, 5, 308, "BadObject"),
+    (309, 2, 309, "BadObject"),
+    (310, 7, 310, "BadObject"),
+    (310, 0, 310, "BadObject"),
+    (310, 5, 310, "BadObject"),
+    (310, 78, 310, "BadObject"),
+];
+
+// One of the places is behind the last byte.
 #[test]
 fn a_changed_byte_is_named_with_its_place(rt: HostRuntime) -> Result<(), Fail> {
-    let magic = run_changed(rt.alloc(), 0, b'n')?;
-    let id = run_changed(rt.alloc(), 249, 5)?;
-    let size = run_changed(rt.alloc(), 134, 2)?;
-    assert!(rt; magic.status == status::REFUSED && magic.at == 0);
-    assert_eq!(rt;
-        magic.written.as_slice(),
-        b"error: offset 0: BadMagic\n".as_slice()
-    );
-    assert!(rt; id.status == status::REFUSED && id.at == 248);
-    assert_eq!(rt;
-        id.written.as_slice(),
-        b"error: offset 248: UnknownMetadata 5\n".as_slice()
-    );
-    assert!(rt; size.status == status::REFUSED && size.at == 131);
-    assert_eq!(rt;
-        size.written.as_slice(),
-        b"error: offset 131: TooLarge 33554491\n".as_slice()
-    );
+    let alloc = rt.alloc();
+    for (place, byte, at, found) in CHANGES {
+        let want = format!(in alloc; "error: offset {at}: {found}\n")?;
+        for most in [1, 310] {
+            let refused = run_changed(alloc, place, byte, most)?;
+            assert!(rt; refused.status == status::REFUSED && refused.at == at);
+            assert_eq!(rt; refused.written.as_slice(), want.as_bytes());
+        }
+    }
+    // Bytes that pad a block's beginning may be any.
+    let padded = run_changed(alloc, 135, 255, 64)?;
+    assert_eq!(rt; padded.written.as_slice(), REPORT.as_bytes());
     Ok(())
 }
 
