@@ -2,9 +2,9 @@
 # Refuses each growth of the program's memory in turn, one growth a run, and checks how the run ends:
 #   - `replay` of one event, and of a budget that is spent, and `report` of the latter's stream end with 9, and what they have
 #     written begins what they write else
-#   - `run` with two threads and a budget of one megabyte, of whose sessions the first is stopped, ends with 9 and has answered
-#     nobody; or with 0: then each connection was answered, by the code for want of memory where it was for that; a session
-#     whose fate is not `memory` is whole for `report`, with the summary's numbers; and two more sessions were served later
+#   - `run` with two threads and budgets of one megabyte, of whose sessions the first is stopped, ends with 6 or 9 before it
+#     listens, and later with 9, or with 0: then one connection at most was refused for want of memory, or one session ended for
+#     it, each other one is whole for `report`, with the summary's numbers, and three are there, so later ones were served
 # A growth is a call of the C library's malloc or realloc, which is refused by a small library that stands before it: those
 # of the C library itself, for its threads, are among them. It prints how many growths there are, and how the runs ended.
 # It needs python3 and a C compiler.
@@ -165,18 +165,23 @@ def one_run(number):
     of = Served(number)
     if of.run.path is None:
         status = ended(of.run.process, "run")
-        wanted(f"a run that nobody was let into ends with 6 or 9, and not with {status}", status in (6, 9))
-        return {"nobody let in": 1}
+        wanted(f"growth {number}: a run that nobody was let into ends with 6 or 9, and not with {status}", status in (6, 9))
+        return {f"{status}, nobody let in": 1}
     of.serve()
     status = ended(of.run.process, "run")
     for reader in of.readers:
         reader.join()
     wanted(f"growth {number}: a run ends with 0 or 9, and not with {status}", status in (0, 9))
     if status == 9:
-        return {"9": 1}
+        return {"9, somebody let in": 1}
     told = sessions_in(of.run.summary())
     memory = 0
     for session, stream in of.streams.items():
+        if str(session) not in told:
+            # Memory was missing behind its reply, before its stream had begun.
+            wanted(f"growth {number}: session {session} is told, which got {len(stream)} bytes", not stream)
+            of.refused += 1
+            continue
         line = told[str(session)]
         if line[2] == "memory":
             memory += 1

@@ -11,16 +11,17 @@ use std::marker::Model;
 use std::net::Net;
 use std::os::fd::{AsFd, AsRawFd, OwnedFd};
 use std::os::unix::net::{SocketAddr, UnixListener, UnixStream};
-use std::time::Duration;
+use std::time::{Clock, Duration, Instant};
 use std::{fs, io};
 
 /// How long a turn waits for a peer, in milliseconds. Whoever asks the dock looks after other things between two turns,
 /// so a turn is short. It ends at once when a peer comes.
 const TURN_MILLISECONDS: u64 = 20;
 
-/// How long a peer may send nothing, or take nothing of what is sent to it, in seconds. A server reads one request after
-/// another, and a streaming role writes to one session after another, so others wait for such a peer, once. A tool sends
-/// its request at once and reads as fast as it can: on a busy machine, too, it needs far less than this.
+/// How long a peer may take to send its whole request, and how long it may take nothing of what is sent to it, in seconds. A
+/// server reads one request after another, and a streaming role writes to one session after another, so others wait for
+/// such a peer, once. A tool sends its request at once and reads as fast as it can: on a busy machine, too, it needs far
+/// less than this.
 const PATIENCE_SECONDS: u64 = 5;
 
 /// The mode of the socket's file: only its owner connects.
@@ -89,11 +90,11 @@ impl<R: Files + Drop> SocketDock<R> {
     }
 }
 
-impl<R: Files + Net + Eprint + Copy + Drop + Send> Dock for SocketDock<R> {
+impl<R: Files + Net + Eprint + Clock + Copy + Drop + Send> Dock for SocketDock<R> {
     ghost use Rattle.std.specs.Prelude.{[]};
     ghost use Rattle.tracepipe.specs.Sockets.{fresh_socket};
 
-    type Link = SocketLink;
+    type Link = SocketLink<R>;
 
     ghost greeting = { λ _. [] };
 
@@ -107,7 +108,7 @@ impl<R: Files + Net + Eprint + Copy + Drop + Send> Dock for SocketDock<R> {
 
     /// The next peer, or a quiet turn where none came for a while. It fails where it can't listen, where the system accepts
     /// nobody, as without a free descriptor, and where no more peers or quiet turns can be counted.
-    fn next(&mut self) -> Result<Arrival<SocketLink>, Failed>
+    fn next(&mut self) -> Result<Arrival<SocketLink<R>>, Failed>
         ensures fresh { IfLink result (λ link. link ≡ fresh_socket) }
 
         // What the trait says.
@@ -121,10 +122,11 @@ impl<R: Files + Net + Eprint + Copy + Drop + Send> Dock for SocketDock<R> {
         ensures closed { OnClosed result (IsTrue false) }
     {
         match next_stream(self.system, &mut self.path, &mut self.standing) {
-            Ok(stream) => {
+            Ok((stream, until)) => {
                 if let Some(arrivals) = self.arrivals.checked_add(1) {
                     self.arrivals = arrivals;
-                    return Ok(Arrival::Link(SocketLink::new(stream)));
+                    let link = SocketLink::new(stream, self.system, Some(until));
+                    return Ok(Arrival::Link(link));
                 }
             }
             Err(error) if error.kind() == ErrorKind::WouldBlock => {
@@ -140,12 +142,13 @@ impl<R: Files + Net + Eprint + Copy + Drop + Send> Dock for SocketDock<R> {
     }
 }
 
-// The stream of the next peer. It listens first where it doesn't yet, and is `WouldBlock` where nobody came.
-fn next_stream<R: Files + Net + Eprint + Copy + Drop>(
+// The stream of the next peer, and by when that is to have sent its request. It listens first where it doesn't yet, and is
+// `WouldBlock` where nobody came.
+fn next_stream<R: Files + Net + Eprint + Clock + Copy + Drop>(
     system: R,
     path: &mut Option<String>,
     standing: &mut Option<Standing<R>>,
-) -> io::Result<UnixStream> {
+) -> io::Result<(UnixStream, Instant)> {
     if let Some(path) = path.take() {
         *standing = Some(listening(system, path)?);
     }
@@ -153,17 +156,30 @@ fn next_stream<R: Files + Net + Eprint + Copy + Drop>(
         return Err(io::Error::from(ErrorKind::NotFound));
     };
     let (stream, _address) = standing.listener.accept()?;
-    let patience = Some(Duration::from_secs(PATIENCE_SECONDS));
-    stream.set_read_timeout(patience)?;
-    stream.set_write_timeout(patience)?;
-    Ok(stream)
+    let patience = Duration::from_secs(PATIENCE_SECONDS);
+    stream.set_write_timeout(Some(patience))?;
+    match Instant::now(&system)?.checked_add(patience) {
+        Some(until) => Ok((stream, until)),
+        None => Err(io::Error::from(ErrorKind::Other)),
+    }
 }
 
-// A socket that listens at the path. Its file has its mode before it has its name, so nobody else connects meanwhile.
+// A socket that listens at the path, and says so, or that it can't. Who can't read it still finds the socket by its name.
 fn listening<R: Files + Net + Eprint + Copy + Drop>(
     system: R,
     path: String,
 ) -> io::Result<Standing<R>> {
+    let told = path.clone()?;
+    let answer = standing_at(system, path);
+    let _told = match &answer {
+        Ok(_) => eprintln!(system; "listening at {told}"),
+        Err(_) => eprintln!(system; "nobody can come to {told}"),
+    };
+    answer
+}
+
+// A socket that listens at the path. Its file has its mode before it has its name, so nobody else connects meanwhile.
+fn standing_at<R: Files + Net + Copy + Drop>(system: R, path: String) -> io::Result<Standing<R>> {
     let address = SocketAddr::from_pathname(&path)?;
     let socket = system.unix_socket()?;
     check(libc::fchmod(socket.as_raw_fd(), OWNER_ONLY))?;
@@ -174,8 +190,6 @@ fn listening<R: Files + Net + Eprint + Copy + Drop>(
     };
     check(libc::net::listen(socket.as_raw_fd(), MOST_WAITING))?;
     let listener = waiting(socket)?;
-    // Who can't read it still finds the socket by its name.
-    let _told = eprintln!(system; "listening at {}", file.path);
     Ok(Standing { file, listener })
 }
 

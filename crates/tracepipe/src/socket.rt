@@ -7,20 +7,24 @@ use std::io::{ErrorKind, Read, Write};
 use std::marker::Model;
 use std::net::{Net, Shutdown};
 use std::os::unix::net::UnixStream;
+use std::time::{Clock, Instant};
 
 /// How many bytes a socket gives at most.
 const MOST: u64 = (1 << 63) - 1;
 
 /// A Unix stream socket as a link. It tells nothing of its bytes.
-#[derive(Debug, Drop)]
-pub struct SocketLink {
+#[derive(Drop)]
+pub struct SocketLink<C: Clock> {
     stream: UnixStream,
+    clock: C,
+    /// By when its peer has to have sent what is read, if it may not take its time.
+    until: Option<Instant>,
     may_give: u64,
     read_faults: u64,
     write_faults: u64,
 }
 
-impl Model for SocketLink {
+impl<C: Clock> Model for SocketLink<C> {
     ghost use Rattle.std.specs.Prelude.{◌<◌, ◌^◌};
     ghost use Rattle.tracepipe.specs.Sockets.{SocketState};
 
@@ -35,16 +39,18 @@ impl Model for SocketLink {
     ghost invariant = { λ s. s.may_give < 2 ^ 63 };
 }
 
-impl SocketLink {
+impl<C: Clock> SocketLink<C> {
     ghost use Rattle.std.specs.Prelude.{◌≡◌};
     ghost use Rattle.tracepipe.specs.Sockets.{fresh_socket};
 
-    /// A link over this socket, which has not failed.
-    pub(crate) fn new(stream: UnixStream) -> SocketLink
+    /// A link over this socket, which has not failed. Where a time is given, a read fails that has nothing to give by then.
+    pub(crate) fn new(stream: UnixStream, clock: C, until: Option<Instant>) -> SocketLink<C>
         ensures { result ≡ fresh_socket }
     {
         SocketLink {
             stream,
+            clock,
+            until,
             may_give: MOST,
             read_faults: 0,
             write_faults: 0,
@@ -52,7 +58,7 @@ impl SocketLink {
     }
 }
 
-impl Source for SocketLink {
+impl<C: Clock> Source for SocketLink<C> {
     ghost tells_given = { λ _. false };
 
     ghost given = { λ _. [] };
@@ -65,7 +71,8 @@ impl Source for SocketLink {
 
     ghost write_side = { λ s. record { tells = false; taken = []; faults = s.write_faults } };
 
-    /// Gives what the socket gives. It fails where the socket does, and where all that it may give was given.
+    /// Gives what the socket gives. It fails where the socket does, where the time has come by which something is to be
+    /// there, and where all that it may give was given.
     fn read(&mut self, buf: &mut [u8]) -> Result<usize, Failed>
         requires { 0 < length buf.old }
 
@@ -83,7 +90,8 @@ impl Source for SocketLink {
     {
         if self.may_give > 0 {
             let most = (buf.len() as u64).min(self.may_give) as usize;
-            if let Some(count) = read_once(&mut self.stream, &mut buf[..most]) {
+            let buf = &mut buf[..most];
+            if let Some(count) = read_once(&mut self.stream, &self.clock, self.until, buf) {
                 self.may_give -= count as u64;
                 return Ok(count);
             }
@@ -93,11 +101,22 @@ impl Source for SocketLink {
     }
 }
 
-// How many bytes one read gave, None where it failed. A read that a signal broke off, as after Ctrl-Z, is made again.
-fn read_once(stream: &mut UnixStream, buf: &mut [u8]) -> Option<usize>
+// How many bytes one read gave, None where it failed or the time has come. A read that a signal broke off, as after Ctrl-Z,
+// is made again.
+fn read_once<C: Clock>(
+    stream: &mut UnixStream,
+    clock: &C,
+    until: Option<Instant>,
+    buf: &mut [u8],
+) -> Option<usize>
     ensures { IfSome result (λ n. n ≤ length buf.old) }
 {
     for _ in 0..u64::MAX {
+        if let Some(until) = until {
+            // A socket has no time limit of no time: that is refused, as the read is to be.
+            let left = until.duration_since(Instant::now(clock).ok()?);
+            stream.set_read_timeout(Some(left)).ok()?;
+        }
         match stream.read(buf) {
             Ok(count) => return Some(count),
             Err(error) if error.kind() == ErrorKind::Interrupted => {}
@@ -107,7 +126,7 @@ fn read_once(stream: &mut UnixStream, buf: &mut [u8]) -> Option<usize>
     None
 }
 
-impl Sink for SocketLink {
+impl<C: Clock> Sink for SocketLink<C> {
     ghost tells_taken = { λ _. false };
 
     ghost taken = { λ _. [] };
@@ -140,7 +159,7 @@ impl Sink for SocketLink {
     }
 }
 
-impl Link for SocketLink {
+impl<C: Clock + Send> Link for SocketLink<C> {
     ghost use Rattle.std.specs.Prelude.{refl};
 
     /// Ends both directions of the socket. One that its peer has ended stays as it is.
@@ -186,10 +205,10 @@ impl<N: Net + Send> SocketCaller<N> {
     }
 }
 
-impl<N: Net + Send> Caller for SocketCaller<N> {
+impl<N: Net + Clock + Copy + Drop + Send> Caller for SocketCaller<N> {
     ghost use Rattle.tracepipe.specs.Sockets.{fresh_socket, MOST_LINKS};
 
-    type Link = SocketLink;
+    type Link = SocketLink<N>;
 
     ghost leads_to = { λ _ _. Unit {0} };
 
@@ -199,7 +218,7 @@ impl<N: Net + Send> Caller for SocketCaller<N> {
 
     /// Connects to the socket at a path. It fails where no socket listens there, where the path is no path of a socket,
     /// and where no more links can be counted.
-    fn call(&mut self, target: &str) -> Result<SocketLink, Failed>
+    fn call(&mut self, target: &str) -> Result<SocketLink<N>, Failed>
         ensures full { self.old.links ≡ MOST_LINKS → IsErr result }
         ensures fresh { IfOk result (λ link. link ≡ fresh_socket) }
 
@@ -213,7 +232,7 @@ impl<N: Net + Send> Caller for SocketCaller<N> {
         if let Some(links) = self.links.checked_add(1) {
             if let Ok(stream) = UnixStream::connect(&self.network, target) {
                 self.links = links;
-                return Ok(SocketLink::new(stream));
+                return Ok(SocketLink::new(stream, self.network, None));
             }
         }
         self.faults = self.faults.saturating_add(1);

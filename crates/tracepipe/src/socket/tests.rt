@@ -1,7 +1,8 @@
-use crate::socket::SocketCaller;
+use crate::socket::{SocketCaller, SocketLink};
 use pt_io::{Caller, Failed, Link, Sink, Source};
 use std::io::{Read, Write};
-use std::os::unix::net::UnixListener;
+use std::os::unix::net::{UnixListener, UnixStream};
+use std::time::{Duration, Instant};
 use std::{env, fs, io, process};
 
 #[test]
@@ -41,4 +42,19 @@ fn a_socket_is_called_gives_takes_and_goes_away(rt: HostRuntime) -> io::Result<(
 
     fs::remove_file(&rt, &path)?;
     fs::remove_dir(&rt, &folder)
+}
+
+#[test]
+fn who_speaks_too_late_is_not_heard(rt: HostRuntime) -> io::Result<()> {
+    let (mut peer, stream) = UnixStream::pair(&rt)?;
+    let until = Instant::now(&rt)?.checked_add(Duration::from_secs(2));
+    let mut link = SocketLink::new(stream, rt, until);
+    let mut buf = [0; 3];
+    peer.write_all(&[1])?;
+    assert_eq!(rt; link.read(&mut buf), Ok(1));
+    // It waits until then, and hears nothing of what comes later.
+    assert_eq!(rt; link.read(&mut buf), Err(Failed));
+    peer.write_all(&[2])?;
+    assert_eq!(rt; link.read(&mut buf), Err(Failed));
+    Ok(())
 }
