@@ -4,7 +4,8 @@
 #     written begins what they write else
 #   - `run` with two threads and budgets of one megabyte, of whose sessions the first is stopped, ends with 6 or 9 before it
 #     listens, and later with 9, or with 0: then one connection at most was refused for want of memory, or one session ended for
-#     it, each other one is whole for `report`, with the summary's numbers, and three are there, so later ones were served
+#     it, each other one is whole for `report`, with the summary's numbers, and three were opened on all rows, so after one that
+#     was refused, or ended before it was open, others were served
 # A growth is a call of the C library's malloc or realloc, which is refused by a small library that stands before it: those
 # of the C library itself, for its threads, are among them. It prints how many growths there are, and how the runs ended.
 # It needs python3 and a C compiler.
@@ -95,6 +96,7 @@ def alone(words, given):
     status, whole = carried_out(words, given, 0)
     wanted(f"{words} ends well, and not with {status}", status == 0)
     statuses, count = collections.Counter(), growths()
+    wanted("growths are counted", count > 0)
     for number in range(1, count + 1):
         status, written = carried_out(words, given, number)
         statuses[status] += 1
@@ -191,13 +193,16 @@ def one_run(number):
         same = threads_in(said.stdout.decode()) == marks_in(of.run.summary(), str(session))
         wanted(f"growth {number}: session {session} has the summary's numbers", same)
     wanted(f"growth {number}: one session at most wants memory", memory + of.refused <= 1)
-    wanted(f"growth {number}: later sessions are served: {told}", len(told) - memory >= 3)
+    summary = of.run.summary()
+    early = [it for it in told if sum(line[:2] == ["mark", it] and line[3] == "0" for line in summary) == 2]
+    wanted(f"growth {number}: as many sessions are opened as the threads wait for: {summary}", len(early) >= 3)
     return {"0, a session refused": of.refused, "0, a session ended for it": memory, "0": 1 - of.refused - memory}
 
 
 def runs():
     one_run(0)
     count = growths()
+    wanted("growths are counted", count > 0)
     tried = range(1, count + 1, every)
     ends = collections.Counter()
     for number in tried:
