@@ -24,11 +24,11 @@ done
 "$TRACEPIPE" trace 2 300 Sample-Web,Sample-Store,Sample-Jobs >"$work/threads.nettrace" || exit 1
 export PYTHONPATH="$here/bench" PYTHONDONTWRITEBYTECODE=1
 python3 - "$TRACEPIPE" "$work" "${1:-2000}" "${2:-2000}" "${3:-0}" <<'FUZZ'
-import collections, glob, random, re, resource, socket, subprocess, sys
+import collections, glob, random, re, resource, socket, sys
 
 from peers import (
-    ERROR, INFO_REQUEST, JOBS, LIMIT, OK, STORE, WEB, Run, collect_request, connected, program, received, report, session_of,
-    stop_request, wanted, work,
+    ERROR, INFO_REQUEST, JOBS, OK, STORE, WEB, Run, collect_request, connected, received, report, session_of, stop_request,
+    wanted, work,
 )
 
 traces, requests, seed = map(int, sys.argv[3:6])
@@ -90,9 +90,8 @@ def fuzz_traces(rand):
         elif said.returncode == 0 and said.stdout.startswith(b"trace ") and not said.stderr:
             kinds["whole"] += 1
         else:
-            with open(f"{work}/bad", "wb") as it:
-                it.write(trace)
-            wanted(f"report answers trace {number} by its statuses: {said.returncode} {said.stdout[:200]} {said.stderr[:200]}", False)
+            seen = f"{said.returncode} {said.stdout[:200]} {said.stderr[:200]}"
+            wanted(f"report answers trace {number}, {trace.hex()}, by its statuses, and not by {seen}", False)
     return kinds
 
 

@@ -62,7 +62,7 @@ REFUSE
 cc -O1 -shared -fPIC -o "$work/refuse.so" "$work/refuse.c" || exit 1
 export PYTHONPATH="$here/bench" PYTHONDONTWRITEBYTECODE=1
 python3 - "$TRACEPIPE" "$work" "${1:-1}" <<'GROWTHS'
-import collections, os, struct, subprocess, sys, threading
+import collections, struct, subprocess, sys, threading
 
 from peers import (
     ERROR, LIMIT, OK, WEB, Run, collect_request, connected, ended, marks_in, program, received, report, session_of, sessions_in,
