@@ -7,10 +7,13 @@ use std::io::{ErrorKind, Read, Write};
 use std::marker::Model;
 use std::net::{Net, Shutdown};
 use std::os::unix::net::UnixStream;
-use std::time::{Clock, Instant};
+use std::time::{Clock, Duration, Instant};
 
 /// How many bytes a socket gives at most.
 const MOST: u64 = (1 << 63) - 1;
+
+/// How long a read waits at least, in milliseconds: what is there is read, however late its reader is.
+const LEAST_WAIT: u64 = 1;
 
 /// A Unix stream socket as a link. It tells nothing of its bytes.
 #[derive(Drop)]
@@ -43,7 +46,8 @@ impl<C: Clock> SocketLink<C> {
     ghost use Rattle.std.specs.Prelude.{◌≡◌};
     ghost use Rattle.tracepipe.specs.Sockets.{fresh_socket};
 
-    /// A link over this socket, which has not failed. Where a time is given, a read fails that has nothing to give by then.
+    /// A link over this socket, which has not failed. Where a time is given, no read waits much beyond it: one that finds
+    /// nothing then fails.
     pub(crate) fn new(stream: UnixStream, clock: C, until: Option<Instant>) -> SocketLink<C>
         ensures { result ≡ fresh_socket }
     {
@@ -71,8 +75,8 @@ impl<C: Clock> Source for SocketLink<C> {
 
     ghost write_side = { λ s. record { tells = false; taken = []; faults = s.write_faults } };
 
-    /// Gives what the socket gives. It fails where the socket does, where the time has come by which something is to be
-    /// there, and where all that it may give was given.
+    /// Gives what the socket gives. It fails where the socket does, where nothing is there by the time by which it is to be,
+    /// and where all that it may give was given.
     fn read(&mut self, buf: &mut [u8]) -> Result<usize, Failed>
         requires { 0 < length buf.old }
 
@@ -101,8 +105,8 @@ impl<C: Clock> Source for SocketLink<C> {
     }
 }
 
-// How many bytes one read gave, None where it failed or the time has come. A read that a signal broke off, as after Ctrl-Z,
-// is made again.
+// How many bytes one read gave, None where it failed or nothing came in time. A read that a signal broke off, as after
+// Ctrl-Z, is made again.
 fn read_once<C: Clock>(
     stream: &mut UnixStream,
     clock: &C,
@@ -113,9 +117,10 @@ fn read_once<C: Clock>(
 {
     for _ in 0..u64::MAX {
         if let Some(until) = until {
-            // A socket has no time limit of no time: that is refused, as the read is to be.
             let left = until.duration_since(Instant::now(clock).ok()?);
-            stream.set_read_timeout(Some(left)).ok()?;
+            stream
+                .set_read_timeout(Some(left.max(Duration::from_millis(LEAST_WAIT))))
+                .ok()?;
         }
         match stream.read(buf) {
             Ok(count) => return Some(count),

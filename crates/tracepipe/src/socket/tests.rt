@@ -45,16 +45,17 @@ fn a_socket_is_called_gives_takes_and_goes_away(rt: HostRuntime) -> io::Result<(
 }
 
 #[test]
-fn who_speaks_too_late_is_not_heard(rt: HostRuntime) -> io::Result<()> {
+fn a_peer_is_waited_for_until_its_time_has_come(rt: HostRuntime) -> io::Result<()> {
     let (mut peer, stream) = UnixStream::pair(&rt)?;
     let until = Instant::now(&rt)?.checked_add(Duration::from_secs(2));
     let mut link = SocketLink::new(stream, rt, until);
     let mut buf = [0; 3];
     peer.write_all(&[1])?;
     assert_eq!(rt; link.read(&mut buf), Ok(1));
-    // It waits until then, and hears nothing of what comes later.
     assert_eq!(rt; link.read(&mut buf), Err(Failed));
-    peer.write_all(&[2])?;
+    // Later on what is there is read, and nothing is waited for.
+    peer.write_all(&[2, 3])?;
+    assert_eq!(rt; link.read(&mut buf), Ok(2));
     assert_eq!(rt; link.read(&mut buf), Err(Failed));
     Ok(())
 }
