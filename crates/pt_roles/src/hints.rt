@@ -73,12 +73,21 @@ impl<P: World> Hints<P> {
         self.reopen[number].load(Ordering::SeqCst) != 0
     }
 
-    /// The session in this slot is open on the row again, or has ended.
+    /// The session in this slot is open on the row again.
     pub(crate) fn opened(&self, number: usize, slot: u32)
         requires row { number < P.rows }
         requires slot { slot < 64 }
     {
         self.reopen[number].fetch_and(!(1u64 << slot), Ordering::SeqCst);
+    }
+
+    /// The session in this slot ends, and is open on no row: no row's next life waits for it.
+    pub(crate) fn ended(&self, slot: u32)
+        requires { slot < 64 }
+    {
+        for reopen in &self.reopen {
+            reopen.fetch_and(!(1u64 << slot), Ordering::SeqCst);
+        }
     }
 
     /// All writers have ended.

@@ -379,7 +379,9 @@ fn run_groups<
                 }
             };
             let (held, first, serving, writing) = serve_until_ready(front, held, wait);
-            let write = move || writing.write_all();
+            let write = move ||
+                ensures { result.rows.items ≡ rows_of W.world.plan W.world.options.lives }
+            { writing.write_all() };
             let writers = match scope.spawn(write) {
                 Ok(handle) => Ok(handle),
                 Err(refused) => Err((refused.value)()),

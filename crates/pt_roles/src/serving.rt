@@ -256,10 +256,9 @@ fn finish<'a, W: World, R: Wait, L: Link + Drop, C: Clock, G: Gate>(
     let session = session_of(end);
     let fate = fate_as(session.fate);
     let finale = Finale::new(session);
+    // Before the slot is free: the next session in it has hints of its own.
+    shared.hints.ended(slot);
     shared.end(scene.rt, holder, fate, free, finale);
-    for number in 0..scene.plan.threads {
-        shared.hints.opened(number as usize, slot);
-    }
 }
 
 // What is left of a session whose stream has ended. Its link is shut.
