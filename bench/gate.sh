@@ -1,10 +1,11 @@
 #!/bin/sh
-# Runs the gate and prints what each crate costs it: a table of processor-seconds of its proof, of the proof of its tests,
-# and of its wrong bodies, the dearest crate first, and their sums. It reads the system's times of the prover's processes
-# four times a second while they run, so what a process takes in its last quarter of a second is missed. What an earlier run
-# on this machine passed is kept by rt and costs nothing; `--anew` proves and tries all. It needs python3.
+# Runs the gate, or another command, and prints what each crate costs it: a table of processor-seconds of its proof, of the
+# proof of its tests, and of its wrong bodies, the dearest crate first, and their sums. It reads the system's times of the
+# prover's processes four times a second while they run, so what a process takes in its last quarter of a second is missed.
+# The gate proves and tries all from nothing; a command as `rt must-fail NAME` or `rt all check` shows its own part of it.
+# It needs python3.
 #
-#   bench/gate.sh [--anew | CRATE...]
+#   bench/gate.sh [COMMAND WORD...]
 here=$(cd "$(dirname "$0")/.." && pwd) || exit 1
 cd "$here" && exec python3 - "$@" <<'MEASURE'
 import collections, os, subprocess, sys, tempfile, time
@@ -57,7 +58,7 @@ def sample(top, seen):
 
 
 with tempfile.TemporaryFile("w+") as log:
-    gate = subprocess.Popen(["rt", "ci", *sys.argv[1:]], stdout=log, stderr=subprocess.STDOUT, text=True)
+    gate = subprocess.Popen(sys.argv[1:] or ["rt", "ci"], stdout=log, stderr=subprocess.STDOUT, text=True)
     seen = {}
     while gate.poll() is None:
         sample(gate.pid, seen)
@@ -74,6 +75,6 @@ for crate, by_kind in sorted(times.items(), key=lambda it: -sum(it[1].values()))
 sums = [sum(by_kind[kind] for by_kind in times.values()) for kind in KINDS]
 print("| all | " + " | ".join(f"{it:.0f}" for it in sums) + f" | {sum(sums):.0f} |")
 print()
-print(f"{sum(sums) / 60:.0f} processor-minutes; {told.rstrip().splitlines()[-1] if told.strip() else 'the gate said nothing'}")
+print(f"{sum(sums) / 60:.0f} processor-minutes; {told.rstrip().splitlines()[-1] if told.strip() else 'it said nothing'}")
 sys.exit(gate.returncode)
 MEASURE
