@@ -1,12 +1,12 @@
 -- A session that is opened on one row after another.
-use Rattle.std.proofs.Common.{◌≡◌, ◌≢◌, ℕ, zero, suc, ◌+◌, ◌-◌, ◌<◌, ◌≤◌, Bool, true, false, List, [], ◌∷◌, length, get_or, Option, Some, refl, ap, ◌∙◌, sym, subst, arith, ⊎_elim}
+use Rattle.std.proofs.Common.{◌≡◌, ◌≢◌, ℕ, suc, ◌+◌, ◌-◌, ◌<◌, ◌≤◌, Bool, true, false, List, [], ◌∷◌, length, get_or, Option, Some, refl, ap, ◌∙◌, sym, subst, arith, ⊎_elim}
 use Rattle.std.specs.Prelude.{◌&&◌, nat_lt, replicate, slice_index_or}
 use Rattle.std.specs.List.{list_all}
 use Rattle.std.proofs.lemmas.Bool.{cases_lt, lt-ltb}
 use Rattle.std.proofs.lemmas.List.{length-set, length-replicate}
 use Rattle.std.proofs.lemmas.List.Folds.{list_all_at}
 use Rattle.pt_stream.specs.declared.place.Place.{Place}
-use Rattle.pt_stream.specs.State.{StreamState, is_complete, no_place, opened_on, place_at, stays_early, with_place}
+use Rattle.pt_stream.specs.State.{StreamState, is_complete, no_place, place_at, stays_early, with_place}
 use Rattle.pt_stream.proofs.Places.{place-here, place-none, place-other}
 use Rattle.pt_roles.specs.Serving.{IsOpenedOnce}
 

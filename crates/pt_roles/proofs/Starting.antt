@@ -1,5 +1,5 @@
 -- What the link took of a session that could not be started.
-use Rattle.std.proofs.Common.{◌≡◌, ℕ, ◌++◌, Bool, List, IsTrue, ◌⊎◌, inl, inr, ap, ◌∙◌, sym, subst}
+use Rattle.std.proofs.Common.{◌≡◌, ℕ, ◌++◌, Bool, List, IsTrue, inl, inr, ap, ◌∙◌, sym, subst}
 use Rattle.ep_defs.specs.declared.session.TraceInfo.{TraceInfo}
 use Rattle.ep_stream.specs.Session.{TookStart as TookSessionStart}
 use Rattle.ipc_body.specs.Answering.{session_reply}

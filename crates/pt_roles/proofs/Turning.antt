@@ -1,7 +1,5 @@
 -- What the server's turns come to.
-use Rattle.std.proofs.Common.{◌≡◌, ◌≢◌, ℕ, ◌+◌, ◌<◌, ◌≤◌, Bool, true, false, List, [], ◌∷◌, length, Option, None, Some, IsTrue, ◌⊎◌, inl, inr, refl, ap, ◌∙◌, sym, subst, arith}
-use Rattle.std.specs.Prelude.{count_by}
-use Rattle.std.specs.List.{AllByRecursion}
+use Rattle.std.proofs.Common.{◌≡◌, ℕ, ◌≤◌, true, false, List, length, Some, IsTrue, ◌⊎◌, inl, inr, refl, ap, ◌∙◌, sym, subst, arith}
 use Rattle.ep_defs.specs.declared.session.Facts.{Facts}
 use Rattle.ep_journal.specs.declared.limits.TheConstants.{CONNECTIONS}
 use Rattle.ep_registry.specs.Registered.{ServerHalf}
@@ -12,7 +10,7 @@ use Rattle.pt_io.specs.declared.sink.Sink.{Ghosts as Sink}
 use Rattle.pt_server.specs.Told.{AreTold}
 use Rattle.pt_server.specs.declared.desk.ConnEnd.{ConnEnd}
 use Rattle.pt_roles.specs.Ending.{IsAllOver, has_failed}
-use Rattle.pt_roles.specs.Ran.{HasWaited, IsRan, is_early}
+use Rattle.pt_roles.specs.Ran.{HasWaited, IsRan}
 use Rattle.pt_roles.specs.Server.{GoesOnFrom, HasServed, HasTurned, IsExit, is_last, no_server}
 use Rattle.pt_roles.specs.World.{WorldState, rows_of}
 use Rattle.pt_roles.specs.declared.exit.Exit.{Exit}

@@ -1,5 +1,5 @@
 -- What is left once all threads of a run have ended. All of it is this project's own.
-use Rattle.std.specs.Prelude.{◌≡◌, ◌≢◌, ℕ, ◌≤◌, Bool, true, false, List, length, count_by}
+use Rattle.std.specs.Prelude.{◌≡◌, ◌≤◌, Bool, true, false, List, length, count_by}
 use Rattle.std.specs.List.{AllByRecursion}
 use Rattle.ep_journal.specs.declared.limits.TheConstants.{CONNECTIONS}
 use Rattle.ep_journal.specs.declared.session.Entry.{Entry}

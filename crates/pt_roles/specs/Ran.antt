@@ -1,8 +1,7 @@
 -- What a run of the sample program with its diagnostic server comes to (this project's theorem).
-use Rattle.std.specs.Prelude.{◌≡◌, ◌≢◌, ℕ, suc, ◌+◌, ◌-◌, ◌*◌, ◌<◌, ◌≤◌, ◌⊎◌, Bool, true, false, ◌&&◌, ◌||◌, ◌==◌, nat_lt, List, [], ◌∷◌, ◌++◌, length, map, Option, Some, None, slice_get, Ok, IsTrue, count_by}
+use Rattle.std.specs.Prelude.{◌≡◌, ℕ, ◌+◌, ◌<◌, ◌≤◌, ◌⊎◌, Bool, true, false, ◌&&◌, ◌||◌, ◌==◌, nat_lt, List, [], ◌∷◌, ◌++◌, length, map, IsTrue, count_by}
 use Rattle.std.specs.List.{list_all, list_any, range_with_len, sum_by, AllByRecursion}
 use Rattle.ep_defs.specs.declared.session.Config.{Config}
-use Rattle.ep_defs.specs.declared.session.Facts.{Facts}
 use Rattle.ep_defs.specs.declared.session.Marks.{Marks}
 use Rattle.pt_io.specs.declared.dock.Dock.{Ghosts as Dock}
 use Rattle.pt_io.specs.declared.sink.Sink.{Ghosts as Sink}
@@ -11,7 +10,6 @@ use Rattle.pt_io.specs.Sides.{ReadSide, WriteSide}
 use Rattle.nt_write.specs.declared.limits.TheConstants.{FRAMED_EVENTS}
 use Rattle.ipc_body.specs.declared.request.Request.TheVariants as request
 use Rattle.ep_guarded.specs.Tied.{AreCounted, thread_of}
-use Rattle.ep_stream.specs.declared.session.Fate.{Fate}
 use Rattle.ep_stream.specs.declared.session.Fate.TheVariants as fate
 use Rattle.ep_live_laws.specs.Streams.{IsPartOf, IsTraceOf}
 use Rattle.ep_live_laws.specs.Tracing.{AreAscending, IsOneOf, is_fault}

@@ -1,5 +1,5 @@
 -- What is fixed of a run from its beginning. All of it is this project's own.
-use Rattle.std.specs.Prelude.{◌≡◌, ℕ, ◌+◌, ◌-◌, ◌<◌, ◌≤◌, ◌++◌, List, [], map}
+use Rattle.std.specs.Prelude.{◌≡◌, ℕ, ◌-◌, ◌<◌, ◌≤◌, ◌++◌, List, [], map}
 use Rattle.std.specs.List.{range_with_len}
 use Rattle.ep_defs.specs.declared.limits.TheConstants.{SESSIONS, THREADS, WRITES}
 use Rattle.ep_defs.specs.declared.event.EventDef.{EventDef}

@@ -1,4 +1,4 @@
-use Rattle.std.proofs.Common.{◌≡◌, true, false, None, Some}
+use Rattle.std.proofs.Common.{◌≡◌, false, None}
 use Rattle.pt_roles.specs.Server.{HasTurned}
 use Rattle.pt_roles.proofs.host.serve_late.Given as goal
 

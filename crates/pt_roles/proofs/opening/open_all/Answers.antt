@@ -1,6 +1,6 @@
-use Rattle.std.proofs.Common.{◌≡◌, ℕ, ◌<◌, ◌≤◌, arith, subst, sym}
-use Rattle.pt_stream.specs.State.{StreamState, is_complete}
-use Rattle.std.proofs.Common.{ap, ◌∙◌, true, false}
+use Rattle.std.proofs.Common.{◌≡◌, ℕ, ◌<◌, arith, subst}
+use Rattle.pt_stream.specs.State.{is_complete}
+use Rattle.std.proofs.Common.{ap, ◌∙◌}
 use Rattle.pt_roles.proofs.Openings.{IsOpenTo, open-all, open-more, open-some}
 use Rattle.pt_roles.proofs.opening.open_all.Goals as goal
 
