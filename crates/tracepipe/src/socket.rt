@@ -94,8 +94,8 @@ impl<C: Clock> Source for SocketLink<C> {
     {
         if self.may_give > 0 {
             let most = (buf.len() as u64).min(self.may_give) as usize;
-            let buf = &mut buf[..most];
-            if let Some(count) = read_once(&mut self.stream, &self.clock, self.until, buf) {
+            let part = &mut buf[..most];
+            if let Some(count) = read_once(&mut self.stream, &self.clock, self.until, part) {
                 self.may_give -= count as u64;
                 return Ok(count);
             }
