@@ -1,8 +1,7 @@
-//! The tests of the program's commands: reports, schedules and their streams, what a large schedule comes to, a client's
-//! calls, and the program as a whole with everything around it in memory.
+//! The tests of the program's one call, with everything around it in memory, and of its words.
 //!
-//! It stands on pt_cli, on the commands' crates and what their calls take, and nothing stands on it. A crate that has tests is
-//! proved twice, so they stand here, where they are proved alone.
+//! It stands on pt_cli and on what its calls take, and nothing stands on it. A crate that has tests is proved twice, and
+//! pt_cli is dear, so they stand here, where they are proved alone.
 #![tactic(auto)]
 
 #[cfg(test)]

@@ -1,10 +1,4 @@
-//! A module or two for each command, and the program as a whole with its words.
-mod clients;
-mod generated_steps;
-mod generated_sums;
+//! The program as a whole, and its words.
 mod program;
-mod replayed;
-mod reported_items;
-mod reported_streams;
 mod trace_words;
 mod words;

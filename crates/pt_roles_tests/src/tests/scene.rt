@@ -75,6 +75,17 @@ pub(super) fn run<R: Threads + Wait + Timer + Sync>(
     holds: &[Hold],
 ) -> Result<Told, AllocError> {
     let gate = Holds::new(alloc, holds)?;
+    run_before(rt, alloc, asked, peers, &gate)
+}
+
+// The same with this gate.
+fn run_before<R: Threads + Wait + Timer + Sync>(
+    rt: &R,
+    alloc: Global,
+    asked: Asked,
+    peers: &[Peer],
+    gate: &Holds,
+) -> Result<Told, AllocError> {
     let plan = Plan {
         seed: 0,
         threads: asked.threads.max(1).min(THREADS),
@@ -95,9 +106,9 @@ pub(super) fn run<R: Threads + Wait + Timer + Sync>(
         info: standard_info(1, 1),
     };
     let fails = [asked.failing_turn].to_vec(alloc)?;
-    let mut dock = WatchedDock::new(MemDock::new(links_of(alloc, peers)?, 0, fails), &gate);
+    let mut dock = WatchedDock::new(MemDock::new(links_of(alloc, peers)?, 0, fails), gate);
     let clock = StepClock::new(100);
-    let end = run_live(rt, alloc, &plan, &options, &facts, &mut dock, &clock, &gate)?;
+    let end = run_live(rt, alloc, &plan, &options, &facts, &mut dock, &clock, gate)?;
     let mut taken = Vec::new(alloc);
     for session in &end.sessions {
         taken.push(session.link.taken().to_vec(alloc)?)?;
