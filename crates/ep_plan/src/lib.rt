@@ -3,8 +3,8 @@
 //! `line` reads a line, `event` and `step` the words of one, taken by a `cursor`; `verb` has the words that lines of
 //! steps begin with, and `words` what a word spells and how a value is written; `print` writes the line of a step. What
 //! a line means is defined in `specs/`: `Words` for a word, `Lines` for a line, `Printing` for what is written, under
-//! the bounds of `limits`; `examples` has some values with their words. It stands on ep_model, for the steps, ep_defs,
-//! for the types, hex, for bytes in digits, and itoa, for decimal digits.
+//! the bounds of `limits`. It stands on ep_model, for the steps, ep_defs, for the types, hex, for bytes in digits, and
+//! itoa, for decimal digits.
 //!
 //! Its one contract: a line is read as what the definition says, or refused at its first bad word; a step that is
 //! printed is read back.
@@ -14,7 +14,6 @@
 
 mod cursor;
 mod event;
-pub mod examples;
 pub mod limits;
 mod line;
 mod print;
@@ -25,3 +24,6 @@ mod words;
 pub use line::{Line, LineFault, LineKind, a_line_means_one_thing, read_line};
 pub use print::print_step;
 pub use words::{hexadecimal, number, provider, rule};
+
+#[cfg(test)]
+mod tests;

@@ -17,6 +17,8 @@ mod laws;
 pub mod limits;
 mod put;
 mod take;
+#[cfg(test)]
+mod tests;
 
 pub use blob_block::BlobBlock;
 pub use laws::{

@@ -14,6 +14,8 @@
 mod checker;
 mod ids;
 mod limits;
+#[cfg(test)]
+mod tests;
 mod threads;
 
 pub use checker::{CheckFault, CheckKind, Checker};

@@ -12,6 +12,8 @@
 mod interner;
 mod limits;
 mod table;
+#[cfg(test)]
+mod tests;
 
 pub use interner::{Interned, Interner};
 pub use limits::MOST_STACKS;

@@ -18,3 +18,6 @@ mod words;
 
 pub use calling::{Called, client};
 pub use words::{Command, Target, command_of};
+
+#[cfg(test)]
+mod tests;

@@ -22,6 +22,8 @@ mod run;
 mod session;
 mod stage;
 mod summary;
+#[cfg(test)]
+mod tests;
 mod walk;
 mod words;
 

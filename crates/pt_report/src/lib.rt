@@ -25,6 +25,8 @@ mod reading;
 mod report;
 mod stacks;
 mod tally;
+#[cfg(test)]
+mod tests;
 
 pub use command::write_report;
 pub use errors::{Flaw, Refusal};

@@ -1,4 +1,3 @@
 pub mod Standard
 pub mod Sockets
 pub mod Docks
-pub mod Names

@@ -1,12 +1,6 @@
 //! Where this process listens: the name that .NET's runtime gives to a process's diagnostic socket, and by which its tools
 //! find it.
 
-ghost use Rattle.std.specs.Prelude.{◌≡◌, IfOk, option_map, slice_get};
-ghost use Rattle.std.specs.String.{string_bytes};
-ghost use Rattle.ep_plan.specs.Words.{words_of};
-ghost use Rattle.tracepipe.specs.Names.{path_of, start_of};
-
-use ep_plan::number;
 use std::alloc::{AllocError, Global};
 use std::env::Env;
 use std::fs::Files;
@@ -15,10 +9,9 @@ use std::{env, fs, io};
 /// Where sockets stand where the environment names no folder.
 const USUAL_FOLDER: &str = "/tmp";
 
-/// The place of a process's start, from 0, among the parts between the blanks behind its name in `/proc/self/stat`: proc(5)
-/// has it as the 22nd word of the line, `starttime`, the name is the second, and the first part is the empty one between
-/// the name and its blank. It is in ticks since the machine's start.
-const START_PLACE: usize = 20;
+/// The place of a process's start among the words behind its name in `/proc/self/stat`: proc(5) has it as the 22nd word of
+/// the line, `starttime`. It is in ticks since the machine's start.
+const START_PLACE: usize = 19;
 
 /// The path of the socket of this process, whose number is `process`:
 /// `dotnet-diagnostic-{process}-{key}-socket` in the folder that `TMPDIR` names, else in `/tmp`. The key is the process's
@@ -35,9 +28,7 @@ pub fn socket_path<R: Env + Files + AllocGlobal>(rt: &R, process: u32) -> io::Re
 }
 
 // The path in the folder that is named, if one is.
-fn path_in(alloc: Global, named: &str, process: u32, key: u64) -> Result<String, AllocError>
-    ensures { IfOk result (λ path. string_bytes path ≡ path_of named.now process key) }
-{
+fn path_in(alloc: Global, named: &str, process: u32, key: u64) -> Result<String, AllocError> {
     let folder = if named.is_empty() {
         USUAL_FOLDER
     } else {
@@ -48,19 +39,13 @@ fn path_in(alloc: Global, named: &str, process: u32, key: u64) -> Result<String,
 
 // The start of a process, in the line that the system tells of it. The process's own name stands in front of the words, in
 // parentheses, and may hold blanks and parentheses itself.
-fn start_in(stat: &str) -> Option<u64>
-    ensures { result ≡ start_of stat.now }
-{
-    let (_name, behind) = stat.rsplit_once(')')?;
-    let word = part_at(behind.as_bytes(), START_PLACE)?;
-    number(word, u64::MAX)
-}
-
-// The part at this place, from 0, of those between single blanks.
-fn part_at(text: &[u8], place: usize) -> Option<&[u8]>
-    ensures { option_map (λ part. part.now) result ≡ slice_get (words_of text.now) place }
-{
-    text.split(|byte| *byte == b' ').nth(place)
+fn start_in(stat: &str) -> Option<u64> {
+    let (_name, words) = stat.rsplit_once(')')?;
+    words
+        .split_ascii_whitespace()
+        .nth(START_PLACE)?
+        .parse::<u64>()
+        .ok()
 }
 
 #[cfg(test)]

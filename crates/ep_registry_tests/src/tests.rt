@@ -1,3 +1,0 @@
-//! The journal alone, and the registry over it.
-mod journal;
-mod registry;

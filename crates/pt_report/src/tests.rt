@@ -1,0 +1,3 @@
+//! Reports of items, and of whole streams.
+mod items;
+mod streams;
