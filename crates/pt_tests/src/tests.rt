@@ -1,4 +1,3 @@
-//! The program as a whole, and its words.
-mod program;
+//! The words of commands.
 mod trace_words;
 mod words;

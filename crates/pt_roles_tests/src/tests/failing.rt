@@ -74,8 +74,9 @@ fn each_write_of_a_link_fails_in_turn(rt: HostRuntime) -> Result<(), Fail> {
             "\nsession 2 of 2: program [1-4 0..16 2+0]",
         ),
     ] {
-        let mut failing = 3;
-        for _ in 0..1_000u32 {
+        let mut last = 0;
+        for failing in 3..1_003 {
+            last = failing;
             let peers = [deaf(Request::Most, failing, 7), sound(Request::Jobs)];
             let told = run(&rt, rt.alloc(), asked, &peers, &[])?;
             assert!(rt; told.text().ends_with(other));
@@ -87,9 +88,8 @@ fn each_write_of_a_link_fails_in_turn(rt: HostRuntime) -> Result<(), Fail> {
                     .first()
                     .is_some_and(|taken| is_part(rt.alloc(), taken))
             );
-            failing += 1;
         }
-        assert!(rt; 4 < failing && failing < 1_000);
+        assert!(rt; 4 < last && last < 1_000);
     }
     Ok(())
 }
