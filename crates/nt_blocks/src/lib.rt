@@ -17,8 +17,6 @@ mod laws;
 pub mod limits;
 mod put;
 mod take;
-#[cfg(test)]
-mod tests;
 
 pub use blob_block::BlobBlock;
 pub use laws::{

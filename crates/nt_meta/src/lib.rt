@@ -15,8 +15,6 @@ mod laws;
 pub mod limits;
 mod put;
 mod take;
-#[cfg(test)]
-mod tests;
 
 pub use laws::{a_payload_is_read_back, what_is_read_is_a_payload};
 pub use put::put_meta;

@@ -20,6 +20,3 @@ mod object;
 pub use head::{ObjectHead, ObjectKind, take_head};
 pub use laws::{no_form_begins_another, what_is_put_is_taken};
 pub use object::{BlockKind, padding, put_block, put_start};
-
-#[cfg(test)]
-mod tests;

@@ -4,6 +4,7 @@ use Rattle.std.specs.Prelude.{unwrap_or}
 use Rattle.std.proofs.lemmas.Bool.{ne_eqb, cases_Bool}
 use Rattle.std.proofs.lemmas.Bool.Decides.{eqb_tells}
 use Rattle.std.proofs.lemmas.Slice.Eq.{bytes_eq-Decides}
+use Rattle.std.proofs.lemmas.List.Elements.{All-push, All-weaker}
 use Rattle.std.proofs.lemmas.Map.Text.{is_eq-slice_cmp}
 use Rattle.std.specs.declared.cmp.Ordering.{Ordering}
 use Rattle.std.specs.declared.cmp.Ordering.TheVariants.{Less, Equal, Greater}
@@ -14,7 +15,7 @@ use Rattle.std.specs.List.{AllByRecursion, position_from}
 use Rattle.std.specs.Map.{lookup}
 use Rattle.std.specs.Str.{bytes_eq}
 use Rattle.nt_stacks.specs.Stacks.{stack_id, with_stack, IsOfNoOther}
-use Rattle.nt_stacks.specs.Interning.{id_at, stack_with, stacks_from, stacks_of, AreInterned}
+use Rattle.nt_stacks.specs.Interning.{id_at, stack_with, stacks_from, stacks_of, AreInterned, AreKnown}
 
 -- ---- bytes
 
@@ -374,3 +375,64 @@ new-stack items entries new stacks (b ∷ bytes) key id h is some none key-is id
 pub as-many : {K : Type 0} (items : K → List ℕ) (entries : List (K × ℕ)) (stacks : List (List ℕ)) → stacks_of (plain items entries) ≡ stacks → length stacks ≡ length entries
 as-many items entries stacks is =
     ap length (sym is) ∙ length-stacks_of (plain items entries) ∙ length-plain items entries
+
+-- ---- stacks that were asked for lately
+
+-- Bytes that have an id are none that have none.
+apart : (stack bytes : List ℕ) (id : ℕ) (entries : List (List ℕ × ℕ)) → id_at stack entries ≡ Some id → id_at bytes entries ≡ None → bytes_eq stack bytes ≡ false
+apart stack bytes id entries there none =
+    elim (cases_Bool (bytes_eq stack bytes)) [
+      | inl e ↦
+          let same : stack ≡ bytes = same-bytes stack bytes e in
+          let both : id_at bytes entries ≡ Some id = rw same at there in
+          cc
+      | inr e ↦ e
+    ]
+
+-- What is known stays known once another stack has an id.
+known-between : (bytes : List ℕ) (id : ℕ) (old new recent : List (List ℕ × ℕ)) → id_at bytes old ≡ None → Between bytes id old new → AreKnown old recent → AreKnown new recent
+known-between bytes id old new recent none between known =
+    All-weaker (λ stack. 0 < stack.1 → id_at stack.0 old ≡ Some stack.1) (λ stack. 0 < stack.1 → id_at stack.0 new ≡ Some stack.1) still recent known
+  where
+    still : (stack : List ℕ × ℕ) → (0 < stack.1 → id_at stack.0 old ≡ Some stack.1) → 0 < stack.1 → id_at stack.0 new ≡ Some stack.1
+    still stack was some =
+        ap (id_at stack.0) between.now
+        ∙ id_at-others stack.0 bytes id between.front between.back (apart stack.0 bytes stack.1 old (was some) none)
+        ∙ ap (id_at stack.0) (sym between.was)
+        ∙ was some
+
+-- The entries after an insertion.
+inserted : {K : Type 0} (items : K → List ℕ) (entries new : List (K × ℕ)) (bytes : List ℕ) (key : K) (id : ℕ) → items key ≡ bytes → new ≡ insert_entry (λ x y. slice_cmp nat_cmp (items x) (items y)) entries key id → plain items new ≡ insert_entry (slice_cmp nat_cmp) (plain items entries) bytes id
+inserted items entries new bytes key id key-is new-is =
+    ap (plain items) new-is
+    ∙ plain-insert items entries key id
+    ∙ ap (λ k. insert_entry (slice_cmp nat_cmp) (plain items entries) k id) key-is
+
+-- The map knows what it knew.
+pub still-known : {K : Type 0} (items : K → List ℕ) (entries new : List (K × ℕ)) (recent : List (List ℕ × ℕ)) (bytes : List ℕ) (key : K) (id : ℕ) → None ≡ lookup (λ k. is_eq (slice_cmp nat_cmp bytes (items k))) entries → items key ≡ bytes → new ≡ insert_entry (λ x y. slice_cmp nat_cmp (items x) (items y)) entries key id → AreKnown (plain items entries) recent → AreKnown (plain items new) recent
+still-known items entries new recent bytes key id none key-is new-is known =
+    let unknown : id_at bytes (plain items entries) ≡ None = sym (none ∙ lookup-plain items entries bytes) in
+    subst (λ es. AreKnown es recent) (sym (inserted items entries new bytes key id key-is new-is))
+    (known-between bytes id (plain items entries) (insert_entry (slice_cmp nat_cmp) (plain items entries) bytes id) recent unknown (insert-between bytes id (plain items entries) unknown) known)
+
+-- The map knows what it got.
+pub now-known : {K : Type 0} (items : K → List ℕ) (entries new : List (K × ℕ)) (bytes : List ℕ) (key : K) (id : ℕ) → None ≡ lookup (λ k. is_eq (slice_cmp nat_cmp bytes (items k))) entries → items key ≡ bytes → new ≡ insert_entry (λ x y. slice_cmp nat_cmp (items x) (items y)) entries key id → id_at bytes (plain items new) ≡ Some id
+now-known items entries new bytes key id none key-is new-is =
+    let unknown : id_at bytes (plain items entries) ≡ None = sym (none ∙ lookup-plain items entries bytes) in
+    let between : Between bytes id (plain items entries) (insert_entry (slice_cmp nat_cmp) (plain items entries) bytes id) = insert-between bytes id (plain items entries) unknown in
+    ap (id_at bytes) (inserted items entries new bytes key id key-is new-is ∙ between.now)
+    ∙ id_at-between bytes id between.front between.back between.unknown
+
+-- What the map has is known.
+pub map-knows : {K : Type 0} (items : K → List ℕ) (entries : List (K × ℕ)) (bytes : List ℕ) (id : ℕ) → Some id ≡ lookup (λ k. is_eq (slice_cmp nat_cmp bytes (items k))) entries → id_at bytes (plain items entries) ≡ Some id
+map-knows items entries bytes id found = sym (found ∙ lookup-plain items entries bytes)
+
+-- A stack that is known is given.
+pub recent-stack : {K : Type 0} (items : K → List ℕ) (entries : List (K × ℕ)) (stacks : List (List ℕ)) (bytes : List ℕ) (id : ℕ) → AreInterned (plain items entries) → stacks_of (plain items entries) ≡ stacks → length bytes ≢ 0 → id_at bytes (plain items entries) ≡ Some id → IsGiven stacks bytes id
+recent-stack items entries stacks bytes id h is some there =
+    known-stack items entries stacks bytes id h is some (sym there ∙ sym (lookup-plain items entries bytes))
+
+-- One stack more without an id.
+pub known_one_more : (entries recent : List (List ℕ × ℕ)) (bytes : List ℕ) → AreKnown entries recent → AreKnown entries (recent ++ (bytes, 0) ∷ [])
+known_one_more entries recent bytes known =
+    All-push (λ stack. 0 < stack.1 → id_at stack.0 entries ≡ Some stack.1) recent (bytes, 0) known (λ some. absurd (omega (arith, some)))

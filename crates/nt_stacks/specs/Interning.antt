@@ -1,6 +1,6 @@
 -- What the map of an interner stands for, by its entries: the bytes of each stack, with its id.
 use Rattle.std.specs.Prelude.{◌≡◌, ℕ, zero, suc, ◌<◌, ◌≤◌, List, [], ◌∷◌, length, Option, Some, ◌==◌, if◌then◌else◌}
-use Rattle.std.specs.List.{AllByRecursion}
+use Rattle.std.specs.List.{All, AllByRecursion}
 use Rattle.std.specs.Map.{lookup}
 use Rattle.std.specs.Str.{bytes_eq}
 
@@ -27,3 +27,7 @@ pub record AreInterned (entries : List (List ℕ × ℕ)) : Type 0 where
   pub given : (place : ℕ) → place < length entries → id_at (stack_with (suc place) entries) entries ≡ Some (suc place)
   pub own : (bytes : List ℕ) (id : ℕ) → id_at bytes entries ≡ Some id → (0 < id) × (id ≤ length entries) × (stack_with id entries ≡ bytes)
   pub few : AllByRecursion (λ entry. entry.1 ≤ length entries) entries
+
+-- Each of these stacks that has an id has the one that it has among the entries. An id of 0 is none.
+abbrev pub AreKnown : List (List ℕ × ℕ) → List (List ℕ × ℕ) → Type 0
+AreKnown entries recent = All (λ stack. 0 < stack.1 → id_at stack.0 entries ≡ Some stack.1) recent

@@ -3,6 +3,7 @@ ghost use Rattle.std.specs.Prelude.{◌≡◌, ◌+◌, ◌<◌, ◌≤◌, [], 
 ghost use Rattle.nt_stacks.specs.Stacks.{stack_id, with_stack, IsOfNoOther};
 
 use crate::limits::MOST_STACKS;
+use crate::recent::Recent;
 use std::alloc::{AllocError, Global};
 use std::collections::BTreeMap;
 use std::marker::Model;
@@ -21,17 +22,20 @@ pub struct Interned {
 pub struct Interner {
     // The id of each stack.
     ids: BTreeMap<Vec<u8>, u32>,
+    // Those that were asked for lately.
+    recent: Recent,
 }
 
 impl Model for Interner {
     ghost use Rattle.std.specs.Prelude.{List, ℕ, map};
-    ghost use Rattle.nt_stacks.specs.Interning.{stacks_of, AreInterned};
+    ghost use Rattle.nt_stacks.specs.Interning.{stacks_of, AreInterned, AreKnown};
 
     ghost Value = { List (List ℕ) };
 
     ghost view = { λ interner. stacks_of (map (λ entry. (entry.0.items, entry.1)) interner.ids.entries) };
 
-    ghost invariant = { λ interner. AreInterned (map (λ entry. (entry.0.items, entry.1)) interner.ids.entries) };
+    ghost invariant = { λ interner. AreInterned (map (λ entry. (entry.0.items, entry.1)) interner.ids.entries)
+        × AreKnown (map (λ entry. (entry.0.items, entry.1)) interner.ids.entries) interner.recent };
 }
 
 impl Interner {
@@ -41,6 +45,7 @@ impl Interner {
     {
         Interner {
             ids: BTreeMap::new(alloc),
+            recent: Recent::new(alloc),
         }
     }
 
@@ -49,6 +54,7 @@ impl Interner {
         ensures { self.new ≡ [] }
     {
         self.ids.clear();
+        self.recent.clear();
     }
 
     /// The id of the stack with these bytes, which is 0 for no bytes. A stack that was not there since the last clear
@@ -72,15 +78,18 @@ impl Interner {
                 is_new: false,
             });
         }
+        if let Some(id) = self.recent.find(bytes) {
+            return Ok(Interned { id, is_new: false });
+        }
         if let Some(id) = self.ids.get(bytes) {
-            return Ok(Interned {
-                id: *id,
-                is_new: false,
-            });
+            let id = *id;
+            self.recent.keep(alloc, bytes, id);
+            return Ok(Interned { id, is_new: false });
         }
         let id = self.ids.len() as u32 + 1;
         let stack = Vec::from_slice(alloc, bytes)?;
         self.ids.insert(stack, id)?;
+        self.recent.keep(alloc, bytes, id);
         Ok(Interned { id, is_new: true })
     }
 }

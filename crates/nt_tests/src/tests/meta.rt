@@ -1,5 +1,5 @@
-use super::{TakenMeta, put_meta, take_meta};
 use ep_defs::{EventDef, FieldDef, FieldList, Units, units_of};
+use nt_meta::{TakenMeta, put_meta, take_meta};
 use std::alloc::{AllocError, Global};
 use std::test::Fail;
 

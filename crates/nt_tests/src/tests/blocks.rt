@@ -1,6 +1,6 @@
-use super::limits::WRITTEN_BYTES;
-use super::{BlobBlock, BodyFault, put_point, take_body};
 use ep_defs::{Bytes, Item, ItemKind};
+use nt_blocks::limits::WRITTEN_BYTES;
+use nt_blocks::{BlobBlock, BodyFault, put_point, take_body};
 use nt_head::HeadState;
 use nt_head::limits::HEAD_BYTES;
 use nt_object::BlockKind;

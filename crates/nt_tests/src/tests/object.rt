@@ -1,5 +1,5 @@
-use crate::{BlockKind, ObjectHead, ObjectKind, padding, put_block, put_start, take_head};
 use ep_defs::standard_info;
+use nt_object::{BlockKind, ObjectHead, ObjectKind, padding, put_block, put_start, take_head};
 use std::alloc::AllocError;
 
 #[test]
