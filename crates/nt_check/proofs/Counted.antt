@@ -78,6 +78,14 @@ numbers_of-more thread kinds kind =
     ap told (flat_map-append (seen_in thread) kinds (kind ∷ []) ∙ ap (λ (more : List Sighting). flat_map (seen_in thread) kinds ++ more) (append-nil (seen_in thread kind)))
     ∙ told-all (flat_map (seen_in thread) kinds) (seen_in thread kind)
 
+-- The numbers of a thread after one event more, of its own or of another thread.
+pub event-step : (now : ℕ → Option Numbers) (thread other number : ℕ) → cond (eqb thread other) (after (now thread) (Seen number)) (now other) ≡ after_all (now other) (cond (eqb thread other) (Seen number ∷ []) [])
+event-step now thread other number =
+    elim (cases_Bool (eqb thread other)) [
+      | inl own ↦ rw own (ap (λ t. after (now t) (Seen number)) (eqb-true thread other own))
+      | inr apart ↦ rw apart refl
+    ]
+
 -- ---- the threads of a point in turn
 
 after_all-append : (numbers : Option Numbers) (a b : List Sighting) → after_all numbers (a ++ b) ≡ after_all (after_all numbers a) b

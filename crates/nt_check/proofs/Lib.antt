@@ -1,3 +1,4 @@
 pub mod Counted
+pub mod Under
 pub mod Rooms
 pub mod Told

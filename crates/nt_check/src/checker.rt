@@ -1,8 +1,9 @@
 //! The checker and its answers.
-ghost use Rattle.std.specs.Prelude.{◌≡◌, ◌↔◌, [], ◌∷◌, ◌++◌, List, Err, IfOk, OnOk, OnErr};
+ghost use Rattle.std.specs.Prelude.{◌≡◌, ◌↔◌, [], ◌∷◌, ◌++◌, List, Err, IfOk, OnOk, OnErr, is_some, not};
 ghost use Rattle.ep_defs.specs.declared.item.ItemKind.{ItemKind};
 ghost use Rattle.nt_blocks.specs.Ordered.{no_names, told_after};
 ghost use Rattle.nt_check.specs.declared.checker.CheckKind.{CheckKind};
+ghost use Rattle.nt_check.specs.Events.{EventRest, event_item};
 ghost use Rattle.nt_check.specs.Faults.{disorder_of};
 ghost use Rattle.nt_check.specs.Numbers.{numbers_of};
 
@@ -40,6 +41,15 @@ impl From<AllocError> for CheckFault {
     fn from(_error: AllocError) -> CheckFault {
         CheckFault::OutOfMemory
     }
+}
+
+/// What an event names: its definition, its capture thread with the thread's number of it, and its stack.
+#[derive(Clone, Copy, Debug, PartialEq, Eq)]
+pub struct EventNames {
+    pub metadata: u32,
+    pub number: u32,
+    pub capture: u64,
+    pub stack: u32,
 }
 
 /// Checks items one after another. It stands for the list of the items that it took.
@@ -81,6 +91,27 @@ impl Checker {
         self.ids.define(kind)?;
         self.threads.see(kind);
         Ok(())
+    }
+
+    /// Takes one more event, as `item` does, of which it wants what it names alone. Answers whether the items before it
+    /// tell nothing of its capture thread.
+    #[inline(always)]
+    pub fn event(&mut self, event: &EventNames) -> Result<bool, CheckFault>
+        ensures taken { OnOk result ((kinds : List ItemKind) → Took kinds self.old → (rest : EventRest)
+            → Took (kinds ++ event_item event.now rest ∷ []) self.new) }
+        ensures first { IfOk result (λ first. (kinds : List ItemKind) → Took kinds self.old
+            → first ≡ not (is_some (numbers_of event.now.capture kinds))) }
+        ensures refused { (kinds : List ItemKind) → Took kinds self.old → (rest : EventRest) → (fault : CheckKind)
+            → (result ≡ Err (Bad fault))
+            ↔ (told_after no_names (kinds ++ event_item event.now rest ∷ []) ≡ Err (disorder_of fault)) }
+        ensures unchanged { OnErr result ((kinds : List ItemKind) → Took kinds self.old
+            → Took kinds self.new) }
+    {
+        if let Some(fault) = self.ids.event_fault(event) {
+            return Err(CheckFault::Bad(fault));
+        }
+        let first = self.threads.count_event(event.capture, event.number)?;
+        Ok(first)
     }
 
     /// What the items that were taken tell of a thread: None exactly where it was no event's capture thread, and no

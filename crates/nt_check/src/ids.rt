@@ -1,19 +1,21 @@
 //! Which ids are defined.
-ghost use Rattle.std.specs.Prelude.{◌≡◌, Ok, Err, List, [], IsOk, OnOk, OnErr, MatchOption};
+ghost use Rattle.std.specs.Prelude.{◌≡◌, Ok, Err, List, [], IsOk, OnOk, OnErr, MatchOption, is_some};
 ghost use Rattle.ep_defs.specs.Entry.{Entry};
 ghost use Rattle.nt_blocks.specs.Ordered.{Disorder, Names, no_names, tell, names_after};
+ghost use Rattle.nt_check.specs.Events.{EventRest, event_item};
 ghost use Rattle.nt_check.specs.Faults.{disorder_of};
+ghost use Rattle.nt_check.specs.state.Ids.{value_at};
 
-use crate::checker::CheckKind;
+use crate::by_id::ById;
+use crate::checker::{CheckKind, EventNames};
 use ep_defs::ItemKind;
 use std::alloc::{AllocError, Global};
-use std::collections::BTreeSet;
 
 /// The metadata ids that are defined, and the stack ids that are defined since the last point.
 #[derive(Drop)]
 pub struct Ids {
-    definitions: BTreeSet<u32>,
-    stacks: BTreeSet<u32>,
+    definitions: ById<()>,
+    stacks: ById<()>,
 }
 
 impl Ids {
@@ -24,9 +26,41 @@ impl Ids {
         ensures { Knows no_names result }
     {
         Ids {
-            definitions: BTreeSet::new(alloc),
-            stacks: BTreeSet::new(alloc),
+            definitions: ById::new(alloc),
+            stacks: ById::new(alloc),
         }
+    }
+
+    // Whether a metadata id is defined.
+    #[inline(always)]
+    fn is_defined(&self, id: u32) -> bool
+        ensures { result ≡ is_some (value_at self.now.definitions id) }
+    {
+        self.definitions.get(u64::from(id)).is_some()
+    }
+
+    // Whether a stack id is defined.
+    #[inline(always)]
+    fn is_stack(&self, id: u32) -> bool
+        ensures { result ≡ is_some (value_at self.now.stacks id) }
+    {
+        self.stacks.get(u64::from(id)).is_some()
+    }
+
+    /// Why an event with these ids can't stand here, if it can't.
+    #[inline(always)]
+    pub fn event_fault(&self, event: &EventNames) -> Option<CheckKind>
+        ensures { (names : Names) → Knows names self.now → (rest : EventRest)
+            → let told = tell names (event_item event.now rest) in
+            MatchOption result (IsOk told) (λ fault. told ≡ Err (disorder_of fault)) }
+    {
+        if !self.is_defined(event.metadata) {
+            return Some(CheckKind::UnknownMetadata { id: event.metadata });
+        }
+        if event.stack != 0 && !self.is_stack(event.stack) {
+            return Some(CheckKind::UnknownStack { id: event.stack });
+        }
+        None
     }
 
     /// Why an item can't stand here, if it can't.
@@ -35,18 +69,24 @@ impl Ids {
             → MatchOption result (IsOk (tell names kind.now)) (λ fault. tell names kind.now ≡ Err (disorder_of fault)) }
     {
         match kind {
-            ItemKind::Meta { id, .. } if self.definitions.contains(id) => {
+            ItemKind::Meta { id, .. } if self.is_defined(*id) => {
                 Some(CheckKind::MetadataTwice { id: *id })
             }
-            ItemKind::Stack { id, .. } if self.stacks.contains(id) => {
+            ItemKind::Stack { id, .. } if self.is_stack(*id) => {
                 Some(CheckKind::StackTwice { id: *id })
             }
-            ItemKind::Event { metadata, .. } if !self.definitions.contains(metadata) => {
-                Some(CheckKind::UnknownMetadata { id: *metadata })
-            }
-            ItemKind::Event { stack, .. } if *stack != 0 && !self.stacks.contains(stack) => {
-                Some(CheckKind::UnknownStack { id: *stack })
-            }
+            ItemKind::Event {
+                metadata,
+                number,
+                capture,
+                stack,
+                ..
+            } => self.event_fault(&EventNames {
+                metadata: *metadata,
+                number: *number,
+                capture: *capture,
+                stack: *stack,
+            }),
             _ => None,
         }
     }
@@ -59,10 +99,10 @@ impl Ids {
     {
         match kind {
             ItemKind::Meta { id, .. } => {
-                self.definitions.insert(*id)?;
+                self.definitions.insert(u64::from(*id), ())?;
             }
             ItemKind::Stack { id, .. } => {
-                self.stacks.insert(*id)?;
+                self.stacks.insert(u64::from(*id), ())?;
             }
             ItemKind::Point { .. } => self.stacks.clear(),
             _ => {}

@@ -1,14 +1,13 @@
 //! The numbers of each thread.
-ghost use Rattle.std.specs.Prelude.{◌≡◌, ℕ, Some, None, IsSome, ◌==◌, OnOk, if◌then◌else◌};
-ghost use Rattle.std.specs.Ordering.{nat_cmp};
-ghost use Rattle.std.specs.BTreeMap.{get};
+ghost use Rattle.std.specs.Prelude.{◌≡◌, ℕ, Some, None, IsSome, is_some, not, ◌==◌, IfOk, OnOk, OnErr, if◌then◌else◌};
 ghost use Rattle.ep_defs.specs.Gaps.{Seen, Known};
 ghost use Rattle.nt_blocks.specs.Seen.{seen_in};
+ghost use Rattle.nt_check.specs.state.Ids.{value_at};
 ghost use Rattle.nt_check.specs.state.Counting.{numbers_in, after, after_all, point_sightings, HasRoom, HasRooms};
 
+use crate::by_id::ById;
 use ep_defs::ItemKind;
 use std::alloc::{AllocError, Global};
-use std::collections::BTreeMap;
 
 /// What the items of a stream tell of a thread.
 #[derive(Clone, Copy, Debug, PartialEq, Eq)]
@@ -24,7 +23,7 @@ pub struct Numbers {
 /// The numbers of each thread that was seen. A thread may have room, and not have been seen yet.
 #[derive(Drop)]
 pub struct Threads {
-    numbers: BTreeMap<u64, Option<Numbers>>,
+    numbers: ById<Option<Numbers>>,
 }
 
 impl Threads {
@@ -33,7 +32,7 @@ impl Threads {
         ensures { (thread : ℕ) → numbers_in result thread ≡ None }
     {
         Threads {
-            numbers: BTreeMap::new(alloc),
+            numbers: ById::new(alloc),
         }
     }
 
@@ -41,7 +40,7 @@ impl Threads {
     pub fn numbers(&self, thread: u64) -> Option<Numbers>
         ensures { result ≡ numbers_in self.now thread }
     {
-        match self.numbers.get(&thread) {
+        match self.numbers.get(thread) {
             Some(numbers) => *numbers,
             None => None,
         }
@@ -62,11 +61,11 @@ impl Threads {
 
     fn make_one_room(&mut self, thread: u64) -> Result<(), AllocError>
         ensures same { (other : ℕ) → numbers_in self.new other ≡ numbers_in self.old other }
-        ensures kept { (other : ℕ) → IsSome (get nat_cmp self.old.numbers other)
-            → IsSome (get nat_cmp self.new.numbers other) }
-        ensures room { OnOk result (IsSome (get nat_cmp self.new.numbers thread)) }
+        ensures kept { (other : ℕ) → IsSome (value_at self.old.numbers other)
+            → IsSome (value_at self.new.numbers other) }
+        ensures room { OnOk result (IsSome (value_at self.new.numbers thread)) }
     {
-        if self.numbers.contains_key(&thread) {
+        if self.numbers.get(thread).is_some() {
             return Ok(());
         }
         self.numbers.insert(thread, None)?;
@@ -81,6 +80,26 @@ impl Threads {
             self.make_one_room(*thread)?;
         }
         Ok(())
+    }
+
+    /// Counts an event of a thread. Answers whether it is the first that is said of the thread. Out of memory, no
+    /// thread's numbers change.
+    #[inline(always)]
+    pub fn count_event(&mut self, thread: u64, number: u32) -> Result<bool, AllocError>
+        ensures ok { OnOk result ((other : ℕ) → numbers_in self.new other
+            ≡ (if thread == other then after (numbers_in self.old thread) (Seen number) else numbers_in self.old other)) }
+        ensures first { IfOk result (λ first. first ≡ not (is_some (numbers_in self.old thread))) }
+        ensures err { OnErr result ((other : ℕ) → numbers_in self.new other ≡ numbers_in self.old other) }
+    {
+        let Some(numbers) = self.numbers.get(thread) else {
+            let numbers = after_event(None, number);
+            self.numbers.insert(thread, Some(numbers))?;
+            return Ok(true);
+        };
+        let before = *numbers;
+        let numbers = after_event(before, number);
+        self.numbers.set(thread, Some(numbers));
+        Ok(before.is_none())
     }
 
     /// Counts what an item says of its threads, for which there is room. It takes no memory.
@@ -101,23 +120,29 @@ impl Threads {
     }
 
     fn see_event(&mut self, thread: u64, number: u32)
-        requires { IsSome (get nat_cmp self.old.numbers thread) }
-        ensures { (other : ℕ) → get nat_cmp self.new.numbers other
-            ≡ (if thread == other then Some (after (numbers_in self.old thread) (Seen number)) else get nat_cmp self.old.numbers other) }
+        requires { IsSome (value_at self.old.numbers thread) }
+        ensures { (other : ℕ) → value_at self.new.numbers other
+            ≡ (if thread == other then Some (after (numbers_in self.old thread) (Seen number)) else value_at self.old.numbers other) }
     {
-        match self.numbers.get_mut(&thread) {
-            Some(numbers) => *numbers = Some(after_event(*numbers, number)),
+        match self.numbers.get(thread) {
+            Some(numbers) => {
+                let after = after_event(*numbers, number);
+                self.numbers.set(thread, Some(after));
+            }
             None => unreachable!(),
         }
     }
 
     fn see_known(&mut self, thread: u64, number: u32)
-        requires { IsSome (get nat_cmp self.old.numbers thread) }
-        ensures { (other : ℕ) → get nat_cmp self.new.numbers other
-            ≡ (if thread == other then Some (after (numbers_in self.old thread) (Known number)) else get nat_cmp self.old.numbers other) }
+        requires { IsSome (value_at self.old.numbers thread) }
+        ensures { (other : ℕ) → value_at self.new.numbers other
+            ≡ (if thread == other then Some (after (numbers_in self.old thread) (Known number)) else value_at self.old.numbers other) }
     {
-        match self.numbers.get_mut(&thread) {
-            Some(numbers) => *numbers = Some(after_known(*numbers, number)),
+        match self.numbers.get(thread) {
+            Some(numbers) => {
+                let after = after_known(*numbers, number);
+                self.numbers.set(thread, Some(after));
+            }
             None => unreachable!(),
         }
     }

@@ -11,7 +11,6 @@ use Rattle.ep_defs.specs.declared.session.Write.{Write}
 use Rattle.ep_defs.specs.declared.item.Item.{Item}
 use Rattle.ep_defs.specs.Entry.{Entry}
 use Rattle.ep_defs.specs.Gaps.{Known, sightings, gaps}
-use Rattle.ep_model.specs.declared.step.Step.TheVariants as step
 use Rattle.ep_model.specs.Chunks.{refused, written}
 use Rattle.ep_model.specs.Entries.{has_stacks}
 use Rattle.ep_model.specs.Faithful.{Share, AreFaithful, kept, events_of, last_sighting, is_kept, is_of, numbered, share_of, shares_of}

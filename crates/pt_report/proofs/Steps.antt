@@ -1,27 +1,28 @@
 -- One item more of what is kept.
-use Rattle.std.proofs.Common.{◌≡◌, ℕ, zero, suc, Bool, true, false, cond, eqb, List, [], ◌∷◌, ◌++◌, map, Option, Some, Result, Ok, Err, refl, sym, ap, ◌∙◌, subst, arith, append_assoc, length}
+use Rattle.std.proofs.Common.{◌≡◌, ℕ, zero, suc, Bool, true, false, cond, eqb, List, [], ◌∷◌, ◌++◌, map, Option, Some, None, Result, Ok, Err, refl, sym, ap, ◌∙◌, subst, append_assoc, length}
 use Rattle.std.proofs.lemmas.List.{map-append, append-nil}
-use Rattle.std.proofs.lemmas.Bool.Decides.{nat_tests}
 use Rattle.std.specs.Prelude.{OnOk, is_err}
 use Rattle.std.specs.declared.cmp.Ordering.{Ordering}
-use Rattle.std.specs.Ordering.{nat_cmp, is_eq}
+use Rattle.std.specs.Ordering.{nat_cmp}
+use Rattle.std.specs.Cmp.Lexicographic.{slice_cmp}
+use Rattle.std.specs.BTreeMap.{get}
 use Rattle.ep_defs.specs.declared.item.ItemKind.{ItemKind}
 use Rattle.ep_defs.specs.Entry.{Entry}
 use Rattle.nt_blocks.specs.Ordered.{Disorder, Names, lookup, tell, names_after, told_after}
+use Rattle.nt_check.specs.state.Ids.{value_at}
 use Rattle.nt_check.specs.state.Took.{names_at}
-use Rattle.std.specs.Option.{option_map}
 use Rattle.pt_num.proofs.Steps.{bind_inv, ok-same}
 use Rattle.ep_defs.specs.declared.event.EventDef.{EventDef}
 use Rattle.pt_report.specs.declared.key.EventKey.{EventKey}
-use Rattle.pt_report.specs.Keys.{key_of}
+use Rattle.pt_report.specs.Keys.{key_of, key_order}
+use Rattle.pt_report.specs.declared.events.EventPlaces.{EventPlaces}
+use Rattle.pt_report.specs.declared.events.Events.{Events}
+use Rattle.pt_report.specs.state.Events.{IsPlaced}
 use Rattle.pt_report.specs.declared.tally.Tally.{Tally}
 use Rattle.pt_report.specs.Report.{stack_in}
 use Rattle.pt_report.specs.state.Counts.{Counts}
-use Rattle.pt_report.specs.state.Stacks.{stack_among}
-
--- Numbers are tied exactly where they are equal.
-pub tied-is : (a b : ℕ) → is_eq (nat_cmp a b) ≡ eqb a b
-tied-is a b = grind (arith, nat_tests)
+use Rattle.pt_report.specs.declared.stacks.Stacks.{Stacks}
+use Rattle.pt_report.specs.state.Stacks.{IsCounted, stack_among}
 
 -- One use more, in place of what it is made of.
 pub use-at : {A K : Type 0} (cmp : K → K → Ordering) (f : A → K) (names : List K) (uses : List A) (x : A) (key : K) (tally : Tally K) → key ≡ f x → Counts cmp names (map f uses ++ key ∷ []) tally → Counts cmp names (map f (uses ++ x ∷ [])) tally
@@ -68,25 +69,59 @@ told-one-more names (first ∷ kinds) kind entries all old new =
           ∙ ap (λ (front : List Entry). front ++ later.0) (ok-same _ entries b.2),
     )
 
--- What the ids stand for after one more.
-pub found-more : (id q : ℕ) (key : EventKey) (def : EventDef) (named : List (ℕ × EventDef)) (before : Option EventKey) → key ≡ key_of def → before ≡ option_map key_of (lookup q named) → cond (is_eq (nat_cmp id q)) (Some key) before ≡ option_map key_of (lookup q ((id, def) ∷ named))
-found-more id q key def named before key-is before-is =
-    ap (λ b. cond b (Some key) before) (tied-is id q) ∙ either (eqb id q)
+-- Where the definitions are counted after one more.
+pub placed-more : (id q : ℕ) (def d : EventDef) (named : List (ℕ × EventDef)) (places : EventPlaces) (old new : Events)
+    → value_at new.metadata q ≡ cond (eqb id q) (Some places) (value_at old.metadata q)
+    → get (slice_cmp nat_cmp) new.providers.places def.provider ≡ Some places.provider → get key_order new.events.places (key_of def) ≡ Some places.event
+    → ((name : List ℕ) (place : ℕ) → get (slice_cmp nat_cmp) old.providers.places name ≡ Some place → get (slice_cmp nat_cmp) new.providers.places name ≡ Some place)
+    → ((key : EventKey) (place : ℕ) → get key_order old.events.places key ≡ Some place → get key_order new.events.places key ≡ Some place)
+    → ((d : EventDef) → lookup q named ≡ Some d → IsPlaced d q old) → lookup q ((id, def) ∷ named) ≡ Some d → IsPlaced d q new
+placed-more id q def d named places old new now provider event providers events before is = either (eqb id q) refl
   where
-    either : (b : Bool) → cond b (Some key) before ≡ option_map key_of (cond b (Some def) (lookup q named))
-    either true = ap Some key-is
+    either : (b : Bool) → eqb id q ≡ b → IsPlaced d q new
+    either true e =
+        let there : ◌≡◌ {A = Option EventDef} (Some def) (Some d) = sym (ap (λ b. cond b (Some def) (lookup q named)) e) ∙ is in
+        let same : def ≡ d = cc in
+        record {
+          places = places;
+          there = now ∙ ap (λ b. cond b (Some places) (value_at old.metadata q)) e;
+          provider = ap (λ (x : EventDef). get (slice_cmp nat_cmp) new.providers.places x.provider) (sym same) ∙ provider;
+          event = ap (λ (x : EventDef). get key_order new.events.places (key_of x)) (sym same) ∙ event;
+        }
+    either false e =
+        let was = before d (sym (ap (λ b. cond b (Some def) (lookup q named)) e) ∙ is) in
+        record {
+          places = was.places;
+          there = now ∙ ap (λ b. cond b (Some places) (value_at old.metadata q)) e ∙ was.there;
+          provider = providers d.provider was.places.provider was.provider;
+          event = events (key_of d) was.places.event was.event;
+        }
+
+-- What the ids stand for after one more.
+pub stack-more : (id q : ℕ) (bytes stack : List ℕ) (named : List (ℕ × List ℕ)) (before : Option (List ℕ)) → stack ≡ bytes → before ≡ lookup q named → cond (eqb id q) (Some stack) before ≡ lookup q ((id, bytes) ∷ named)
+stack-more id q bytes stack named before same before-is = either (eqb id q)
+  where
+    either : (b : Bool) → cond b (Some stack) before ≡ cond b (Some bytes) (lookup q named)
+    either true = ap Some same
     either false = before-is
 
--- What holds of the key that was put there, and of those that stood before, holds of each.
-pub there-more : (P : EventKey → Type 0) (id q : ℕ) (key k : EventKey) (before now : Option EventKey) → now ≡ cond (is_eq (nat_cmp id q)) (Some key) before → now ≡ Some k → P key → (before ≡ Some k → P k) → P k
-there-more P id q key k before now is known new old = either (is_eq (nat_cmp id q)) refl
+-- Where the stacks are counted after one more, which has no place yet.
+pub known-more : (id q place : ℕ) (bytes : List ℕ) (named : List (ℕ × List ℕ)) (old new : Stacks) → value_at new.places q ≡ cond (eqb id q) (Some None) (value_at old.places q) → new.uses ≡ old.uses
+    → (value_at old.places q ≡ Some (Some place) → IsCounted q place named old) → value_at new.places q ≡ Some (Some place) → IsCounted q place ((id, bytes) ∷ named) new
+known-more id q place bytes named old new now same before is = either (eqb id q) refl
   where
-    either : (b : Bool) → is_eq (nat_cmp id q) ≡ b → P k
+    either : (b : Bool) → eqb id q ≡ b → IsCounted q place ((id, bytes) ∷ named) new
     either true e =
-        let there : now ≡ Some key = is ∙ ap (λ b. cond b (Some key) before) e in
-        let same : key ≡ k = cc in
-        subst P same new
-    either false e = old (sym (is ∙ ap (λ b. cond b (Some key) before) e) ∙ known)
+        let none : ◌≡◌ {A = Option (Option ℕ)} (Some None) (Some (Some place)) = sym (now ∙ ap (λ b. cond b (Some None) (value_at old.places q)) e) ∙ is in
+        absurd (cc)
+    either false e =
+        let was = before (sym (now ∙ ap (λ b. cond b (Some None) (value_at old.places q)) e) ∙ is) in
+        record {
+          bytes = was.bytes;
+          stands = ap (λ b. cond b (Some bytes) (lookup q named)) e ∙ was.stands;
+          some = was.some;
+          placed = ap (λ (uses : Tally (List ℕ)). get (slice_cmp nat_cmp) uses.places was.bytes) same ∙ was.placed;
+        }
 
 -- Some bytes are a stack.
 pub some-stack : (bytes : List ℕ) → eqb (length bytes) 0 ≡ false → stack_in bytes ≡ bytes ∷ []

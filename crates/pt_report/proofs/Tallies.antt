@@ -1,16 +1,19 @@
 -- One name more and one use more of a tally.
-use Rattle.std.proofs.Common.{◌≡◌, ℕ, ◌+◌, ◌-◌, ◌^◌, Bool, true, false, cond, List, [], ◌∷◌, ◌++◌, min, Option, Some, None, is_some, refl, sym, ap, ◌∙◌, arith, zero-add}
+use Rattle.std.proofs.Common.{◌≡◌, ℕ, ◌+◌, ◌-◌, ◌^◌, ◌<◌, zero, suc, Bool, true, false, cond, List, [], ◌∷◌, ◌++◌, length, get_or, min, Option, Some, None, is_some, refl, sym, ap, ◌∙◌, arith, zero-add}
+use Rattle.std.proofs.Math.ListN.{set}
+use Rattle.std.proofs.lemmas.Option.{slice_get_within, get_or_from_slice_get}
 use Rattle.std.proofs.lemmas.List.Sums.{sum_by-append, fold-append}
 use Rattle.std.proofs.lemmas.Map.Made.{is_some-lookup}
 use Rattle.std.specs.declared.cmp.Ordering.{Ordering}
 use Rattle.std.specs.declared.cmp.Ordering.TheVariants.{Less, Equal, Greater}
 use Rattle.std.specs.Ordering.{eq_by_cmp, match_ordering}
 use Rattle.std.specs.Cmp.{IsTotalOrder, IsEquivalence, eq_by_cmp_equiv}
-use Rattle.std.specs.List.{count_by, list_any}
-use Rattle.std.specs.Map.{keys_of}
-use Rattle.std.specs.BTreeMap.{get, keys, insert_entry, is_at}
+use Rattle.std.specs.List.{count_by, list_any, slice_get}
+use Rattle.std.specs.Map.{keys_of, lookup}
+use Rattle.std.specs.BTreeMap.{BTreeMap, get, keys, insert_entry, is_at}
 use Rattle.std.specs.BTreeSet.{insert_key}
 use Rattle.nt_check.specs.Numbers.{held}
+use Rattle.nt_check.proofs.Under.{get-set_same, get-set_other}
 use Rattle.pt_report.specs.declared.tally.Tally.{Tally}
 use Rattle.pt_report.specs.Order.{with_key, in_order, uses_of}
 use Rattle.pt_report.specs.state.Counts.{Counts}
@@ -49,98 +52,162 @@ same-uses eq laws a b tied (one ∷ uses) =
 pub held-more : (count : ℕ) → min (held count + 1) (2 ^ 64 - 1) ≡ held (count + 1)
 held-more count = omega arith
 
+-- ---- places
+
+-- What stood in a list stands there with one more behind it.
+get-front : (counts : List ℕ) (last place count : ℕ) → slice_get counts place ≡ Some count → slice_get (counts ++ last ∷ []) place ≡ Some count
+get-front [] last place count e = absurd (cc)
+get-front (first ∷ counts) last zero count e = e
+get-front (first ∷ counts) last (suc place) count e = get-front counts last place count e
+
+get-last : (counts : List ℕ) (last : ℕ) → slice_get (counts ++ last ∷ []) (length counts) ≡ Some last
+get-last [] last = refl
+get-last (first ∷ counts) last = get-last counts last
+
+-- Tests that answer the same find the same.
+lookup-same : {K : Type 0} (p q : K → Bool) → ((key : K) → p key ≡ q key) → (entries : List (K × ℕ)) → lookup p entries ≡ lookup q entries
+lookup-same p q same [] = refl
+lookup-same p q same (entry ∷ entries) =
+    ap (λ b. cond b (Some entry.1) (lookup p entries)) (same entry.0) ∙ ap (λ rest. cond (q entry.0) (Some entry.1) rest) (lookup-same p q same entries)
+
+-- The count at this place after one use more.
+abbrev pub one_more : List ℕ → ℕ → ℕ
+one_more counts place = min (get_or counts place 0 + 1) (2 ^ 64 - 1)
+
 module _ {K : Type 0} (cmp : K → K → Ordering) (total : IsTotalOrder cmp) where
   laws : IsEquivalence (eq_by_cmp cmp)
   laws = eq_by_cmp_equiv total
 
-  pub count-step : (names uses : List K) (old new : Tally K) (key : K) (count : ℕ) → Counts cmp names uses old → keys new.counts ≡ keys old.counts → get cmp old.counts key ≡ Some count → ((q : K) → get cmp new.counts q ≡ cond (eq_by_cmp cmp key q) (Some (min (count + 1) (2 ^ 64 - 1))) (get cmp old.counts q)) → Counts cmp names (uses ++ key ∷ []) new
-  count-step names uses old new key count h same is now =
+  -- Tied keys have the same place.
+  get-tied : (places : BTreeMap K ℕ) (a b : K) → eq_by_cmp cmp a b ≡ true → get cmp places a ≡ get cmp places b
+  get-tied places a b tied = lookup-same (eq_by_cmp cmp a) (eq_by_cmp cmp b) (λ key. laws.congr a b key tied) places.entries
+
+  -- The uses of a key after one use more of a key that it is tied with, or not.
+  uses-tied : (uses : List K) (key q : K) → eq_by_cmp cmp key q ≡ true → min (uses_of cmp uses key + 1) (2 ^ 64 - 1) ≡ uses_of cmp (uses ++ key ∷ []) q
+  uses-tied uses key q e =
+      let tied : eq_by_cmp cmp q key ≡ true = laws.symm q key ∙ e in
+      held-more (count_by (eq_by_cmp cmp key) uses)
+      ∙ ap held
+      (ap (λ m. m + 1) (same-uses (eq_by_cmp cmp) laws key q e uses)
+      ∙ ap (λ b. count_by (eq_by_cmp cmp q) uses + cond b 1 0) (sym tied)
+      ∙ sym (uses-more (eq_by_cmp cmp q) uses key))
+
+  uses-apart : (uses : List K) (key q : K) → eq_by_cmp cmp key q ≡ false → count_by (eq_by_cmp cmp q) (uses ++ key ∷ []) ≡ count_by (eq_by_cmp cmp q) uses
+  uses-apart uses key q e =
+      uses-more (eq_by_cmp cmp q) uses key ∙ ap (λ b. count_by (eq_by_cmp cmp q) uses + cond b 1 0) (laws.symm q key ∙ e) ∙ none (count_by (eq_by_cmp cmp q) uses)
+    where
+      none : (m : ℕ) → m + 0 ≡ m
+      none m = omega arith
+
+  pub count-step : (names uses : List K) (old new : Tally K) (key : K) (place : ℕ) → Counts cmp names uses old → new.places ≡ old.places → get cmp old.places key ≡ Some place → new.counts.items ≡ set old.counts.items place (min (get_or old.counts.items place 0 + 1) (2 ^ 64 - 1)) → Counts cmp names (uses ++ key ∷ []) new
+  count-step names uses old new key place h same is now =
       record {
-        ordered = same ∙ h.ordered;
-        counted = λ q n found. counted q n found (eq_by_cmp cmp key q) refl;
-        unused = λ q none. unused q none (eq_by_cmp cmp key q) refl;
+        ordered = ap keys same ∙ h.ordered;
+        counted = λ q p found. counted q p (before q found) (eq_by_cmp cmp key q) refl;
+        apart = λ one other p a b. h.apart one other p (before one a) (before other b);
+        unused = λ q none. unused q (sym (ap (λ (m : BTreeMap K ℕ). get cmp m q) same) ∙ none) (eq_by_cmp cmp key q) refl;
       }
     where
-      counted : (q : K) (n : ℕ) → get cmp new.counts q ≡ Some n → (b : Bool) → eq_by_cmp cmp key q ≡ b → n ≡ uses_of cmp (uses ++ key ∷ []) q
-      counted q n found true e =
-          let there : get cmp new.counts q ≡ Some (min (count + 1) (2 ^ 64 - 1)) = now q ∙ ap (λ b. cond b (Some (min (count + 1) (2 ^ 64 - 1))) (get cmp old.counts q)) e in
-          let n-is : n ≡ min (count + 1) (2 ^ 64 - 1) = cc in
-          let tied : eq_by_cmp cmp q key ≡ true = laws.symm q key ∙ e in
-          n-is
-          ∙ ap (λ m. min (m + 1) (2 ^ 64 - 1)) (h.counted key count is)
-          ∙ held-more (count_by (eq_by_cmp cmp key) uses)
-          ∙ ap held
-          (ap (λ m. m + 1) (same-uses (eq_by_cmp cmp) laws key q e uses)
-          ∙ ap (λ b. count_by (eq_by_cmp cmp q) uses + cond b 1 0) (sym tied)
-          ∙ sym (uses-more (eq_by_cmp cmp q) uses key))
-      counted q n found false e =
-          let there : get cmp new.counts q ≡ get cmp old.counts q = now q ∙ ap (λ b. cond b (Some (min (count + 1) (2 ^ 64 - 1))) (get cmp old.counts q)) e in
-          let apart : eq_by_cmp cmp q key ≡ false = laws.symm q key ∙ e in
-          h.counted q n (sym there ∙ found)
-          ∙ ap held (none (count_by (eq_by_cmp cmp q) uses) ∙ ap (λ b. count_by (eq_by_cmp cmp q) uses + cond b 1 0) (sym apart) ∙ sym (uses-more (eq_by_cmp cmp q) uses key))
-        where
-          none : (m : ℕ) → m ≡ m + 0
-          none m = omega arith
+      before : (q : K) {p : ℕ} → get cmp new.places q ≡ Some p → get cmp old.places q ≡ Some p
+      before q found = sym (ap (λ (m : BTreeMap K ℕ). get cmp m q) same) ∙ found
 
-      unused : (q : K) → get cmp new.counts q ≡ None → (b : Bool) → eq_by_cmp cmp key q ≡ b → count_by (eq_by_cmp cmp q) (uses ++ key ∷ []) ≡ 0
+      counted : (q : K) (p : ℕ) → get cmp old.places q ≡ Some p → (b : Bool) → eq_by_cmp cmp key q ≡ b → slice_get new.counts.items p ≡ Some (uses_of cmp (uses ++ key ∷ []) q)
+      counted q p found true e =
+          let there : Some place ≡ Some p = sym is ∙ get-tied old.places key q e ∙ found in
+          let p-is : place ≡ p = cc in
+          let was = h.counted key place is in
+          ap (λ l. slice_get l p) now
+          ∙ ap (λ i. slice_get (set old.counts.items place (one_more old.counts.items place)) i) (sym p-is)
+          ∙ get-set_same old.counts.items place (one_more old.counts.items place) (slice_get_within old.counts.items place (uses_of cmp uses key) was)
+          ∙ ap (λ n. Some (min (n + 1) (2 ^ 64 - 1))) (get_or_from_slice_get old.counts.items place (uses_of cmp uses key) 0 was)
+          ∙ ap Some (uses-tied uses key q e)
+      counted q p found false e =
+          ap (λ l. slice_get l p) now
+          ∙ get-set_other old.counts.items place p (one_more old.counts.items place) (differ e)
+          ∙ h.counted q p found
+          ∙ ap (λ n. Some (held n)) (sym (uses-apart uses key q e))
+        where
+          differ : eq_by_cmp cmp key q ≡ false → place ≡ p → ⊥
+          differ e p-is =
+              let tied : eq_by_cmp cmp key q ≡ true = h.apart key q p (is ∙ ap Some p-is) found in cc
+
+      unused : (q : K) → get cmp old.places q ≡ None → (b : Bool) → eq_by_cmp cmp key q ≡ b → count_by (eq_by_cmp cmp q) (uses ++ key ∷ []) ≡ 0
       unused q none true e =
-          let there : get cmp new.counts q ≡ Some (min (count + 1) (2 ^ 64 - 1)) = now q ∙ ap (λ b. cond b (Some (min (count + 1) (2 ^ 64 - 1))) (get cmp old.counts q)) e in
+          let there : Some place ≡ None = sym is ∙ get-tied old.places key q e ∙ none in
           absurd (cc)
-      unused q none false e =
-          let there : get cmp new.counts q ≡ get cmp old.counts q = now q ∙ ap (λ b. cond b (Some (min (count + 1) (2 ^ 64 - 1))) (get cmp old.counts q)) e in
-          let apart : eq_by_cmp cmp q key ≡ false = laws.symm q key ∙ e in
-          uses-more (eq_by_cmp cmp q) uses key ∙ ap (λ b. count_by (eq_by_cmp cmp q) uses + cond b 1 0) apart ∙ zero (h.unused q (sym there ∙ none))
-        where
-          zero : count_by (eq_by_cmp cmp q) uses ≡ 0 → count_by (eq_by_cmp cmp q) uses + 0 ≡ 0
-          zero e = omega (arith, e)
+      unused q none false e = uses-apart uses key q e ∙ h.unused q none
 
-  pub name-new : (names uses : List K) (old new : Tally K) (key : K) → Counts cmp names uses old → is_some (get cmp old.counts key) ≡ false → new.counts.entries ≡ insert_entry cmp old.counts.entries key 0 → ((q : K) → get cmp new.counts q ≡ cond (eq_by_cmp cmp key q) (Some 0) (get cmp old.counts q)) → Counts cmp (names ++ key ∷ []) uses new
-  name-new names uses old new key h absent entries now =
+  pub name-new : (names uses : List K) (old new : Tally K) (key : K) (place : ℕ) → Counts cmp names uses old → get cmp old.places key ≡ None → place ≡ length old.counts.items → new.counts.items ≡ old.counts.items ++ 0 ∷ [] → new.places.entries ≡ insert_entry cmp old.places.entries key place → ((q : K) → get cmp new.places q ≡ cond (eq_by_cmp cmp key q) (Some place) (get cmp old.places q)) → Counts cmp (names ++ key ∷ []) uses new
+  name-new names uses old new key place h absent last counts entries now =
       record {
         ordered =
             ap keys_of entries
-            ∙ keys-insert_entry cmp old.counts.entries key 0
+            ∙ keys-insert_entry cmp old.places.entries key place
             ∙ ap (λ ks. insert_key cmp ks key) h.ordered
             ∙ ap (λ b. cond b (in_order cmp names) (insert_key cmp (in_order cmp names) key)) (sym unknown)
             ∙ sym (in_order-more cmp names key);
-        counted = λ q n found. counted q n found (eq_by_cmp cmp key q) refl;
+        counted = λ q p found. counted q p found (eq_by_cmp cmp key q) refl;
+        apart = λ one other p a b. apart one other p a b (eq_by_cmp cmp key one) refl (eq_by_cmp cmp key other) refl;
         unused = λ q none. unused q none (eq_by_cmp cmp key q) refl;
       }
     where
       unknown : list_any (eq_by_cmp cmp key) (in_order cmp names) ≡ false
-      unknown = ap (list_any (eq_by_cmp cmp key)) (sym h.ordered) ∙ sym (is_some-lookup (is_at (cmp key)) old.counts.entries) ∙ absent
+      unknown = ap (list_any (eq_by_cmp cmp key)) (sym h.ordered) ∙ sym (is_some-lookup (is_at (cmp key)) old.places.entries) ∙ ap is_some absent
 
-      is-none : (o : Option ℕ) → is_some o ≡ false → o ≡ None
-      is-none None e = refl
-      is-none (Some n) e = absurd (cc)
+      at-key : (q : K) (p : ℕ) → eq_by_cmp cmp key q ≡ true → get cmp new.places q ≡ Some p → p ≡ place
+      at-key q p e found =
+          let there : get cmp new.places q ≡ Some place = now q ∙ ap (λ b. cond b (Some place) (get cmp old.places q)) e in cc
 
-      counted : (q : K) (n : ℕ) → get cmp new.counts q ≡ Some n → (b : Bool) → eq_by_cmp cmp key q ≡ b → n ≡ uses_of cmp uses q
-      counted q n found true e =
-          let there : get cmp new.counts q ≡ Some 0 = now q ∙ ap (λ b. cond b (Some 0) (get cmp old.counts q)) e in
-          let n-is : n ≡ 0 = cc in
-          n-is ∙ ap held (sym (h.unused key (is-none (get cmp old.counts key) absent)) ∙ same-uses (eq_by_cmp cmp) laws key q e uses)
-      counted q n found false e =
-          let there : get cmp new.counts q ≡ get cmp old.counts q = now q ∙ ap (λ b. cond b (Some 0) (get cmp old.counts q)) e in
-          h.counted q n (sym there ∙ found)
+      before : (q : K) {o : Option ℕ} → eq_by_cmp cmp key q ≡ false → get cmp new.places q ≡ o → get cmp old.places q ≡ o
+      before q e found = sym (now q ∙ ap (λ b. cond b (Some place) (get cmp old.places q)) e) ∙ found
 
-      unused : (q : K) → get cmp new.counts q ≡ None → (b : Bool) → eq_by_cmp cmp key q ≡ b → count_by (eq_by_cmp cmp q) uses ≡ 0
+      counted : (q : K) (p : ℕ) → get cmp new.places q ≡ Some p → (b : Bool) → eq_by_cmp cmp key q ≡ b → slice_get new.counts.items p ≡ Some (uses_of cmp uses q)
+      counted q p found true e =
+          ap (λ l. slice_get l p) counts
+          ∙ ap (λ i. slice_get (old.counts.items ++ 0 ∷ []) i) (at-key q p e found ∙ last)
+          ∙ get-last old.counts.items 0
+          ∙ ap (λ n. Some (held n)) (sym (h.unused key absent) ∙ same-uses (eq_by_cmp cmp) laws key q e uses)
+      counted q p found false e =
+          ap (λ l. slice_get l p) counts
+          ∙ get-front old.counts.items 0 p (uses_of cmp uses q) (h.counted q p (before q e found))
+
+      -- A key that stood there has not the last place.
+      not-last : (q : K) (p : ℕ) → get cmp old.places q ≡ Some p → p ≡ place → ⊥
+      not-last q p found same =
+          let within : p < length old.counts.items = slice_get_within old.counts.items p (uses_of cmp uses q) (h.counted q p found) in
+          omega (arith, within, same, last)
+
+      apart : (one other : K) (p : ℕ) → get cmp new.places one ≡ Some p → get cmp new.places other ≡ Some p → (a : Bool) → eq_by_cmp cmp key one ≡ a → (b : Bool) → eq_by_cmp cmp key other ≡ b → eq_by_cmp cmp one other ≡ true
+      apart one other p x y true e true f = sym (laws.congr key one other e) ∙ f
+      apart one other p x y true e false f = absurd (not-last other p (before other f y) (at-key one p e x))
+      apart one other p x y false e true f = absurd (not-last one p (before one e x) (at-key other p f y))
+      apart one other p x y false e false f = h.apart one other p (before one e x) (before other f y)
+
+      unused : (q : K) → get cmp new.places q ≡ None → (b : Bool) → eq_by_cmp cmp key q ≡ b → count_by (eq_by_cmp cmp q) uses ≡ 0
       unused q none true e =
-          let there : get cmp new.counts q ≡ Some 0 = now q ∙ ap (λ b. cond b (Some 0) (get cmp old.counts q)) e in
+          let there : get cmp new.places q ≡ Some place = now q ∙ ap (λ b. cond b (Some place) (get cmp old.places q)) e in
           absurd (cc)
-      unused q none false e =
-          let there : get cmp new.counts q ≡ get cmp old.counts q = now q ∙ ap (λ b. cond b (Some 0) (get cmp old.counts q)) e in
-          h.unused q (sym there ∙ none)
+      unused q none false e = h.unused q (before q e none)
 
-  pub name-old : (names uses : List K) (old : Tally K) (key : K) → Counts cmp names uses old → is_some (get cmp old.counts key) ≡ true → Counts cmp (names ++ key ∷ []) uses old
-  name-old names uses old key h there =
+  pub name-known : (names uses : List K) (old : Tally K) (key : K) → Counts cmp names uses old → list_any (eq_by_cmp cmp key) (in_order cmp names) ≡ true → Counts cmp (names ++ key ∷ []) uses old
+  name-known names uses old key h known =
       record {
         ordered =
             h.ordered
             ∙ ap (λ b. cond b (in_order cmp names) (insert_key cmp (in_order cmp names) key)) (sym known)
             ∙ sym (in_order-more cmp names key);
         counted = h.counted;
+        apart = h.apart;
         unused = h.unused;
       }
-    where
-      known : list_any (eq_by_cmp cmp key) (in_order cmp names) ≡ true
-      known = ap (list_any (eq_by_cmp cmp key)) (sym h.ordered) ∙ sym (is_some-lookup (is_at (cmp key)) old.counts.entries) ∙ there
+
+  pub name-old : (names uses : List K) (old : Tally K) (key : K) → Counts cmp names uses old → is_some (get cmp old.places key) ≡ true → Counts cmp (names ++ key ∷ []) uses old
+  name-old names uses old key h there =
+      name-known names uses old key h (ap (list_any (eq_by_cmp cmp key)) (sym h.ordered) ∙ sym (is_some-lookup (is_at (cmp key)) old.places.entries) ∙ there)
+
+  -- How often a key was counted stands at its place, and is 0 where it has none.
+  pub uses-at : (names uses : List K) (tally : Tally K) (key : K) (place : ℕ) → Counts cmp names uses tally → get cmp tally.places key ≡ Some place → get_or tally.counts.items place 0 ≡ uses_of cmp uses key
+  uses-at names uses tally key place h is = get_or_from_slice_get tally.counts.items place (uses_of cmp uses key) 0 (h.counted key place is)
+
+  pub uses-none : (names uses : List K) (tally : Tally K) (key : K) → Counts cmp names uses tally → get cmp tally.places key ≡ None → 0 ≡ uses_of cmp uses key
+  uses-none names uses tally key h is = ap held (sym (h.unused key is))

@@ -1,10 +1,14 @@
 //! What the items of a stream come to.
-ghost use Rattle.std.specs.Prelude.{◌≡◌, ℕ, [], ◌∷◌, ◌++◌, List, map, Ok, OnOk};
+ghost use Rattle.std.specs.Prelude.{◌≡◌, ℕ, false, [], ◌∷◌, ◌++◌, List, map, Ok, OnOk, IsSome};
 ghost use Rattle.std.specs.Ordering.{nat_cmp};
 ghost use Rattle.ep_defs.specs.declared.item.ItemKind.{ItemKind};
 ghost use Rattle.ep_defs.specs.Entry.{Entry};
 ghost use Rattle.nt_blocks.specs.Ordered.{no_names, tell};
+ghost use Rattle.nt_check.specs.Events.{EventRest, event_item};
+ghost use Rattle.nt_check.specs.Numbers.{numbers_of};
 ghost use Rattle.nt_check.specs.state.Took.{names_at};
+ghost use Rattle.std.specs.List.{flat_map};
+ghost use Rattle.pt_report.specs.Report.{threads_in};
 ghost use Rattle.pt_report.specs.state.Counts.{Counts};
 ghost use Rattle.pt_report.specs.state.Shows.{Shows, with_total};
 
@@ -12,6 +16,7 @@ use crate::events::Events;
 use crate::stacks::Stacks;
 use crate::tally::Tally;
 use ep_defs::{ItemKind, TraceInfo};
+use nt_check::EventNames;
 use std::alloc::{AllocError, Global};
 
 /// How many items of each kind there are, each held at the greatest count.
@@ -68,6 +73,28 @@ impl Counters {
         }
     }
 
+    /// One event more, which can stand where it does, of which what it names is enough. Its thread need not be named
+    /// again where the items before it tell something of it. Where it is out of memory, a part of it may be counted.
+    #[inline(always)]
+    pub fn count_event(
+        &mut self,
+        alloc: Global,
+        event: &EventNames,
+        is_first: bool,
+    ) -> Result<(), AllocError>
+        ensures { OnOk result ((kinds : List ItemKind) → (entries : List Entry)
+            → (more : List Entry) → (rest : EventRest) → Shows kinds entries self.old
+            → (is_first ≡ false → IsSome (numbers_of event.now.capture kinds))
+            → tell (names_at no_names kinds) (event_item event.now rest) ≡ Ok more
+            → Shows (kinds ++ event_item event.now rest ∷ []) (entries ++ more) self.new) }
+    {
+        self.totals.events = self.totals.events.saturating_add(1);
+        name_one(&mut self.threads, event.capture, is_first)?;
+        self.stacks.count(alloc, event.stack)?;
+        self.events.count(event.metadata);
+        Ok(())
+    }
+
     /// One item more, which can stand where it does. Where it is out of memory, a part of the item may be counted.
     pub fn count(&mut self, alloc: Global, kind: &ItemKind) -> Result<(), AllocError>
         ensures { OnOk result ((kinds : List ItemKind) → (entries : List Entry)
@@ -103,6 +130,19 @@ impl Counters {
             }
         }
     }
+}
+
+// Names the thread of an event, unless the items before it name it.
+#[inline(always)]
+fn name_one(tally: &mut Tally<u64>, thread: u64, is_first: bool) -> Result<(), AllocError>
+    ensures { OnOk result ((kinds : List ItemKind) → (is_first ≡ false → IsSome (numbers_of thread kinds))
+        → Counts nat_cmp (flat_map threads_in kinds) [] tally.old
+        → Counts nat_cmp (flat_map threads_in kinds ++ thread ∷ []) [] tally.new) }
+{
+    if is_first {
+        tally.name(thread)?;
+    }
+    Ok(())
 }
 
 // Names the threads of a point.

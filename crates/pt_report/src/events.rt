@@ -7,14 +7,21 @@ ghost use Rattle.pt_report.specs.state.Events.{ShowsEvents};
 use crate::key::{EventKey, Text};
 use crate::tally::Tally;
 use ep_defs::{Duplicate, EventDef};
+use nt_check::ById;
 use std::alloc::{AllocError, Global};
-use std::collections::BTreeMap;
+
+/// Where the events of a definition are counted: the places of its provider and of its event.
+#[derive(Clone, Copy, Drop)]
+pub struct EventPlaces {
+    provider: usize,
+    event: usize,
+}
 
 /// What is counted by definitions.
 #[derive(Drop)]
 pub struct Events {
-    // What each metadata id stands for.
-    metadata: BTreeMap<u32, EventKey>,
+    // Where the events of each metadata id are counted.
+    metadata: ById<EventPlaces>,
     pub(crate) providers: Tally<Text<u16>>,
     pub(crate) events: Tally<EventKey>,
 }
@@ -24,7 +31,7 @@ impl Events {
         ensures { ShowsEvents [] [] [] result }
     {
         Events {
-            metadata: BTreeMap::new(alloc),
+            metadata: ById::new(alloc),
             providers: Tally::new(alloc),
             events: Tally::new(alloc),
         }
@@ -37,21 +44,24 @@ impl Events {
             → ShowsEvents (defs ++ def.now ∷ []) uses ((id, def.now) ∷ named) self.new) }
     {
         let key = EventKey::of(alloc, def)?;
-        self.providers.name(key.provider.copy(alloc)?)?;
-        self.events.name(key.copy(alloc)?)?;
-        self.metadata.insert(id, key)?;
+        let provider = self.providers.name(key.provider.copy(alloc)?)?;
+        let event = self.events.name(key)?;
+        self.metadata
+            .insert(u64::from(id), EventPlaces { provider, event })?;
         Ok(())
     }
 
     /// One event more, of the definition under this metadata id.
+    #[inline(always)]
     pub fn count(&mut self, id: u32)
         ensures { (defs : List EventDef) → (uses : List EventDef) → (named : List (ℕ × EventDef))
             → (def : EventDef) → ShowsEvents defs uses named self.old → lookup id named ≡ Some def
             → ShowsEvents defs (uses ++ def ∷ []) named self.new }
     {
-        if let Some(key) = self.metadata.get(&id) {
-            self.providers.count(&key.provider);
-            self.events.count(key);
+        if let Some(places) = self.metadata.get(u64::from(id)) {
+            let EventPlaces { provider, event } = *places;
+            self.providers.count(provider);
+            self.events.count(event);
         }
     }
 }

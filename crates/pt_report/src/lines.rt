@@ -1,11 +1,16 @@
 //! The lines of a report.
-ghost use Rattle.std.specs.Prelude.{◌≡◌, ◌++◌, List, OnOk};
+ghost use Rattle.std.specs.Prelude.{◌≡◌, ℕ, ◌++◌, List, OnOk};
 ghost use Rattle.std.specs.List.{flat_map};
 ghost use Rattle.std.specs.BTreeMap.{keys};
+ghost use Rattle.std.specs.Cmp.Lexicographic.{slice_cmp};
+ghost use Rattle.std.specs.Ordering.{nat_cmp};
 ghost use Rattle.ep_defs.specs.declared.item.ItemKind.{ItemKind};
 ghost use Rattle.nt_check.specs.Numbers.{numbers_of};
 ghost use Rattle.nt_check.specs.state.Took.{Took};
-ghost use Rattle.pt_report.specs.Report.{trace_lines, items_line, provider_line, event_line, event_numbers, thread_line, numbers_line, stack_line};
+ghost use Rattle.pt_report.specs.declared.key.EventKey.{EventKey};
+ghost use Rattle.pt_report.specs.Keys.{key_order};
+ghost use Rattle.pt_report.specs.Report.{trace_lines, items_line, lines_of, provider_line, event_line, event_numbers, thread_line, numbers_line, stack_line};
+ghost use Rattle.pt_report.specs.state.Counts.{Counts};
 
 use crate::counters::Totals;
 use crate::key::{EventKey, Text};
@@ -41,11 +46,12 @@ pub fn put_items(out: &mut Vec<u8>, totals: &Totals) -> Result<(), AllocError>
 }
 
 pub fn put_providers(out: &mut Vec<u8>, providers: &Tally<Text<u16>>) -> Result<(), AllocError>
-    ensures { OnOk result (out.new.items
-        ≡ out.old.items ++ flat_map (λ entry. provider_line entry.0 entry.1) providers.now.counts.entries) }
+    ensures { OnOk result ((names : List (List ℕ)) → (uses : List (List ℕ))
+        → Counts (slice_cmp nat_cmp) names uses providers.now
+        → out.new.items ≡ out.old.items ++ lines_of (slice_cmp nat_cmp) provider_line names uses) }
 {
-    for (name, events) in &providers.counts {
-        put_provider(out, name.as_slice(), *events)?;
+    for name in providers.places.keys() {
+        put_provider(out, name.as_slice(), providers.uses(name))?;
     }
     Ok(())
 }
@@ -60,11 +66,12 @@ fn put_provider(out: &mut Vec<u8>, name: &[u16], events: u64) -> Result<(), Allo
 }
 
 pub fn put_events(out: &mut Vec<u8>, counts: &Tally<EventKey>) -> Result<(), AllocError>
-    ensures { OnOk result (out.new.items
-        ≡ out.old.items ++ flat_map (λ entry. event_line entry.0 entry.1) counts.now.counts.entries) }
+    ensures { OnOk result ((names : List EventKey) → (uses : List EventKey)
+        → Counts key_order names uses counts.now
+        → out.new.items ≡ out.old.items ++ lines_of key_order event_line names uses) }
 {
-    for (event, events) in &counts.counts {
-        put_event(out, event, *events)?;
+    for event in counts.places.keys() {
+        put_event(out, event, counts.uses(event))?;
     }
     Ok(())
 }
@@ -93,9 +100,9 @@ pub fn put_threads(
     checker: &Checker,
 ) -> Result<(), AllocError>
     ensures { OnOk result ((kinds : List ItemKind) → Took kinds checker.now → out.new.items ≡ out.old.items
-        ++ flat_map (λ thread. numbers_line thread (numbers_of thread kinds)) (keys threads.now.counts)) }
+        ++ flat_map (λ thread. numbers_line thread (numbers_of thread kinds)) (keys threads.now.places)) }
 {
-    for thread in threads.counts.keys() {
+    for thread in threads.places.keys() {
         if let Some(numbers) = checker.gaps(*thread) {
             put_thread(out, *thread, &numbers)?;
         }
@@ -119,11 +126,12 @@ pub fn put_stacks(
     alloc: Global,
     stacks: &Tally<Text<u8>>,
 ) -> Result<(), AllocError>
-    ensures { OnOk result (out.new.items
-        ≡ out.old.items ++ flat_map (λ entry. stack_line entry.0 entry.1) stacks.now.counts.entries) }
+    ensures { OnOk result ((names : List (List ℕ)) → (uses : List (List ℕ))
+        → Counts (slice_cmp nat_cmp) names uses stacks.now
+        → out.new.items ≡ out.old.items ++ lines_of (slice_cmp nat_cmp) stack_line names uses) }
 {
-    for (stack, events) in &stacks.counts {
-        put_stack(out, alloc, stack.as_slice(), *events)?;
+    for stack in stacks.places.keys() {
+        put_stack(out, alloc, stack.as_slice(), stacks.uses(stack))?;
     }
     Ok(())
 }

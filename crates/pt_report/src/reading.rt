@@ -1,15 +1,21 @@
 //! A stream that is read and reported piece by piece.
-ghost use Rattle.std.specs.Prelude.{◌≡◌, ◌+◌, ◌^◌, ◌<◌, ◌≤◌, ◌++◌, ℕ, [], ◌∷◌, List, length, IfOk, OnOk};
+ghost use Rattle.std.specs.Prelude.{◌≡◌, ◌+◌, ◌^◌, ◌<◌, ◌≤◌, ◌++◌, ◌↔◌, ℕ, [], ◌∷◌, List, length, Err, IfOk, OnOk};
 ghost use Rattle.ep_defs.specs.declared.item.Item.{Item};
+ghost use Rattle.ep_defs.specs.declared.item.ItemKind.{ItemKind};
+ghost use Rattle.nt_blocks.specs.Ordered.{no_names, told_after};
 ghost use Rattle.nt_blocks.specs.Verdict.{verdict};
+ghost use Rattle.nt_check.specs.declared.checker.CheckFault.TheVariants.{Bad};
+ghost use Rattle.nt_check.specs.declared.checker.CheckKind.{CheckKind};
+ghost use Rattle.nt_check.specs.Faults.{disorder_of};
 ghost use Rattle.nt_read.specs.Answers.{Gives, items_of};
 ghost use Rattle.nt_read.specs.Reading as reading;
 ghost use Rattle.pt_report.specs.state.Read.{IsChecked, HasRead, IsOutcome, used};
+ghost use Rattle.pt_report.specs.state.Taken.{HasTaken};
 
 use crate::errors::{Flaw, Refusal};
 use crate::report::Report;
-use ep_defs::Item;
-use nt_check::{CheckFault, CheckKind};
+use ep_defs::{Item, ItemKind};
+use nt_check::{CheckFault, CheckKind, EventNames};
 use nt_read::{ReadFault, TraceReader};
 use pt_command::Reads;
 use std::alloc::{AllocError, Global};
@@ -130,10 +136,35 @@ fn check(
     if misplaced.is_some() {
         return Ok(());
     }
-    match report.item(&item.kind) {
+    match take(report, &item.kind) {
         Ok(()) => {}
         Err(CheckFault::Bad(kind)) => *misplaced = Some(Misplaced { at: item.at, kind }),
         Err(CheckFault::OutOfMemory) => return Err(AllocError),
     }
     Ok(())
+}
+
+// Gives a report one item more.
+fn take(report: &mut Report, kind: &ItemKind) -> Result<(), CheckFault>
+    ensures taken { OnOk result ((kinds : List ItemKind) → HasTaken kinds report.old
+        → HasTaken (kinds ++ kind.now ∷ []) report.new) }
+    ensures refused { (kinds : List ItemKind) → HasTaken kinds report.old → (fault : CheckKind)
+        → (result ≡ Err (Bad fault))
+        ↔ (told_after no_names (kinds ++ kind.now ∷ []) ≡ Err (disorder_of fault)) }
+{
+    match kind {
+        ItemKind::Event {
+            metadata,
+            number,
+            capture,
+            stack,
+            ..
+        } => report.event(&EventNames {
+            metadata: *metadata,
+            number: *number,
+            capture: *capture,
+            stack: *stack,
+        }),
+        _ => report.item(kind),
+    }
 }

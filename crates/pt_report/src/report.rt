@@ -5,12 +5,13 @@ ghost use Rattle.ep_defs.specs.Entry.{Entry};
 ghost use Rattle.nt_blocks.specs.Ordered.{no_names, told_after};
 ghost use Rattle.nt_check.specs.declared.checker.CheckKind.{CheckKind};
 ghost use Rattle.nt_check.specs.declared.checker.CheckFault.TheVariants.{Bad, OutOfMemory};
+ghost use Rattle.nt_check.specs.Events.{EventRest, event_item};
 ghost use Rattle.nt_check.specs.Faults.{disorder_of};
 
 use crate::counters::Counters;
 use crate::lines;
 use ep_defs::ItemKind;
-use nt_check::{CheckFault, Checker};
+use nt_check::{CheckFault, Checker, EventNames};
 use std::alloc::{AllocError, Global};
 
 /// What the items of a stream come to.
@@ -64,6 +65,42 @@ impl Report {
             return Err(CheckFault::OutOfMemory);
         }
         Ok(())
+    }
+
+    /// Takes one more event, as `item` takes it, of which what it names is enough.
+    #[inline(always)]
+    pub(crate) fn event(&mut self, event: &EventNames) -> Result<(), CheckFault>
+        ensures taken { OnOk result ((kinds : List ItemKind) → HasTaken kinds self.old → (rest : EventRest)
+            → HasTaken (kinds ++ event_item event.now rest ∷ []) self.new) }
+        ensures refused { (kinds : List ItemKind) → HasTaken kinds self.old → (rest : EventRest) → (fault : CheckKind)
+            → (result ≡ Err (Bad fault))
+            ↔ (told_after no_names (kinds ++ event_item event.now rest ∷ []) ≡ Err (disorder_of fault)) }
+    {
+        if self.failed {
+            return Err(CheckFault::OutOfMemory);
+        }
+        let is_first = match self.checker.event(event) {
+            Ok(is_first) => is_first,
+            Err(CheckFault::Bad(kind)) => return Err(CheckFault::Bad(kind)),
+            Err(CheckFault::OutOfMemory) => return Err(self.fail()),
+        };
+        if self
+            .counters
+            .count_event(self.alloc, event, is_first)
+            .is_err()
+        {
+            return Err(self.fail());
+        }
+        Ok(())
+    }
+
+    // It has found no memory.
+    #[inline(never)]
+    fn fail(&mut self) -> CheckFault
+        ensures { result ≡ OutOfMemory }
+    {
+        self.failed = true;
+        CheckFault::OutOfMemory
     }
 
     /// The report of the items that were taken.

@@ -1,13 +1,12 @@
 -- What the map of the threads stands for, and how one number more changes it.
 use Rattle.std.specs.Prelude.{◌≡◌, ℕ, ◌+◌, List, [], ◌∷◌, map, filter, Option, Some, None, IsSome, unwrap_or, ◌==◌, slice_get}
-use Rattle.std.specs.BTreeMap.{get}
-use Rattle.std.specs.Ordering.{nat_cmp}
 use Rattle.ep_defs.specs.declared.item.ItemKind.{ItemKind}
 use Rattle.ep_defs.specs.declared.item.ItemKind.TheVariants as item
 use Rattle.ep_defs.specs.Gaps.{Sighting, Seen, Known, distance}
 use Rattle.nt_check.specs.declared.threads.Numbers.{Numbers}
 use Rattle.nt_check.specs.declared.threads.Threads.{Threads}
 use Rattle.nt_check.specs.Numbers.{held}
+use Rattle.nt_check.specs.state.Ids.{value_at}
 
 -- A room that is empty tells as little as none.
 abbrev pub in_room : Option (Option Numbers) → Option Numbers
@@ -16,7 +15,7 @@ in_room None = None
 
 -- The numbers of a thread that was seen.
 abbrev pub numbers_in : Threads → ℕ → Option Numbers
-numbers_in threads thread = in_room (get nat_cmp threads.numbers thread)
+numbers_in threads thread = in_room (value_at threads.numbers thread)
 
 -- The numbers before anything is told.
 abbrev pub nothing : Numbers
@@ -43,11 +42,11 @@ point_sightings thread threads = map (λ t. Known t.1) (filter (λ t. t.0 == thr
 -- There is room for each of these threads.
 abbrev pub HasRooms : List (ℕ × ℕ) → Threads → Type 0
 HasRooms pairs threads =
-    (place : ℕ) (pair : ℕ × ℕ) → slice_get pairs place ≡ Some pair → IsSome (get nat_cmp threads.numbers pair.0)
+    (place : ℕ) (pair : ℕ × ℕ) → slice_get pairs place ≡ Some pair → IsSome (value_at threads.numbers pair.0)
 
 -- There is room for each thread that an item speaks of.
 abbrev pub HasRoom : ItemKind → Threads → Type 0
-HasRoom (item.Event metadata number capture processor thread stack stamp activity related payload) threads = IsSome (get nat_cmp threads.numbers capture)
+HasRoom (item.Event metadata number capture processor thread stack stamp activity related payload) threads = IsSome (value_at threads.numbers capture)
 HasRoom (item.Point stamp pairs) threads = HasRooms pairs threads
 HasRoom (item.Trace info) threads = Unit {0}
 HasRoom (item.Meta id def) threads = Unit {0}

@@ -1,18 +1,17 @@
 -- The items that a checker stands for.
 use Rattle.std.specs.Prelude.{◌≡◌, ℕ, List, [], ◌∷◌, is_some, IsOk}
-use Rattle.std.specs.BTreeSet.{contains}
-use Rattle.std.specs.Ordering.{nat_cmp}
 use Rattle.ep_defs.specs.declared.item.ItemKind.{ItemKind}
 use Rattle.nt_blocks.specs.Ordered.{Names, no_names, lookup, names_after, told_after}
 use Rattle.nt_check.specs.declared.ids.Ids.{Ids}
 use Rattle.nt_check.specs.declared.checker.Checker.{Checker}
 use Rattle.nt_check.specs.Numbers.{numbers_of}
 use Rattle.nt_check.specs.state.Counting.{numbers_in}
+use Rattle.nt_check.specs.state.Ids.{value_at}
 
 -- The ids of these names are known, and no others.
 pub record Knows (names : Names) (ids : Ids) : Type 0 where
-  pub definitions : (id : ℕ) → contains nat_cmp ids.definitions id ≡ is_some (lookup id names.definitions)
-  pub stacks : (id : ℕ) → contains nat_cmp ids.stacks id ≡ is_some (lookup id names.stacks)
+  pub definitions : (id : ℕ) → is_some (value_at ids.definitions id) ≡ is_some (lookup id names.definitions)
+  pub stacks : (id : ℕ) → is_some (value_at ids.stacks id) ≡ is_some (lookup id names.stacks)
 
 -- The names that stand after items.
 abbrev pub names_at : Names → List ItemKind → Names

@@ -9,4 +9,4 @@ use Rattle.pt_report.proofs.lines.put_threads.Given as goal
 
 abbrev pub invariant-loop-thread : goal.invariant-loop-thread
 invariant-loop-thread l =
-    (kinds : List ItemKind) → Took kinds l.checker → l.out.items ++ flat_map (λ thread. numbers_line thread (numbers_of thread kinds)) l.thread-iterator ≡ l.fn.out.items ++ flat_map (λ thread. numbers_line thread (numbers_of thread kinds)) (keys l.threads.counts)
+    (kinds : List ItemKind) → Took kinds l.checker → l.out.items ++ flat_map (λ thread. numbers_line thread (numbers_of thread kinds)) l.thread-iterator ≡ l.fn.out.items ++ flat_map (λ thread. numbers_line thread (numbers_of thread kinds)) (keys l.threads.places)

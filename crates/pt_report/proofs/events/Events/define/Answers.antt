@@ -1,27 +1,29 @@
-use Rattle.std.proofs.Common.{◌≡◌, ℕ, List, IsSome, ap, ◌∙◌, subst}
+use Rattle.std.proofs.Common.{◌≡◌, ℕ, cond, eqb, sym, ap, ◌∙◌, subst, Some}
 use Rattle.std.specs.Ordering.{nat_cmp}
 use Rattle.std.specs.Cmp.Lexicographic.{slice_cmp}
 use Rattle.std.specs.BTreeMap.{get}
-use Rattle.pt_report.specs.declared.key.EventKey.{EventKey}
+use Rattle.nt_check.specs.state.Ids.{value_at}
+use Rattle.pt_report.specs.declared.events.EventPlaces.{EventPlaces}
+use Rattle.pt_report.specs.declared.events.Events.{Events}
 use Rattle.pt_report.specs.Keys.{key_of, key_order}
 use Rattle.pt_report.specs.state.Events.{provider_of}
-use Rattle.pt_report.proofs.Steps.{name-at, found-more, there-more}
+use Rattle.pt_report.proofs.Steps.{name-at, placed-more}
 use Rattle.pt_report.proofs.events.Events.define.Goals as goal
 
 pub returns : goal.returns
 returns c = λ defs uses named h.
+    let def = c.args.def.now in
     let key = c.in_ok-key.key in
-    let key-is : key ≡ key_of c.args.def.now = c.in_ok-key.ensures in
+    let key-is : key ≡ key_of def = c.in_ok-key.ensures in
+    let name-is : c.in_ok-copy.field-0 ≡ def.provider = c.in_ok-copy.ensures ∙ ap (λ k. k.provider) key-is in
+    let places : EventPlaces = record { provider = c.in_ok-provider.provider; event = c.in_ok-event.event } in
+    let new : Events = record { metadata = c.insert.new.self; providers = c.name.new.self; events = c.name-2.new.self } in
     record {
-      found = λ q. c.in_ok-insert.ensures.updates.0 q ∙ found-more c.args.id q key c.args.def.now named _ key-is (h.found q);
-      providers = name-at (slice_cmp nat_cmp) provider_of defs _ c.args.def.now c.in_ok-copy.field-0 c.name.new.self (c.in_ok-copy.ensures ∙ ap (λ k. k.provider) key-is) (c.in_ok-name.ensures.ok _ _ h.providers);
-      events_are = name-at key_order key_of defs _ c.args.def.now c.in_ok-copy-2.field-0 c.name-2.new.self (c.in_ok-copy-2.ensures ∙ key-is) (c.in_ok-name-2.ensures.ok _ _ h.events_are);
-      provider_there = λ q k known.
-          there-more (λ (k : EventKey). IsSome (get (slice_cmp nat_cmp) c.name.new.self.counts k.provider)) c.args.id q key k _ _
-          (c.in_ok-insert.ensures.updates.0 q) known (subst (λ (name : List ℕ). IsSome (get (slice_cmp nat_cmp) c.name.new.self.counts name)) c.in_ok-copy.ensures c.in_ok-name.ensures.known)
-          (λ before. c.in_ok-name.ensures.kept k.provider (h.provider_there q k before));
-      event_there = λ q k known.
-          there-more (λ (k : EventKey). IsSome (get key_order c.name-2.new.self.counts k)) c.args.id q key k _ _
-          (c.in_ok-insert.ensures.updates.0 q) known (subst (λ (k : EventKey). IsSome (get key_order c.name-2.new.self.counts k)) c.in_ok-copy-2.ensures c.in_ok-name-2.ensures.known)
-          (λ before. c.in_ok-name-2.ensures.kept k (h.event_there q k before));
+      found = λ q d is.
+          placed-more c.args.id q def d named places c.args.self.now new (subst (λ (i : ℕ). value_at new.metadata q ≡ cond (eqb i q) (Some places) (value_at c.args.self.now.metadata q)) c.from.ensures (c.in_ok-insert.ensures.ok q))
+          (ap (get (slice_cmp nat_cmp) new.providers.places) (sym name-is) ∙ c.in_ok-provider.ensures.place)
+          (ap (get key_order new.events.places) (sym key-is) ∙ c.in_ok-event.ensures.place)
+          c.in_ok-provider.ensures.kept c.in_ok-event.ensures.kept (h.found q) is;
+      providers = name-at (slice_cmp nat_cmp) provider_of defs _ def c.in_ok-copy.field-0 new.providers name-is (c.in_ok-provider.ensures.ok _ _ h.providers);
+      events_are = name-at key_order key_of defs _ def key new.events key-is (c.in_ok-event.ensures.ok _ _ h.events_are);
     }

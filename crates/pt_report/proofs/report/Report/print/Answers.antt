@@ -1,7 +1,7 @@
-use Rattle.std.proofs.Common.{List, [], ◌∷◌, map, sym, ap, ◌∙◌, subst}
+use Rattle.std.proofs.Common.{List, [], ◌∷◌, map, refl, sym, ap, ◌∙◌, subst}
 use Rattle.std.specs.List.{flat_map}
 use Rattle.std.specs.Ordering.{nat_cmp}
-use Rattle.std.specs.Cmp.Lexicographic.{slice_cmp, nat_list_cmp_total}
+use Rattle.std.specs.Cmp.Lexicographic.{slice_cmp}
 use Rattle.pt_num.proofs.Steps.{ok-same}
 use Rattle.ep_defs.specs.Entry.{Entry}
 use Rattle.nt_check.specs.Numbers.{numbers_of}
@@ -9,7 +9,7 @@ use Rattle.pt_report.specs.Keys.{key_of, key_order}
 use Rattle.pt_report.specs.Report.{trace_lines, trace_of, items_line, provider_line, event_line, numbers_line, stack_line, definitions, used_definitions, used_stacks, thread_lines, lines_of}
 use Rattle.pt_report.specs.state.Events.{provider_of}
 use Rattle.pt_report.specs.state.Shows.{Shows, totals_of}
-use Rattle.pt_report.proofs.Printed.{key_total, tally-lines, put-more}
+use Rattle.pt_report.proofs.Printed.{put-more}
 use Rattle.pt_report.proofs.report.Report.print.Goals as goal
 
 pub returns : goal.returns
@@ -25,7 +25,7 @@ returns c = λ kinds entries r told.
     let stacks = lines_of (slice_cmp nat_cmp) stack_line (used_stacks entries) (used_stacks entries) in
     let one = put-more [] _ c.put_trace.new.out.items _ trace c.new-out.ensures.items c.in_ok-put_trace.ensures (ap trace_lines shows.trace_is) in
     let two = put-more (trace ∷ []) _ c.put_items.new.out.items _ items one c.in_ok-put_items.ensures (ap (λ t. items_line t.events t.metadata t.stacks t.points) shows.totals_are) in
-    let three = put-more (trace ∷ items ∷ []) _ c.put_providers.new.out.items _ providers two c.in_ok-put_providers.ensures (tally-lines (slice_cmp nat_cmp) nat_list_cmp_total provider_line _ _ counters.events.providers shows.events_are.providers) in
-    let four = put-more (trace ∷ items ∷ providers ∷ []) _ c.put_events.new.out.items _ events three c.in_ok-put_events.ensures (tally-lines key_order key_total event_line _ _ counters.events.events shows.events_are.events_are) in
+    let three = put-more (trace ∷ items ∷ []) _ c.put_providers.new.out.items _ providers two (c.in_ok-put_providers.ensures _ _ shows.events_are.providers) refl in
+    let four = put-more (trace ∷ items ∷ providers ∷ []) _ c.put_events.new.out.items _ events three (c.in_ok-put_events.ensures _ _ shows.events_are.events_are) refl in
     let five = put-more (trace ∷ items ∷ providers ∷ events ∷ []) _ c.put_threads.new.out.items _ threads four (c.in_ok-put_threads.ensures kinds r.took) (ap (flat_map (λ thread. numbers_line thread (numbers_of thread kinds))) shows.threads_are.ordered) in
-    put-more (trace ∷ items ∷ providers ∷ events ∷ threads ∷ []) _ c.put_stacks.new.out.items _ stacks five c.in_ok-put_stacks.ensures (tally-lines (slice_cmp nat_cmp) nat_list_cmp_total stack_line _ _ counters.stacks.uses shows.stacks_are.counted)
+    put-more (trace ∷ items ∷ providers ∷ events ∷ threads ∷ []) _ c.put_stacks.new.out.items _ stacks five (c.in_ok-put_stacks.ensures _ _ shows.stacks_are.counted) refl

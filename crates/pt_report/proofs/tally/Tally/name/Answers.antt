@@ -1,11 +1,11 @@
-use Rattle.std.proofs.Common.{sym, ◌∙◌}
+use Rattle.std.proofs.Common.{is_some, sym, ap, arith}
 use Rattle.pt_report.proofs.Tallies.{name-new, name-old}
 use Rattle.pt_report.proofs.tally.Tally.name.Goals as goal
 
-pub returns-in_ok-insert-clause-ok : goal.returns-in_ok-insert-clause-ok
-returns-in_ok-insert-clause-ok g c = λ names uses h.
-    name-new g.K.Ord.cmp g.met.K.Ord.total names uses c.args.self.now _ c.args.key h (sym c.contains_key.ensures ∙ c.if-not-contains_key.true) c.in_ok-insert.ensures.entries c.in_ok-insert.ensures.updates.0
+pub returns-in-Some-clause-ok : goal.returns-in-Some-clause-ok
+returns-in-Some-clause-ok g c = λ names uses h.
+    name-old g.K.Ord.cmp g.met.K.Ord.total names uses c.args.self.now c.args.key h (ap is_some (sym c.in-Some.ensures.value))
 
-pub returns-else-not-contains_key-clause-ok : goal.returns-else-not-contains_key-clause-ok
-returns-else-not-contains_key-clause-ok g c = λ names uses h.
-    name-old g.K.Ord.cmp g.met.K.Ord.total names uses c.args.self.now c.args.key h (sym c.contains_key.ensures ∙ c.if-not-contains_key.false)
+pub returns-clause-ok : goal.returns-clause-ok
+returns-clause-ok g c = λ names uses h.
+    name-new g.K.Ord.cmp g.met.K.Ord.total names uses c.args.self.now _ c.args.key c.len-place.result h (sym c.in_default.ensures.value) (omega (arith, c.len-place.ensures)) c.in_ok-push.ensures.items c.in_ok-insert.ensures.entries c.in_ok-insert.ensures.updates.0
