@@ -22,6 +22,3 @@ pub use decision::Decision;
 pub use journal::Journal;
 pub use log::Log;
 pub use session::{Entry, Fate, Opened, Stage};
-
-#[cfg(test)]
-mod tests;

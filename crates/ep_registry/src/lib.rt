@@ -34,6 +34,3 @@ pub use over::{Finished, Overs};
 pub use registry::{Ended, Opening, Registry};
 pub use server::{Mark, Role, Server};
 pub use waiting::{Handed, Waiting};
-
-#[cfg(test)]
-mod tests;

@@ -1,7 +1,7 @@
 use Rattle.std.proofs.Common.{◌≡◌, ℕ, zero, suc, ◌<◌, Some, true, List, [], ◌∷◌, ◌++◌, refl, arith, subst, sym}
 use Rattle.std.specs.Prelude.{slice_get}
 use Rattle.ep_registry.specs.Registered.{RoleHalf, AreLeft}
-use Rattle.ep_registry.proofs.tests.two.Goals as goal
+use Rattle.ep_registry_tests.proofs.tests.registry.two.Goals as goal
 
 abbrev both : List RoleHalf
 both = record { number = 0; roles = 2; left = true } ∷ record { number = 1; roles = 2; left = true } ∷ []

@@ -1,6 +1,6 @@
 use Rattle.std.proofs.Common.{◌≡◌, length}
 use Rattle.ep_registry.specs.Places.{AreAt}
-use Rattle.ep_registry.proofs.tests.numbers.Given as goal
+use Rattle.ep_registry_tests.proofs.tests.registry.numbers.Given as goal
 
 -- the numbers so far
 abbrev pub invariant-loop-slot : goal.invariant-loop-slot

@@ -1,4 +1,4 @@
-use Rattle.ep_registry.proofs.tests.history.Given as goal
+use Rattle.ep_registry_tests.proofs.tests.registry.history.Given as goal
 
 -- the sets of ties that were just made
 abbrev pub ghosts-whole-B-Named : goal.ghosts-whole-B-Named

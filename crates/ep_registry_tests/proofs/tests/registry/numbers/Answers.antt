@@ -1,6 +1,6 @@
 use Rattle.std.proofs.Common.{◌≡◌, ◌∷◌, [], length-append, sym, arith}
 use Rattle.ep_registry.proofs.Fills.{at-more}
-use Rattle.ep_registry.proofs.tests.numbers.Goals as goal
+use Rattle.ep_registry_tests.proofs.tests.registry.numbers.Goals as goal
 
 pub loop-slot-preserved : goal.loop-slot-preserved
 loop-slot-preserved c =

@@ -2,8 +2,8 @@
 ghost use Rattle.std.specs.Prelude.{◌≡◌, ◌<◌, length, true};
 ghost use Rattle.ep_journal.specs.declared.limits.TheConstants.{CONNECTIONS};
 
-use crate::limits::CONNECTIONS;
-use crate::{Decision, Entry, Fate, Journal, Opened, Stage};
+use ep_journal::limits::CONNECTIONS;
+use ep_journal::{Decision, Entry, Fate, Journal, Opened, Stage};
 use ep_table::{Accepted, StopAnswer};
 use std::alloc::{AllocError, Global};
 use std::process::Abort;

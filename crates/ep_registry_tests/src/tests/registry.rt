@@ -6,9 +6,9 @@ ghost use Rattle.ep_registry.specs.declared.server.Mark.TheVariants as mark;
 ghost use Rattle.ep_registry.specs.Places.{numbered, AreAt};
 ghost use Rattle.ep_registry.specs.Registered.{AreLeft};
 
-use crate::{Ended, Handed, Hold, Kinds, Mark, Registry, Role, Server};
 use ep_journal::limits::CONNECTIONS;
 use ep_journal::{Decision, Entry, Fate, Log, Opened, Stage};
+use ep_registry::{Ended, Handed, Hold, Kinds, Mark, Registry, Role, Server};
 use ep_table::StopAnswer;
 use ep_table::limits::SLOTS;
 use ep_tie::{Blank, Named, Right};

@@ -1,0 +1,3 @@
+//! Histories of a journal, and of a registry over one.
+mod journal;
+mod registry;
