@@ -384,7 +384,7 @@ fn beside<'r, 'a, P: Program + Send + Sync, R: Threads + Wait + Sync>(
     rows: LiveRows<'r, 'a, P, R>,
     config: &Config,
     write: &'r Write,
-) -> Result<(Marks, Marks, bool, u32), AllocError>
+) -> Result<(Marks, Marks, bool, u64), AllocError>
     requires two { P.rows ≡ 2 }
     requires closed { AreClosed rows }
     requires granted { (rows.slot ≡ 3) × (config.now ≡ rows.grant.config) }
@@ -420,7 +420,8 @@ fn beside<'r, 'a, P: Program + Send + Sync, R: Threads + Wait + Sync>(
     let (one, other) = close_both(&mut rows, hands);
     let ended = rows.end();
     let back = ended.seat().share() == 3 && ended.seat().taken() == ended.seat().given();
-    let (free, chunks) = ended.retire(rt);
+    let (free, seat) = ended.retire(rt);
+    let chunks = seat.taken() - seat.given();
     Ok((one, other, back && free.slot() == 3, chunks))
 }
 
@@ -456,7 +457,7 @@ fn run<'a, P: Program + Send + Sync, R: Threads + Wait + Sync>(
     write: &Write,
     grant: &'a Grant,
     seat: PoolSeat,
-) -> Result<(Marks, Marks, bool, u32), AllocError>
+) -> Result<(Marks, Marks, bool, u64), AllocError>
     requires ties { blank.ties ≡ P.ties }
     requires places { blank.places ≡ 258 }
     requires rows { P.rows ≡ 2 }

@@ -159,23 +159,21 @@ impl Pool {
         self.queue.len_as::<Counting, R>(rt, &mut seat.pass) as u32
     }
 
-    /// Takes the chunks one by one until none is left, and lets go of their memory. It answers how many there were: all,
-    /// since the seat has all shares and each chunk that was taken is back. It may wait.
-    pub fn drain<R: Wait>(&self, rt: &R, seat: PoolSeat) -> u32
-        requires own { IsSeatOf self.now seat }
-        requires alone { seat.share ≡ seat.seats }
-        requires back { seat.taken ≡ seat.given }
-        requires few { seat.taken + seat.total < SEAT_COUNTS }
-        ensures { result ≡ self.now.total }
+    /// Takes all chunks, one by one, and lets go of their memory: as many as the pool has, since the seat has all shares and
+    /// each chunk that was taken is back. The seat counts them as taken. It may wait.
+    pub fn drain<R: Wait>(&self, rt: &R, seat: &mut PoolSeat)
+        requires own { IsSeatOf self.now seat.old }
+        requires alone { seat.old.share ≡ seat.old.seats }
+        requires back { seat.old.taken ≡ seat.old.given }
+        requires few { seat.old.taken + seat.old.total < SEAT_COUNTS }
+        ensures { seat.new ≡ record seat.old { taken = seat.old.taken + seat.old.total } }
     {
-        let mut seat = seat;
-        let total = self.total;
-        let mut left = total;
-        while let Some(chunk) = self.take(rt, &mut seat) {
-            drop(chunk);
-            left -= 1;
+        for _ in 0..self.total {
+            match self.take(rt, seat) {
+                Some(chunk) => drop(chunk),
+                None => unreachable!(),
+            }
         }
-        total - left
     }
 
     /// How many chunks the pool has, free ones and others.

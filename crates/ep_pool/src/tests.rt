@@ -122,8 +122,10 @@ fn a_seat_with_one_of_two_shares_takes_what_the_other_gave_back(
 
 #[test]
 fn a_pool_of_three_is_drained_of_three_chunks(rt: HostRuntime) -> Result<(), Fail> {
-    let (pool, seat) = Pool::new(&rt, rt.alloc(), 3, 2)?;
-    assert_eq!(rt; pool.drain(&rt, seat), 3);
+    let (pool, mut seat) = Pool::new(&rt, rt.alloc(), 3, 2)?;
+    pool.drain(&rt, &mut seat);
+    assert_eq!(rt; (seat.taken(), seat.given()), (3, 0));
+    assert!(rt; pool.take(&rt, &mut seat).is_none());
     Ok(())
 }
 

@@ -206,7 +206,8 @@ impl<'r, 'a, P: Run, R: Wait + Abort> Scene<'r, 'a, P, R> {
         let (end, left) = stream.end(self.alloc, self.rt, self.live, 200, fate);
         let seat = left.seat();
         let whole = seat.share() == 3 && seat.taken() == seat.given();
-        let (free, chunks) = left.retire(self.rt);
+        let (free, seat) = left.retire(self.rt);
+        let chunks = seat.taken() - seat.given();
         assert!(self.rt; whole && free.slot() == 3 && chunks == 4);
         Ok(Told {
             marks: Some(end.marks),

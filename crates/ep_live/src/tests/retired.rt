@@ -27,7 +27,7 @@ fn end_one<'a, P: Program, R: Wait>(
     free: Free<'a, P>,
     grant: &'a Grant,
     seat: PoolSeat,
-) -> Result<(Free<'a, P>, u32), AllocError>
+) -> Result<(Free<'a, P>, u64), AllocError>
     requires two { P.rows ≡ 2 }
     requires slot { free ≡ 3 }
     requires admitted { IsGrantFor P.events grant.now }
@@ -36,7 +36,9 @@ fn end_one<'a, P: Program, R: Wait>(
     let mut rows = rows_of_two(rt, alloc, live, free, grant, seat, Stands::none(alloc))?;
     let hands = open_both(alloc, &mut rows, &grant.config)?;
     let _marks = close_both(&mut rows, hands);
-    Ok(rows.end().retire(rt))
+    let (free, seat) = rows.end().retire(rt);
+    let chunks = seat.taken() - seat.given();
+    Ok((free, chunks))
 }
 
 // Two sessions in one slot, one after the other. Gives how many chunks each had.
@@ -47,7 +49,7 @@ fn end_both<'a, P: Program, R: Wait + Abort>(
     events: Vec<EventDef>,
     grants: (&'a Grant, &'a Grant),
     seats: (PoolSeat, PoolSeat),
-) -> Result<(u32, u32), AllocError>
+) -> Result<(u64, u64), AllocError>
     requires ties { blank.ties ≡ P.ties }
     requires places { blank.places ≡ 258 }
     requires two { P.rows ≡ 2 }
@@ -71,7 +73,7 @@ fn chunks_of_both<R: Wait + Abort>(
     rt: &R,
     alloc: Global,
     grants: &Shelf<Grant>,
-) -> Result<(u32, u32), AllocError> {
+) -> Result<(u64, u64), AllocError> {
     let events = Vec::from_array(alloc, [event(alloc)?])?;
     let (one, one_seat) = granted(rt, alloc, grants, events.as_slice(), 4)?;
     let (other, other_seat) = granted(rt, alloc, grants, events.as_slice(), 7)?;
