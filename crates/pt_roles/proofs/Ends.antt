@@ -1,5 +1,5 @@
 -- What a session of the run comes to, by what its stream says of its end.
-use Rattle.std.proofs.Common.{◌≡◌, ◌≢◌, ℕ, ◌<◌, ◌≤◌, true, false, List, ◌++◌, length, IsTrue, inl, inr, refl, ap, ◌∙◌, sym, subst, arith}
+use Rattle.std.proofs.Common.{◌≡◌, ◌≢◌, ℕ, ◌+◌, ◌<◌, ◌≤◌, true, false, List, ◌++◌, length, IsTrue, inl, inr, refl, ap, ◌∙◌, sym, subst, arith}
 use Rattle.std.specs.List.{AllByRecursion}
 use Rattle.ep_defs.specs.declared.event.EventDef.{EventDef}
 use Rattle.ep_defs.specs.declared.limits.TheConstants.{WRITES}
@@ -25,12 +25,14 @@ use Rattle.ep_live_laws.specs.Tracing.{TookTraced, TookTracedPart, is_fault}
 use Rattle.pt_load.specs.Sample.{sample}
 use Rattle.pt_server.specs.Connection.{HasAsked}
 use Rattle.pt_server.specs.Served.{ServedState}
-use Rattle.pt_stream.specs.End.{HasEnded}
+use Rattle.ep_live.specs.Free.{EndedState}
+use Rattle.ep_pool.specs.Shared.{SeatState}
+use Rattle.pt_stream.specs.End.{HasEnded, Leaves}
 use Rattle.pt_stream.specs.Setting.{Setting, watch_of}
 use Rattle.pt_stream.specs.State.{IsDone, StreamState, is_complete}
 use Rattle.nt_write.specs.declared.limits.TheConstants.{FRAMED_EVENTS}
 use Rattle.pt_io.specs.Faults.{HasRisen}
-use Rattle.pt_roles.specs.Ran.{AreMarksOf, HasEachRow, IsEnd, IsThread, TookPart, TookTrace, is_early, taken_of, threads_in}
+use Rattle.pt_roles.specs.Ran.{AreMarksOf, HasEachRow, IsEnd, IsSpent, IsThread, TookPart, TookTrace, is_early, refused_of, taken_of, threads_in}
 use Rattle.pt_roles.specs.Fates.{fate_as}
 use Rattle.pt_roles.specs.Serving.{IsLastOf, IsLeftOf}
 use Rattle.pt_roles.specs.Table.{IsOver, was_opened}
@@ -54,6 +56,17 @@ early-opened : (o : Opened) → was_early o ≡ true → was_opened o ≡ true
 early-opened opened.No was = was
 early-opened opened.Early was = refl
 early-opened opened.Late was = refl
+
+-- Its pool was found dry as often as its marks tell.
+pub spent-left : (config : Config) (marks : List Marks) (stream : StreamState) (ended : EndedState) (seat : SeatState) → Leaves stream ended → config ≡ stream.config → marks ≡ stream.marks
+    → seat.share ≡ seat.seats → seat.taken ≡ seat.given + seat.total → seat.total ≡ ended.grant.config.chunks → seat.dry ≡ ended.seat.dry → IsSpent config marks seat
+spent-left config marks stream ended seat leaves config_is marks_are alone drained chunks dry =
+    record {
+      alone = alone;
+      drained = drained;
+      chunks = chunks ∙ ap (λ (c : Config). c.chunks) (leaves.config_is ∙ sym config_is);
+      dry = dry ∙ leaves.spent ∙ ap refused_of (sym marks_are);
+    }
 
 -- ---- what its link took
 
@@ -115,8 +128,8 @@ module _ {L : Type 0} (gave : L → ReadSide) (sink : Sink L) (side : Sink (Serv
       → HasAsked stream.gave (request.Collect stream.config)
       → handed ≢ fate.TooLong → (is_fault handed ≡ false → is_complete stream ≡ true) → (handed ≡ fate.ProgramEnd → AllByRecursion (IsDone writes) stream.marks)
       → HasEnded side (watch_of rows events writes setting stream.config stream.id) rows setting.lives (setting.faults stream.id) stream handed end
-      → IsLeftOf gave sink end session → IsEnd gave sink world session
-  is-end gave_is faults_are world rows events writes setting facts greeting stream handed end session w traces parts asked own complete done h left =
+      → IsLeftOf gave sink end session → IsSpent session.config session.marks session.seat → IsEnd gave sink world session
+  is-end gave_is faults_are world rows events writes setting facts greeting stream handed end session w traces parts asked own complete done h left spent =
       record {
         asked = asked-left gave sink stream end session asked (sym (gave_is end.sink) ∙ e.gave_is) e.config_is left;
         marks = subst (AreMarksOf world session.config) (sym marks)
@@ -126,6 +139,7 @@ module _ {L : Type 0} (gave : L → ReadSide) (sink : Sink L) (side : Sink (Serv
               threads = all-marks (IsThread world) stream.marks (is-thread world stream.places (threads_in stream.marks) e.served e.few);
               counted = e.outcome.marks_are.counted;
             }));
+        spent = spent;
         every = λ sound. subst (HasEachRow world) (sym marks) (each-row world stream.places stream.marks e.served e.count e.few (complete (sound-handed sound)));
         whole = λ sound. whole-left world stream end session traces (e.outcome.whole (end-sound sound) few_writes) id config marks left;
         part = λ bad. part-left world stream end session parts e.outcome.part id config marks left;

@@ -1,12 +1,7 @@
 pub mod Load
 pub mod Lists
 pub mod Lives
-pub mod Ending
 pub mod Marks
 pub mod Rows
 pub mod Numbers
 pub mod Ends
-pub mod Turning
-pub mod Ran
-pub mod Openings
-pub mod Starting

@@ -3,8 +3,6 @@ pub mod Fates
 pub mod Writers
 pub mod Ran
 pub mod Table
-pub mod Server
 pub mod Roles
 pub mod Streamers
 pub mod Serving
-pub mod Ending

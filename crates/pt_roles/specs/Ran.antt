@@ -10,6 +10,7 @@ use Rattle.pt_io.specs.Sides.{ReadSide, WriteSide}
 use Rattle.nt_write.specs.declared.limits.TheConstants.{FRAMED_EVENTS}
 use Rattle.ipc_body.specs.declared.request.Request.TheVariants as request
 use Rattle.ep_guarded.specs.Tied.{AreCounted, thread_of}
+use Rattle.ep_pool.specs.Shared.{SeatState}
 use Rattle.ep_stream.specs.declared.session.Fate.TheVariants as fate
 use Rattle.ep_live_laws.specs.Streams.{IsPartOf, IsTraceOf}
 use Rattle.ep_live_laws.specs.Tracing.{AreAscending, IsOneOf, is_fault}
@@ -68,6 +69,20 @@ is_early world marks =
 abbrev pub taken_of : List Marks → ℕ
 taken_of marks = sum_by (λ mark. mark.taken) marks
 
+-- How many events were refused of all threads.
+abbrev pub refused_of : List Marks → ℕ
+refused_of marks = sum_by (λ mark. mark.refused) marks
+
+-- ---- why a session had no more
+
+-- A seat that has all shares of a session's pool, from which each chunk was taken in the end, all those that were out being
+-- back. The pool had the chunks of the session's budget, and was found dry once for each event that was refused.
+pub record IsSpent (config : Config) (marks : List Marks) (seat : SeatState) : Type 0 where
+  pub alone : seat.share ≡ seat.seats
+  pub drained : seat.taken ≡ seat.given + seat.total
+  pub chunks : seat.total ≡ config.chunks
+  pub dry : seat.dry ≡ refused_of marks
+
 -- ---- a session
 
 -- Behind that the link took these bytes.
@@ -91,6 +106,8 @@ pub record IsEnd {L : Type 0} (gave : L → ReadSide) (sink : Sink L) (world : W
   -- its link asked for it, with this configuration, and gave no byte more
   pub asked : HasAsked (gave session.link) (request.Collect session.config)
   pub marks : AreMarksOf world session.config session.marks
+  -- each event that was refused found its own pool dry, which had as many chunks as it asked for
+  pub spent : IsSpent session.config session.marks session.seat
   -- where it did not fail it was open on each row, and its link took the whole stream; else a part of one
   pub every : is_fault session.fate ≡ false → HasEachRow world session.marks
   pub whole : is_fault session.fate ≡ false → IsTrue (sink.tells_taken session.link) → TookTrace sink world session

@@ -12,7 +12,7 @@ use std::marker::Model;
 /// What gives the writes of the threads that a row is still to serve, that of the next one last. Contracts see whose
 /// writes they are.
 #[derive(Drop)]
-pub(crate) struct Drafts {
+pub struct Drafts {
     lives: Vec<Draft>,
 }
 
@@ -27,12 +27,7 @@ impl Model for Drafts {
 
 impl Drafts {
     /// Those of the row with this number, from 0, in all of its lives.
-    pub(crate) fn new(
-        alloc: Global,
-        plan: &Plan,
-        number: u32,
-        lives: u32,
-    ) -> Result<Drafts, AllocError>
+    pub fn new(alloc: Global, plan: &Plan, number: u32, lives: u32) -> Result<Drafts, AllocError>
         requires row { number < plan.now.threads }
         requires few { plan.now.threads ≤ MOST_THREADS }
         requires few_lives { lives ≤ LIVES }
@@ -47,7 +42,7 @@ impl Drafts {
     }
 
     /// What gives the writes of the next thread.
-    pub(crate) fn next(&mut self) -> Draft
+    pub fn next(&mut self) -> Draft
         requires { self.old ≢ [] }
         ensures { self.old ≡ self.new ++ result ∷ [] }
     {
@@ -59,7 +54,7 @@ impl Drafts {
 }
 
 /// The thread that a row, by its number from 0, serves in this life, from 0.
-pub(crate) fn thread_of(rows: u32, number: u32, life: u32) -> u32
+pub fn thread_of(rows: u32, number: u32, life: u32) -> u32
     requires row { number < rows }
     requires few { rows ≤ MOST_THREADS }
     requires few_lives { life < LIVES }
@@ -69,7 +64,7 @@ pub(crate) fn thread_of(rows: u32, number: u32, life: u32) -> u32
 }
 
 /// What gives the writes of each row, by number, in all of its lives.
-pub(crate) fn drafts_of(alloc: Global, plan: &Plan, lives: u32) -> Result<Vec<Drafts>, AllocError>
+pub fn drafts_of(alloc: Global, plan: &Plan, lives: u32) -> Result<Vec<Drafts>, AllocError>
     requires few { plan.now.threads ≤ MOST_THREADS }
     requires few_lives { lives ≤ LIVES }
     ensures count { IfOk result (λ drafts. vec_len drafts ≡ plan.now.threads) }

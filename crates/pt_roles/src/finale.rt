@@ -27,7 +27,7 @@ impl<W: World, L: Link> Model for Finale<W, L> {
 
 impl<W: World, L: Link> Finale<W, L> {
     /// A session that has ended so.
-    pub(crate) fn new(session: LiveSession<L>) -> Finale<W, L>
+    pub fn new(session: LiveSession<L>) -> Finale<W, L>
         requires ended { IsEnd L.read_side L.Sink W.world session }
         ensures { result ≡ session }
     {
@@ -38,7 +38,7 @@ impl<W: World, L: Link> Finale<W, L> {
     }
 
     /// What is left of it.
-    pub(crate) fn open(self) -> LiveSession<L>
+    pub fn open(self) -> LiveSession<L>
         ensures value { result ≡ self }
         ensures is_end { IsEnd L.read_side L.Sink W.world result }
     {

@@ -23,50 +23,47 @@ use std::time::Clock as Timer;
 
 /// What the writers are made of, and memory for what they leave.
 #[derive(Drop)]
-pub(crate) struct WritersKit<'r, 't, 'a, W: World, R: Wait, L: Link, C, G> {
-    pub(crate) scene: Scene<'r, W, R, C, G>,
-    pub(crate) shared: &'t Shared<'a, W, L>,
-    pub(crate) drafts: Vec<Drafts>,
-    pub(crate) writers: Vec<Writer<'t, 'a, W, L>>,
-    pub(crate) rows: Vec<(u64, u32)>,
-    pub(crate) halves: Vec<Right<W, Agreed<'a>>>,
-    ghost count: { vec_len drafts ≡ W.rows },
-    ghost drafts_are: { AreDrafts W.world.plan W.world.options.lives drafts.items },
-    ghost none: { (writers.items ≡ []) × (rows.items ≡ []) × (halves.items ≡ []) },
-    ghost writer_room: { W.rows ≤ vec_capacity writers },
-    ghost row_room: { W.rows ≤ vec_capacity rows },
-    ghost half_room: { W.rows ≤ vec_capacity halves },
+pub struct WritersKit<'r, 't, 'a, W: World, R: Wait, L: Link, C, G> {
+    pub scene: Scene<'r, W, R, C, G>,
+    pub shared: &'t Shared<'a, W, L>,
+    pub drafts: Vec<Drafts>,
+    pub writers: Vec<Writer<'t, 'a, W, L>>,
+    pub rows: Vec<(u64, u32)>,
+    pub halves: Vec<Right<W, Agreed<'a>>>,
+    pub ghost count: { vec_len drafts ≡ W.rows },
+    pub ghost drafts_are: { AreDrafts W.world.plan W.world.options.lives drafts.items },
+    pub ghost none: { (writers.items ≡ []) × (rows.items ≡ []) × (halves.items ≡ []) },
+    pub ghost writer_room: { W.rows ≤ vec_capacity writers },
+    pub ghost row_room: { W.rows ≤ vec_capacity rows },
+    pub ghost half_room: { W.rows ≤ vec_capacity halves },
 }
 
 /// The writers of a run, none of whose threads has made a write.
 #[derive(Drop)]
-pub(crate) struct Writing<'r, 't, 'a, W: World, R: Wait, L: Link, C, G> {
+pub struct Writing<'r, 't, 'a, W: World, R: Wait, L: Link, C, G> {
     scene: Scene<'r, W, R, C, G>,
     shared: &'t Shared<'a, W, L>,
     writers: Vec<Writer<'t, 'a, W, L>>,
     rows: Vec<(u64, u32)>,
     halves: Vec<Right<W, Agreed<'a>>>,
-    ghost count: { vec_len writers ≡ W.rows },
-    ghost ready: { AreReady W.world.plan W.world.options.lives writers.items },
-    ghost none: { (rows.items ≡ []) × (halves.items ≡ []) },
-    ghost row_room: { W.rows ≤ vec_capacity rows },
-    ghost half_room: { W.rows ≤ vec_capacity halves },
+    pub ghost count: { vec_len writers ≡ W.rows },
+    pub ghost ready: { AreReady W.world.plan W.world.options.lives writers.items },
+    pub ghost none: { (rows.items ≡ []) × (halves.items ≡ []) },
+    pub ghost row_room: { W.rows ≤ vec_capacity rows },
+    pub ghost half_room: { W.rows ≤ vec_capacity halves },
 }
 
 /// The rows of a run whose writers have ended: each row's last thread, and how many writes it has made.
 #[derive(Drop)]
-pub(crate) struct AtEnd<W: World> {
-    pub(crate) rows: Vec<(u64, u32)>,
+pub struct AtEnd<W: World> {
+    pub rows: Vec<(u64, u32)>,
     name: PhantomData<W>,
-    ghost rows_are: { rows.items ≡ rows_of W.world.plan W.world.options.lives },
+    pub ghost rows_are: { rows.items ≡ rows_of W.world.plan W.world.options.lives },
 }
 
 impl<'r, 't, 'a, W: World, R: Wait, L: Link, C, G> WritersKit<'r, 't, 'a, W, R, L, C, G> {
     /// The writers with their halves of the ties to the rows, by row.
-    pub(crate) fn ready(
-        self,
-        stands: Vec<Right<W, Agreed<'a>>>,
-    ) -> Writing<'r, 't, 'a, W, R, L, C, G>
+    pub fn ready(self, stands: Vec<Right<W, Agreed<'a>>>) -> Writing<'r, 't, 'a, W, R, L, C, G>
         requires count { vec_len stands ≡ W.rows }
         requires halves { AreStands 0 stands.items }
     {
@@ -100,7 +97,7 @@ impl<
     G: Gate,
 > Writing<'r, 't, 'a, W, R, L, C, G> {
     /// Lets each writer make its writes, and tells the roles once all have ended.
-    pub(crate) fn write_all(self) -> AtEnd<W> {
+    pub fn write_all(self) -> AtEnd<W> {
         let Writing {
             scene,
             shared,
@@ -120,20 +117,20 @@ impl<
 
 /// The streaming roles, and memory for what they leave.
 #[derive(Drop)]
-pub(crate) struct Streaming<'r, 't, 'a, W: World, R: Wait, L: Link, C, G> {
-    pub(crate) scene: Scene<'r, W, R, C, G>,
-    pub(crate) streamers: Vec<Streamer<'t, 'a, W, L>>,
-    pub(crate) roles: Vec<Role<RoleMarks<W>>>,
-    ghost there: { AreThere streamers.items },
-    ghost none: { roles.items ≡ [] },
-    ghost room: { vec_len streamers ≤ vec_capacity roles },
+pub struct Streaming<'r, 't, 'a, W: World, R: Wait, L: Link, C, G> {
+    pub scene: Scene<'r, W, R, C, G>,
+    pub streamers: Vec<Streamer<'t, 'a, W, L>>,
+    pub roles: Vec<Role<RoleMarks<W>>>,
+    pub ghost there: { AreThere streamers.items },
+    pub ghost none: { roles.items ≡ [] },
+    pub ghost room: { vec_len streamers ≤ vec_capacity roles },
 }
 
 /// The streaming roles of a run, each of which has ended.
 #[derive(Drop)]
-pub(crate) struct AllLeft<W: World> {
-    pub(crate) roles: Vec<Role<RoleMarks<W>>>,
-    ghost left: { AreLeft roles.items },
+pub struct AllLeft<W: World> {
+    pub roles: Vec<Role<RoleMarks<W>>>,
+    pub ghost left: { AreLeft roles.items },
 }
 
 impl<
@@ -147,7 +144,7 @@ impl<
     G: Gate,
 > Streaming<'r, 't, 'a, W, R, L, C, G> {
     /// Lets each role serve its sessions until the server has ended and all of them are over.
-    pub(crate) fn play_all(self) -> AllLeft<W> {
+    pub fn play_all(self) -> AllLeft<W> {
         let Streaming {
             scene,
             mut streamers,

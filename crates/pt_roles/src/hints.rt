@@ -8,7 +8,7 @@ use std::sync::atomic::{AtomicBool, AtomicU64, Ordering};
 
 /// What threads tell one another without a lock. Nothing that a run comes to rests on it: they are hints.
 #[derive(Drop)]
-pub(crate) struct Hints<P: World> {
+pub struct Hints<P: World> {
     /// Of each row, twice its life from 0, and one more once the life's thread has left.
     lives: Vec<AtomicU64>,
     /// Of each row, the slots whose sessions are to be opened again before the next life writes.
@@ -21,7 +21,7 @@ pub(crate) struct Hints<P: World> {
 }
 
 impl<P: World> Hints<P> {
-    pub(crate) fn new(alloc: Global, rows: u32) -> Result<Hints<P>, AllocError>
+    pub fn new(alloc: Global, rows: u32) -> Result<Hints<P>, AllocError>
         requires { rows ≡ P.rows }
     {
         Ok(Hints {
@@ -33,7 +33,7 @@ impl<P: World> Hints<P> {
     }
 
     /// The life that a row serves, by its number, one of so many, unless its thread has left.
-    pub(crate) fn life(&self, number: usize, lives: u32) -> Option<u32>
+    pub fn life(&self, number: usize, lives: u32) -> Option<u32>
         requires { number < P.rows }
         ensures { IfSome result (λ life. life < lives) }
     {
@@ -46,35 +46,35 @@ impl<P: World> Hints<P> {
     }
 
     /// The thread of this life has left the row.
-    pub(crate) fn leaves(&self, number: usize, life: u32)
+    pub fn leaves(&self, number: usize, life: u32)
         requires { number < P.rows }
     {
         self.lives[number].store(u64::from(life) * 2 + 1, Ordering::SeqCst);
     }
 
     /// The thread of this life has entered the row.
-    pub(crate) fn enters(&self, number: usize, life: u32)
+    pub fn enters(&self, number: usize, life: u32)
         requires { number < P.rows }
     {
         self.lives[number].store(u64::from(life) * 2, Ordering::SeqCst);
     }
 
     /// The slots whose sessions are to be opened again on the row.
-    pub(crate) fn reopen(&self, number: usize) -> &AtomicU64
+    pub fn reopen(&self, number: usize) -> &AtomicU64
         requires { number < P.rows }
     {
         &self.reopen[number]
     }
 
     /// Whether a session is still to be opened again on the row.
-    pub(crate) fn waits(&self, number: usize) -> bool
+    pub fn waits(&self, number: usize) -> bool
         requires { number < P.rows }
     {
         self.reopen[number].load(Ordering::SeqCst) != 0
     }
 
     /// The session in this slot is open on the row again.
-    pub(crate) fn opened(&self, number: usize, slot: u32)
+    pub fn opened(&self, number: usize, slot: u32)
         requires row { number < P.rows }
         requires slot { slot < 64 }
     {
@@ -82,7 +82,7 @@ impl<P: World> Hints<P> {
     }
 
     /// The session in this slot ends, and is open on no row: no row's next life waits for it.
-    pub(crate) fn ended(&self, slot: u32)
+    pub fn ended(&self, slot: u32)
         requires { slot < 64 }
     {
         for reopen in &self.reopen {
@@ -91,12 +91,12 @@ impl<P: World> Hints<P> {
     }
 
     /// All writers have ended.
-    pub(crate) fn end(&self) {
+    pub fn end(&self) {
         self.done.store(true, Ordering::SeqCst);
     }
 
     /// Whether all writers have ended.
-    pub(crate) fn have_ended(&self) -> bool {
+    pub fn have_ended(&self) -> bool {
         self.done.load(Ordering::SeqCst)
     }
 }

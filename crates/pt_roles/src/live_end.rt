@@ -1,5 +1,6 @@
 //! What is left of a run.
 use ep_defs::{Config, MarkList};
+use ep_pool::PoolSeat;
 use ep_stream::Fate;
 use pt_server::ConnEnd;
 
@@ -15,6 +16,9 @@ pub struct LiveSession<L> {
     pub fate: Fate,
     /// How many connections had been decided when it could be stopped no more.
     pub gone: Option<u32>,
+    /// A seat with all shares of the session's pool, from which each chunk was taken at its end. It counts how often the
+    /// pool was found dry.
+    pub seat: PoolSeat,
     pub link: L,
 }
 

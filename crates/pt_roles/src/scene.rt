@@ -17,21 +17,21 @@ use std::marker::PhantomData;
 /// What never changes in a run: the runtime, the clock and the gate that its threads pass, how much they write in how many
 /// lives of each row, and what the program says of itself.
 #[derive(Drop)]
-pub(crate) struct Scene<'r, W: World, R, C, G> {
-    pub(crate) rt: &'r R,
-    pub(crate) alloc: Global,
-    pub(crate) clock: &'r C,
-    pub(crate) gate: &'r G,
-    pub(crate) plan: &'r Plan,
-    pub(crate) facts: &'r Facts,
-    pub(crate) lives: u32,
-    pub(crate) name: PhantomData<W>,
-    ghost is_world: { IsWorldOf W.world W.rows W.events W.writes W.setting W.facts W.greeting },
-    ghost plan_is: { plan.now ≡ W.world.plan },
-    ghost facts_are: { (facts.now ≡ W.world.facts) × IsTrue (is_valid_facts facts.now) },
-    ghost lives_are: { (lives ≡ W.world.options.lives) × (lives ≡ W.setting.lives) × (lives ≤ LIVES) },
-    ghost rows_are: { plan.now.threads ≡ W.rows },
-    ghost few_rows: { W.rows ≤ THREADS },
-    ghost writes_are: { (thread : ℕ) → length (W.writes thread) ≡ plan.now.writes },
-    ghost events_are: { AreEvents W.events },
+pub struct Scene<'r, W: World, R, C, G> {
+    pub rt: &'r R,
+    pub alloc: Global,
+    pub clock: &'r C,
+    pub gate: &'r G,
+    pub plan: &'r Plan,
+    pub facts: &'r Facts,
+    pub lives: u32,
+    pub name: PhantomData<W>,
+    pub ghost is_world: { IsWorldOf W.world W.rows W.events W.writes W.setting W.facts W.greeting },
+    pub ghost plan_is: { plan.now ≡ W.world.plan },
+    pub ghost facts_are: { (facts.now ≡ W.world.facts) × IsTrue (is_valid_facts facts.now) },
+    pub ghost lives_are: { (lives ≡ W.world.options.lives) × (lives ≡ W.setting.lives) × (lives ≤ LIVES) },
+    pub ghost rows_are: { plan.now.threads ≡ W.rows },
+    pub ghost few_rows: { W.rows ≤ THREADS },
+    pub ghost writes_are: { (thread : ℕ) → length (W.writes thread) ≡ plan.now.writes },
+    pub ghost events_are: { AreEvents W.events },
 }

@@ -19,6 +19,7 @@ use crate::world::{Holds, World};
 use ep_guarded::NotOpened;
 use ep_journal::Fate as Kept;
 use ep_live_laws::{a_part_is_found, a_traced_stream_is_found};
+use ep_pool::PoolSeat;
 use ep_registry::{Handed, Holder};
 use ep_stream::{Fate, SessionEnd};
 use pt_io::{Clock, Gate, Link, Moment};
@@ -28,7 +29,7 @@ use std::sync::Wait;
 
 /// Serves a session once: ends it where it is to end, and else takes what its threads keep for it. Gives the session where
 /// it goes on, and whether something was taken or ended.
-pub(crate) fn serve<'a, W: World, R: Wait, L: Link + Drop, C: Clock, G: Gate>(
+pub fn serve<'a, W: World, R: Wait, L: Link + Drop, C: Clock, G: Gate>(
     scene: &Scene<'_, W, R, C, G>,
     shared: &Shared<'a, W, L>,
     held: Held<'a, W, L>,
@@ -252,8 +253,8 @@ fn finish<'a, W: World, R: Wait, L: Link + Drop, C: Clock, G: Gate>(
     let slot = stream.slot();
     let stamp = scene.clock.now();
     let (end, rows) = stream.end(scene.alloc, scene.rt, &shared.live, stamp, fate);
-    let (free, _chunks) = rows.retire(scene.rt);
-    let session = session_of(end);
+    let (free, seat) = rows.retire(scene.rt);
+    let session = session_of(end, seat);
     let fate = fate_as(session.fate);
     let finale = Finale::new(session);
     // Before the slot is free: the next session in it has hints of its own.
@@ -261,9 +262,13 @@ fn finish<'a, W: World, R: Wait, L: Link + Drop, C: Clock, G: Gate>(
     shared.end(scene.rt, holder, fate, free, finale);
 }
 
-// What is left of a session whose stream has ended. Its link is shut.
-fn session_of<W: World, L: Link>(end: SessionEnd<Served<'_, W, L>>) -> LiveSession<L>
-    ensures { IsLeftOf L.read_side L.Sink end.entry result }
+// What is left of a session whose stream has ended, and whose pool has this seat. Its link is shut.
+fn session_of<W: World, L: Link>(
+    end: SessionEnd<Served<'_, W, L>>,
+    seat: PoolSeat,
+) -> LiveSession<L>
+    ensures left { IsLeftOf L.read_side L.Sink end.entry result }
+    ensures seat { result.seat ≡ seat }
 {
     let SessionEnd {
         id,
@@ -283,12 +288,13 @@ fn session_of<W: World, L: Link>(end: SessionEnd<Served<'_, W, L>>) -> LiveSessi
         marks,
         fate,
         gone: None,
+        seat,
         link: sink.into_link(),
     }
 }
 
 /// The journal's word for a fate.
-pub(crate) fn fate_as(fate: Fate) -> Kept
+pub fn fate_as(fate: Fate) -> Kept
     ensures { result ≡ fate_as fate }
 {
     match fate {

@@ -21,18 +21,14 @@ use std::sync::{Mutex, Wait};
 
 /// The rows behind their locks, the hints, and the table behind its lock.
 #[derive(Drop)]
-pub(crate) struct Shared<'a, W: World, L: Link> {
-    pub(crate) live: Live<'a, W>,
-    pub(crate) hints: Hints<W>,
-    pub(crate) table: Mutex<Table<'a, W, L>>,
+pub struct Shared<'a, W: World, L: Link> {
+    pub live: Live<'a, W>,
+    pub hints: Hints<W>,
+    pub table: Mutex<Table<'a, W, L>>,
 }
 
 impl<'a, W: World, L: Link + Drop> Shared<'a, W, L> {
-    pub(crate) fn new(
-        live: Live<'a, W>,
-        hints: Hints<W>,
-        table: Table<'a, W, L>,
-    ) -> Shared<'a, W, L> {
+    pub fn new(live: Live<'a, W>, hints: Hints<W>, table: Table<'a, W, L>) -> Shared<'a, W, L> {
         Shared {
             live,
             hints,
@@ -41,7 +37,7 @@ impl<'a, W: World, L: Link + Drop> Shared<'a, W, L> {
     }
 
     /// The table, once no thread shares it.
-    pub(crate) fn into_table(self) -> Table<'a, W, L> {
+    pub fn into_table(self) -> Table<'a, W, L> {
         let Shared {
             live: _,
             hints: _,
@@ -51,7 +47,7 @@ impl<'a, W: World, L: Link + Drop> Shared<'a, W, L> {
     }
 
     /// The session that waits in this slot, if there is one.
-    pub(crate) fn take<R: Wait>(&self, rt: &R, slot: u32) -> Option<Held<'a, W, L>>
+    pub fn take<R: Wait>(&self, rt: &R, slot: u32) -> Option<Held<'a, W, L>>
         requires { slot < SLOTS }
         ensures { IfSome result (λ held. held.slot ≡ slot) }
     {
@@ -59,12 +55,12 @@ impl<'a, W: World, L: Link + Drop> Shared<'a, W, L> {
     }
 
     /// The session goes to its role, with its stream.
-    pub(crate) fn hand_over<R: Wait>(&self, rt: &R, held: Held<'a, W, L>) {
+    pub fn hand_over<R: Wait>(&self, rt: &R, held: Held<'a, W, L>) {
         self.table.lock(rt).hand_over(held);
     }
 
     /// Whether the session is to end, and as what.
-    pub(crate) fn look<R: Wait>(&self, rt: &R, holder: &mut Holder<Holds<W>>) -> Option<Fate>
+    pub fn look<R: Wait>(&self, rt: &R, holder: &mut Holder<Holds<W>>) -> Option<Fate>
         requires { IsTrue (is_serving holder.old.stage) }
         ensures { IsLooked holder.old holder.new result }
     {
@@ -72,7 +68,7 @@ impl<'a, W: World, L: Link + Drop> Shared<'a, W, L> {
     }
 
     /// The session has ended so, and its slot is free.
-    pub(crate) fn end<R: Wait>(
+    pub fn end<R: Wait>(
         &self,
         rt: &R,
         holder: Holder<Holds<W>>,
@@ -88,7 +84,7 @@ impl<'a, W: World, L: Link + Drop> Shared<'a, W, L> {
     }
 
     /// Lets the role end, where the server has ended and none of the role's sessions goes on.
-    pub(crate) fn leave<R: Wait>(&self, rt: &R, role: &mut Role<RoleMarks<W>>) -> bool
+    pub fn leave<R: Wait>(&self, rt: &R, role: &mut Role<RoleMarks<W>>) -> bool
         ensures left { result ≡ true → role.new ≡ record role.old { left = true } }
         ensures stays { result ≡ false → role.new ≡ role.old }
     {
@@ -96,7 +92,7 @@ impl<'a, W: World, L: Link + Drop> Shared<'a, W, L> {
     }
 
     /// All writers have ended, and leave this.
-    pub(crate) fn end_writers<R: Wait>(&self, rt: &R, gone: Gone<'a, W>) {
+    pub fn end_writers<R: Wait>(&self, rt: &R, gone: Gone<'a, W>) {
         self.table.lock(rt).end_writers(gone);
         self.hints.end();
     }

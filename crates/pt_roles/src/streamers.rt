@@ -29,7 +29,7 @@ const REST: u64 = 1;
 
 /// A streaming role, with the sessions that it serves, by slot. Contracts see the role's half.
 #[derive(Drop)]
-pub(crate) struct Streamer<'t, 'a, W: World, L: Link> {
+pub struct Streamer<'t, 'a, W: World, L: Link> {
     shared: &'t Shared<'a, W, L>,
     role: Role<RoleMarks<W>>,
     places: Vec<Option<Held<'a, W, L>>>,
@@ -48,7 +48,7 @@ impl<'t, 'a, W: World, L: Link> Model for Streamer<'t, 'a, W, L> {
 }
 
 impl<'t, 'a, W: World, L: Link + Drop> Streamer<'t, 'a, W, L> {
-    pub(crate) fn new(
+    pub fn new(
         shared: &'t Shared<'a, W, L>,
         role: Role<RoleMarks<W>>,
         places: Vec<Option<Held<'a, W, L>>>,
@@ -64,7 +64,7 @@ impl<'t, 'a, W: World, L: Link + Drop> Streamer<'t, 'a, W, L> {
     }
 
     /// The role alone, which has no session.
-    pub(crate) fn into_role(self) -> Role<RoleMarks<W>>
+    pub fn into_role(self) -> Role<RoleMarks<W>>
         ensures { result ≡ self.entry }
     {
         self.role
@@ -142,7 +142,7 @@ fn put_at<T: Drop>(places: &mut Vec<Option<T>>, place: usize, thing: Option<T>)
 }
 
 /// Lets each role serve its sessions, in a thread of its own where one can be made.
-pub(crate) fn play_each<
+pub fn play_each<
     't,
     'a,
     W: World + Send + Sync,
@@ -162,7 +162,7 @@ pub(crate) fn play_each<
 }
 
 /// The streaming roles, with no session.
-pub(crate) fn streamers_of<'t, 'a, W: World, L: Link + Drop>(
+pub fn streamers_of<'t, 'a, W: World, L: Link + Drop>(
     alloc: Global,
     shared: &'t Shared<'a, W, L>,
     halves: Vec<Right<RoleMarks<W>, Mark>>,

@@ -24,7 +24,7 @@ const REST: u64 = 1;
 
 /// A row's thread: its half of the tie to the row, and what gives its writes and those of the threads after it.
 #[derive(Drop)]
-pub(crate) struct Writer<'t, 'a, P: World, L: Link> {
+pub struct Writer<'t, 'a, P: World, L: Link> {
     shared: &'t Shared<'a, P, L>,
     half: Right<P, Agreed<'a>>,
     drafts: Drafts,
@@ -39,7 +39,7 @@ impl<'t, 'a, P: World, L: Link> Model for Writer<'t, 'a, P, L> {
 }
 
 /// The writers, each with its half of the tie, in memory that is there.
-pub(crate) fn writers_of<'t, 'a, P: World, L: Link>(
+pub fn writers_of<'t, 'a, P: World, L: Link>(
     shared: &'t Shared<'a, P, L>,
     halves: Vec<Right<P, Agreed<'a>>>,
     drafts: Vec<Drafts>,
@@ -168,7 +168,7 @@ fn wait_for_sessions<P: World, R: Wait + Timer>(rt: &R, hints: &Hints<P>, number
 }
 
 /// Lets each writer make its writes, in a thread of its own where one can be made.
-pub(crate) fn write_each<
+pub fn write_each<
     't,
     'a,
     P: World + Send + Sync,
@@ -199,7 +199,7 @@ pub struct Gone<'a, P: World> {
 
 /// Reads from each row how far its last thread has come, and gives what all writers leave, in memory that is there. It
 /// waits for the rows.
-pub(crate) fn give_back<'t, 'a, P: World, L: Link, R: Wait, C, G>(
+pub fn give_back<'t, 'a, P: World, L: Link, R: Wait, C, G>(
     scene: &Scene<'_, P, R, C, G>,
     writers: Vec<Writer<'t, 'a, P, L>>,
     rows: &mut Vec<(u64, u32)>,

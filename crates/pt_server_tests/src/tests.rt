@@ -236,19 +236,18 @@ fn a_process_describes_itself_and_sessions_begin_and_stop_once(
 #[test]
 fn the_65th_session_is_refused_and_500_connections_are_taken(rt: HostRuntime) -> Result<(), Fail> {
     let alloc = rt.alloc();
-    let mut peers = Vec::new(alloc);
-    for _ in 0..510u32 {
-        peers.push(sound_peer(&COLLECT, 65_536))?;
+    for most in [65_536usize, 1] {
+        let peers = vec![in alloc; sound_peer(&COLLECT, most); 510]?;
+        let told = serve(alloc, &peers)?;
+        let refused = ConnAnswer::Error { code: REFUSED };
+        assert!(rt; is(&told, 0, 65, refused, &ERROR_REFUSED));
+        assert!(rt; is(&told, 435, 500, refused, &ERROR_REFUSED));
+        assert_eq!(rt;
+            (told.begun.len(), told.answers.len(), told.decisions.len()),
+            (64, 436, 500)
+        );
+        assert_eq!(rt; told.held, 64);
     }
-    let told = serve(alloc, &peers)?;
-    let refused = ConnAnswer::Error { code: REFUSED };
-    assert!(rt; is(&told, 0, 65, refused, &ERROR_REFUSED));
-    assert!(rt; is(&told, 435, 500, refused, &ERROR_REFUSED));
-    assert_eq!(rt;
-        (told.begun.len(), told.answers.len(), told.decisions.len()),
-        (64, 436, 500)
-    );
-    assert_eq!(rt; told.held, 64);
     Ok(())
 }
 

@@ -7,10 +7,17 @@ use pt_server::ConnAnswer;
 use std::alloc::{AllocError, Global};
 use std::test::Fail;
 
-// The code with which these bytes are refused, where nothing was decided on them and their peer got its 24 bytes. 0 where
-// that is not so.
+// The code with which these bytes are refused, in one read and in reads of one byte, where nothing was decided on them and
+// their peer got its 24 bytes. 0 where that is not so.
 fn code(alloc: Global, bytes: &[u8]) -> Result<u32, AllocError> {
-    let told = serve(alloc, &[sound_peer(bytes, 4_096)])?;
+    let whole = code_in_reads(alloc, bytes, 4_096)?;
+    let slow = code_in_reads(alloc, bytes, 1)?;
+    Ok(if whole == slow { whole } else { 0 })
+}
+
+// The same in reads of so many bytes at most.
+fn code_in_reads(alloc: Global, bytes: &[u8], most: usize) -> Result<u32, AllocError> {
+    let told = serve(alloc, &[sound_peer(bytes, most)])?;
     let nothing = told.decisions.as_slice() == [Decision::Nothing].as_slice() && told.held == 0;
     let replied = told.replies.iter().all(|reply| reply.len() == 24);
     if !nothing || !replied || told.answers.len() != 1 {
@@ -67,8 +74,13 @@ fn each_finding_has_its_code(rt: HostRuntime) -> Result<(), Fail> {
 }
 
 #[test]
-fn a_question_of_the_process_has_no_body(rt: HostRuntime) -> Result<(), Fail> {
-    let asked = b"DOTNET_IPC_V1\0\x15\0\x04\0\0\0\0";
-    assert_eq!(rt; code(rt.alloc(), asked)?, BAD_ENCODING);
+fn a_byte_too_many_is_badly_encoded(rt: HostRuntime) -> Result<(), Fail> {
+    let alloc = rt.alloc();
+    let question = b"DOTNET_IPC_V1\0\x15\0\x04\0\0\0\0";
+    assert_eq!(rt; code(alloc, question)?, BAD_ENCODING);
+    let mut longer = COLLECT.to_vec(alloc)?;
+    longer[14] = 176;
+    longer.push(0)?;
+    assert_eq!(rt; code(alloc, &longer)?, BAD_ENCODING);
     Ok(())
 }

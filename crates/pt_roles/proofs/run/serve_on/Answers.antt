@@ -1,8 +1,0 @@
-use Rattle.pt_roles.proofs.Ran.{goes-further, goes-no-more}
-use Rattle.pt_roles.proofs.run.serve_on.Goals as goal
-
-pub returns-in_default-clause-turned : goal.returns-in_default-clause-turned
-returns-in_default-clause-turned g c = goes-no-more g.D.Dock c.args.first c.args.held.dock.now c.args.serving.desk.decider c.in_default.not-Enough
-
-pub returns-clause-turned : goal.returns-clause-turned
-returns-clause-turned g c = goes-further g.D.Dock c.args.first c.serve_late-exit.result _ _ _ _ c.in-Enough.is c.serve_late-exit.ensures.turned

@@ -1,8 +1,0 @@
-//! The tests of pt_roles: whole runs over links in memory.
-//!
-//! It stands on pt_roles and what its call takes, and nothing stands on it. A crate that has tests is proved twice, so they
-//! stand here, where they are proved alone.
-#![tactic(auto)]
-
-#[cfg(test)]
-mod tests;
