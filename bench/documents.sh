@@ -1,11 +1,12 @@
 #!/bin/sh
 # Compares what the documents show with what is. First what needs no program: that links lead somewhere, that each crate
 # stands in the map, that what the documents cite of a crate or a file stands there, and clauses in contracts, that each wrong
-# body can be planted, and README.md's counts, snippets and figures. Then each run in README.md and docs/*.md (an indented
-# block with lines `$ ..`) is made anew in a folder of its own, and its output compared; a line `...` stands for whatever
-# follows, and of a run of `trace` the numbers of stacks and points, which differ from run to run, are passed over. So is what
-# needs two terminals, `run` and the clients, of which `bench/run.sh` makes the like. It ends with 1 if anything differs. It
-# needs python3 and xxd.
+# body can be planted, that limits and statuses are those of the code, that include/tracepipe.h and the example in Python have
+# the crate's structs and codes, and README.md's size, kit, counts, snippets and figures. Then each run in README.md and
+# docs/*.md (an indented block with lines `$ ..`) is made anew in a folder of its own, and its output compared; a line `...`
+# stands for whatever follows, and of a run of `trace` the numbers of stacks and points, which differ from run to run, are
+# passed over. So is what needs two terminals, `run` and the clients, of which `bench/run.sh` makes the like. It ends with 1 if
+# anything differs. It needs python3, xxd and the kit's rt.
 #
 #   bench/documents.sh [PROGRAM]      runs this program, by default the proved one
 here=$(cd "$(dirname "$0")/.." && pwd) || exit 1
@@ -17,6 +18,54 @@ README = f"{here}/README.md"
 DOCUMENTS = [README, f"{here}/CONTRIBUTING.md", *sorted(glob.glob(f"{here}/docs/*.md"))]
 CRATES = {os.path.basename(it) for it in glob.glob(f"{here}/crates/*")}
 OURS = re.compile(r"\./tracepipe (?!(run|ps|collect|stop) )|xxd ")
+# README.md is to be read at once.
+MOST_LINES, MOST_BYTES = 200, 14_000
+# Limits that documents say: the document, the words around the number, the file of the constant and its name.
+LIMITS = [
+    ("README.md", "1 to # chunks of", "ep_defs/src/limits.rt", "CHUNKS"),
+    ("README.md", "chunks of # bytes", "ep_defs/src/limits.rt", "CHUNK_BYTES"),
+    ("README.md", "# sessions and", "ep_defs/src/limits.rt", "SESSIONS"),
+    ("README.md", "and # threads stand at once", "ep_defs/src/limits.rt", "THREADS"),
+    ("README.md", "at most # frames", "ep_defs/src/limits.rt", "FRAMES"),
+    ("README.md", "and # bytes of payload", "ep_defs/src/limits.rt", "PAYLOAD_BYTES"),
+    ("docs/COMMANDS.md", "more than # events were taken", "nt_write/src/limits.rt", "FRAMED_EVENTS"),
+    ("docs/COMMANDS.md", "THREADS threads (1 to #)", "ep_defs/src/limits.rt", "THREADS"),
+    ("docs/COMMANDS.md", "WRITES writes each (0 to #)", "ep_defs/src/limits.rt", "WRITES"),
+    ("docs/COMMANDS.md", "1 to # parts `NAME`", "ep_defs/src/limits.rt", "RULES"),
+    ("docs/COMMANDS.md", "a level that is left out is # (", "ep_auto/src/limits.rt", "VERBOSE"),
+    ("docs/COMMANDS.md", "of which # count at most", "ipc_body/src/limits.rt", "MEGABYTES"),
+    ("docs/COMMANDS.md", "count at most, by default #.", "pt_cli/src/limits.rt", "USUAL_MEGABYTES"),
+    ("docs/COMMANDS.md", "a number of 64 bits, by default #, says", "pt_cli/src/limits.rt", "USUAL_SEED"),
+    ("docs/COMMANDS.md", "a schedule of N writes, 1 to #,", "pt_gen/src/limits.rt", "MOST_WRITES"),
+    ("docs/COMMANDS.md", "after every # writes", "pt_gen/src/limits.rt", "SWEEP_ROUNDS"),
+    ("docs/COMMANDS.md", "rows of threads (1 to #)", "ep_defs/src/limits.rt", "THREADS"),
+    ("docs/COMMANDS.md", "making WRITES writes (0 to #)", "ep_defs/src/limits.rt", "WRITES"),
+    ("docs/COMMANDS.md", "| `--seed S` | of 64 bits | # |", "pt_run/src/limits.rt", "USUAL_SEED"),
+    ("docs/COMMANDS.md", "| `--wait N` | 1 to # |", "pt_run/src/limits.rt", "MOST_WAIT"),
+    ("docs/COMMANDS.md", "| `--wait N` | 1 to 64 | # |", "pt_run/src/limits.rt", "USUAL_WAIT"),
+    ("docs/COMMANDS.md", "| `--streamers K` | 1 to # |", "pt_run/src/limits.rt", "MOST_STREAMERS"),
+    ("docs/COMMANDS.md", "| `--streamers K` | 1 to 64 | # |", "pt_run/src/limits.rt", "USUAL_STREAMERS"),
+    ("docs/COMMANDS.md", "| `--lives L` | 1 to # |", "pt_run/src/limits.rt", "MOST_LIVES"),
+    ("docs/COMMANDS.md", "| `--lives L` | 1 to 100 | # |", "pt_run/src/limits.rt", "USUAL_LIVES"),
+    ("docs/COMMANDS.md", "`long`, more than # events", "nt_write/src/limits.rt", "FRAMED_EVENTS"),
+    ("docs/COMMANDS.md", "up to # at once", "ep_defs/src/limits.rt", "SESSIONS"),
+    ("docs/COMMANDS.md", "a run takes # connections", "ep_journal/src/limits.rt", "CONNECTIONS"),
+    ("docs/COMMANDS.md", "the request has at most # bytes", "ipc_frame/src/limits.rt", "MESSAGE_BYTES"),
+    ("docs/SCHEDULES.md", "(more than # bytes)", "ep_plan/src/limits.rt", "LINE_BYTES"),
+    ("docs/SCHEDULES.md", "budget and 1 to # rules", "ep_defs/src/limits.rt", "RULES"),
+    ("docs/C.md", "at most # bytes of each kind of block", "nt_blocks/src/limits.rt", "WRITTEN_BYTES"),
+    ("include/tracepipe.h", "at most # bytes of events with", "nt_blocks/src/limits.rt", "WRITTEN_BYTES"),
+    ("include/tracepipe.h", "tp_define: # others are there", "ep_defs/src/limits.rt", "EVENTS"),
+    ("include/tracepipe.h", "tp_event: more than # bytes of frames", "nt_write/src/limits.rt", "STACK_BYTES"),
+    ("include/tracepipe.h", "tp_event: more than # bytes */", "ep_defs/src/limits.rt", "PAYLOAD_BYTES"),
+    ("include/tracepipe.h", "tp_event: # other threads", "nt_blocks/src/limits.rt", "POINT_THREADS"),
+    ("include/tracepipe.h", "tp_event: # events with frames", "nt_write/src/limits.rt", "FRAMED_EVENTS"),
+    ("include/tracepipe.h", "of more than # units or with a zero unit, more than", "ep_defs/src/limits.rt", "NAME_UNITS"),
+    ("include/tracepipe.h", "more than # fields", "ep_defs/src/limits.rt", "FIELDS"),
+    ("include/tracepipe.h", "deeper than # objects", "ep_defs/src/limits.rt", "FIELD_DEPTH"),
+]
+# The structs of include/tracepipe.h and of examples/c/tick.py, by their names in crates/tp_c.
+SHAPES = {"Info": "tp_info", "Definition": "tp_definition", "Field": "tp_field", "EventHead": "tp_event_head"}
 # The first two numbers of the line `items` are events and definitions.
 VARYING = re.compile(r"^(items\s+\d+\s+\d+)\s+\d+\s+\d+$")
 
@@ -217,6 +266,80 @@ def are_measured():
     return len(missing)
 
 
+def constants_of(path):
+    """The numbers of the constants of a file of the crates."""
+    found = re.findall(r"const ([A-Z_]+): \w+ = ([\d_]+);", read(f"{here}/crates/{path}"))
+    return {name: int(number) for name, number in found}
+
+
+def are_limits():
+    """Whether the limits that the documents say are those of the code."""
+    wrong = 0
+    for document, words, file, name in LIMITS:
+        before, after = (re.escape(it).replace(r"\ ", r"\s+(?:\*\s)?") for it in words.split("#"))
+        said = re.findall(rf"{before}([\d,]*\d){after}", read(f"{here}/{document}"))
+        if not said or any(int(it.replace(",", "")) != constants_of(file)[name] for it in said):
+            wrong += 1
+            tell(f"{here}/{document}", f"{words.replace('#', ' or '.join(said) or '#')}: {name} is {constants_of(file)[name]:,}")
+    return wrong
+
+
+def are_statuses():
+    """Whether the statuses of COMMANDS.md are those of the commands, with their names."""
+    path = f"{here}/docs/COMMANDS.md"
+    said = {(int(cells[0]), cells[1]) for head, cells in rows_of(path) if head == "Status"}
+    of_code = constants_of("pt_command/src/status.rt").items()
+    names = {"PEER_ERROR": "peer's error"}
+    there = {(number, names.get(name, name.lower().replace("_", " "))) for name, number in of_code}
+    if said != there:
+        tell(path, f"statuses that are not those of pt_command: {sorted(said ^ there)}")
+    return int(said != there)
+
+
+def field_of(kind, name):
+    """A field of a struct: its name, how many bytes a number of it has, and how many numbers it is."""
+    bits, count = re.search(r"u(?:int)?(\d+)", kind)[1], re.search(r"[;*] *(\d+)|\[(\d+)\]", kind + name)
+    return (re.match(r"\w+", name)[0], int(bits) // 8, int(next(filter(None, count.groups()))) if count else 1)
+
+
+def are_shaped():
+    """Whether C's header and the example in Python have the structs of tp_c, field by field, and the header its codes."""
+    shapes = read(f"{here}/crates/tp_c/src/shapes.rt")
+    header, python = read(f"{here}/include/tracepipe.h"), read(f"{here}/examples/c/tick.py")
+    wrong = 0
+    for name, in_c in SHAPES.items():
+        body = re.search(rf"pub struct {name} {{(.*?)\n}}", shapes, re.S)[1]
+        ours = [field_of(kind, it) for it, kind in re.findall(r"pub (\w+): ([^,]+),", body)]
+        body = re.search(rf"typedef struct {in_c} {{(.*?)}}", header, re.S)[1]
+        told = {"include/tracepipe.h": [field_of(kind, it) for kind, it in re.findall(r"(\w+) ([\w\[\]]+);", body)]}
+        body = re.search(rf"class {name}\(.*?\n\n\n", python, re.S)
+        if body:
+            told["examples/c/tick.py"] = [field_of(kind, it) for it, kind in re.findall(r'\("(\w+)", ([^)]+)\)', body[0])]
+        for path in [it for it, fields in told.items() if fields != ours]:
+            wrong += 1
+            tell(f"{here}/{path}", f"the struct {name} is another one than in tp_c")
+    codes = {f"TP_{name}": number for name, number in constants_of("tp_c/src/codes.rt").items()}
+    named = re.search(r"enum {\s*(TP_OK.*?)}", header, re.S)[1]
+    said = {name: int(number) for name, number in re.findall(r"(TP_\w+) = (\d+)", named) if name != "TP_NULL"}
+    if said != codes:
+        tell(f"{here}/include/tracepipe.h", f"codes that are not those of tp_c: {sorted(said.items() ^ codes.items())}")
+    return wrong + int(said != codes)
+
+
+def is_short():
+    """Whether README.md can be read at once, and names the kit that is here."""
+    text, wrong = read(README), 0
+    kit = subprocess.run(["rt", "version"], capture_output=True, text=True).stdout.strip()
+    for is_wrong, what in [
+        (text.count("\n") > MOST_LINES or len(text.encode()) > MOST_BYTES, f"more than {MOST_LINES} lines or {MOST_BYTES:,} bytes"),
+        (f"`rt version` prints `{kit}`" not in text, f"it does not name the kit, {kit}"),
+    ]:
+        if is_wrong:
+            wrong += 1
+            tell(README, what)
+    return wrong
+
+
 def runs_of(path):
     """The runs in a document: the command, and the lines that it is shown to print."""
     runs, is_open = [], False
@@ -275,6 +398,7 @@ def run_all():
 
 wrong = sum(lead_somewhere(path) + are_named(path) + are_defined(path) for path in DOCUMENTS)
 wrong += are_mapped() + are_claimed() + are_promised() + are_counted() + are_planted() + are_tested() + are_measured()
+wrong += are_limits() + are_statuses() + are_shaped() + is_short()
 print(f"words, counts and figures: {wrong} differ")
 wrong += run_all()
 sys.exit(1 if wrong else 0)
