@@ -1,7 +1,7 @@
 #!/bin/sh
 # The C library as programs use it. Builds the examples in C with warnings as errors and gcc's sanitizers, runs them and the
 # one in Python, and has `tracepipe report` read each stream: every event has to be there, a million of them by four
-# threads. Then it prints the instructions and nanoseconds of an event of 8 bytes through the call, beside a C program that
+# threads. It tries what is refused, and refuses each growth of memory in turn. Then it prints the instructions and nanoseconds of an event of 8 bytes through the call, beside a C program that
 # writes the same bytes by hand (the two streams are compared), the functions with the most instructions, and the bytes a
 # second to a pipe. Instructions are counted by callgrind (valgrind, a Debian package), since times vary by a third. The
 # word is how many events each of the four threads writes. It needs gcc, python3 and valgrind.
@@ -70,6 +70,10 @@ PROGRAM
 gcc $strict -g -fsanitize=address,undefined "$work/refused.c" "$lib/libtracepipe.a" -o "$work/refused" &&
     "$work/refused" || fail 'a refusal has another code'
 echo 'refusals: each has its code'
+
+# What is answered where memory is missing.
+gcc $strict -g -O1 -Wl,--wrap=malloc,--wrap=realloc "$here/bench/c/growths.c" "$lib/libtracepipe.a" -o "$work/growths" &&
+    "$work/growths" || fail 'a growth that is refused has another end'
 
 # Speed.
 for way in library hand; do
