@@ -1,13 +1,13 @@
 -- The counts of threads, with one entry more.
 use Rattle.std.proofs.Common.{◌≡◌, ℕ, ◌+◌, ◌<◌, Bool, true, false, cond, eqb, inl, inr, List, [], ◌∷◌, ◌++◌, Option, Some, None, refl, ap, sym, ◌∙◌, arith}
+use Rattle.std.proofs.Math.Nat.{add-zero}
 use Rattle.std.proofs.lemmas.Bool.{cases_Bool, eqb-true}
-use Rattle.std.proofs.lemmas.List.Sums.{sum_by-append, fold-append}
+use Rattle.std.proofs.lemmas.List.Sums.{sum_by-append}
 use Rattle.std.specs.Prelude.{unwrap_or, if◌then◌else◌, ◌==◌}
 use Rattle.std.specs.List.Sorted.{IsStrictlySortedBy}
 use Rattle.std.specs.Map.{keys_of}
 use Rattle.std.specs.Ordering.{nat_cmp}
 use Rattle.ep_defs.specs.Entry.{EventEntry, PointEntry, Entry, Event, Point}
-use Rattle.nt_write.specs.Writable.{framed_after, framed}
 use Rattle.tp_c.specs.Counting.{is_of, events_of, told_of, count_in, IsRoll}
 
 -- ---- events
@@ -18,9 +18,6 @@ counts-one b e = rw e refl
 
 counts-none : (b : Bool) → b ≡ false → 0 + cond b 1 0 ≡ 0
 counts-none b e = rw e refl
-
-no-more : (n : ℕ) → n + 0 ≡ n
-no-more n = omega arith
 
 -- One event more of a thread.
 event-counts : (thread : ℕ) (entries : List Entry) (event : EventEntry) → eqb event.thread thread ≡ true → events_of thread (entries ++ Event event ∷ []) ≡ events_of thread entries + 1
@@ -33,14 +30,14 @@ event-other : (thread : ℕ) (entries : List Entry) (event : EventEntry) → eqb
 event-other thread entries event other =
     sum_by-append (λ entry. cond (is_of thread entry) 1 0) entries (Event event ∷ [])
     ∙ ap (λ (n : ℕ). events_of thread entries + n) (counts-none (eqb event.thread thread) other)
-    ∙ no-more (events_of thread entries)
+    ∙ add-zero (events_of thread entries)
 
 -- A point.
 point-counts : (thread : ℕ) (entries : List Entry) (point : PointEntry) → events_of thread (entries ++ Point point ∷ []) ≡ events_of thread entries
 point-counts thread entries point =
     sum_by-append (λ entry. cond (is_of thread entry) 1 0) entries (Point point ∷ [])
     ∙ ap (λ (n : ℕ). events_of thread entries + n) (counts-none false refl)
-    ∙ no-more (events_of thread entries)
+    ∙ add-zero (events_of thread entries)
 
 -- ---- rolls
 
@@ -89,9 +86,3 @@ point-roll entries point threads h =
       counted = λ thread. h.counted thread ∙ sym (point-counts thread entries point);
       some = h.some;
     }
-
--- ---- stacks
-
--- The count of events with frames, with one entry more.
-pub framed-more : (entries : List Entry) (entry : Entry) → framed (entries ++ entry ∷ []) ≡ framed_after (framed entries) entry
-framed-more entries entry = fold-append framed_after 0 entries (entry ∷ [])

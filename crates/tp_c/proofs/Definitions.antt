@@ -27,13 +27,9 @@ get-longer [] ys k x h = absurd (get-nothing k x h)
 get-longer (y ∷ xs) ys zero x h = h
 get-longer (y ∷ xs) ys (suc k) x h = get-longer xs ys k x h
 
--- What is there is one thing.
-same-value : {A : Type 0} (x y : A) → Some x ≡ Some y → x ≡ y
-same-value x y h = ap (λ o. unwrap_or o x) h
-
 -- What stands in a list with one more stands in the list, or is the last.
 get-more : {A : Type 0} (xs : List A) (y : A) (k : ℕ) (x : A) → slice_get (xs ++ y ∷ []) k ≡ Some x → (slice_get xs k ≡ Some x) ⊎ ((k ≡ length xs) × (x ≡ y))
-get-more [] y zero x h = inr (refl, sym (same-value y x h))
+get-more [] y zero x h = inr (refl, sym (ap (λ o. unwrap_or o y) h))
 get-more [] y (suc k) x h = absurd (get-nothing k x h)
 get-more (z ∷ xs) y zero x h = inl h
 get-more (z ∷ xs) y (suc k) x h =
@@ -60,7 +56,7 @@ none-passes {A} test n (y ∷ xs) some none k x h =
     more = omega arith
 
     rest : (k : ℕ) (x : A) → slice_get (y ∷ xs) k ≡ Some x → test y ≡ false → ((place : ℕ) (z : A) → slice_get xs place ≡ Some z → test z ≡ false) → test x ≡ false
-    rest zero x h e later = subst (λ (z : A). test z ≡ false) (same-value y x h) e
+    rest zero x h e later = subst (λ (z : A). test z ≡ false) (ap (λ o. unwrap_or o y) h) e
     rest (suc k) x h e later = later k x h
 
 -- A definition without an id is not there.
@@ -85,7 +81,7 @@ position-next test n (y ∷ xs) place h =
     ]
   where
     found : test y ≡ true → Some n ≡ Some place → cond (test y) (Some (n + 1)) (position_from test (n + 1 + 1) xs) ≡ Some (place + 1)
-    found e f = ap (λ (b : Bool). cond b (Some (n + 1)) (position_from test (n + 1 + 1) xs)) e ∙ ap (λ (k : ℕ). Some (k + 1)) (same-value n place f)
+    found e f = ap (λ (b : Bool). cond b (Some (n + 1)) (position_from test (n + 1 + 1) xs)) e ∙ ap (λ (o : Option ℕ). Some (unwrap_or o n + 1)) f
 
 -- Where there is none from zero on, there is none from one on.
 pub position-none : {A : Type 0} (test : A → Bool) (n : ℕ) (xs : List A) → position_from test n xs ≡ None → position_from test (n + 1) xs ≡ None

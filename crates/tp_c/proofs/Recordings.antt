@@ -1,6 +1,7 @@
 -- What a recorder stands for, call by call.
 use Rattle.std.proofs.Common.{◌≡◌, ℕ, zero, suc, ◌+◌, Bool, true, false, List, [], ◌∷◌, ◌++◌, Option, Some, None, Result, Ok, Err, inl, inr, refl, ap, sym, ◌∙◌, subst}
 use Rattle.std.proofs.lemmas.List.{append-nil}
+use Rattle.std.proofs.lemmas.List.Sums.{fold-append}
 use Rattle.std.specs.Option.{option_or}
 use Rattle.std.specs.Prelude.{◌⊎◌, is_some, is_ok, not, OnOk, OnErr, ◌==◌, if◌then◌else◌}
 use Rattle.std.specs.List.Sorted.{IsStrictlySortedBy}
@@ -18,6 +19,7 @@ use Rattle.nt_write.specs.declared.writer.TraceWriter.{TraceWriter}
 use Rattle.nt_write.specs.Canonical.{IsCanonical}
 use Rattle.nt_write.specs.Layout.{with_member}
 use Rattle.nt_write.specs.Value.{framed_with}
+use Rattle.nt_write.specs.Writable.{framed_after}
 use Rattle.nt_write.specs.Writer.{IsWriting, TookPart, TookStream, fault_of, sink_of}
 use Rattle.tp_c.specs.declared.recorder.Stage.{Stage}
 use Rattle.tp_c.specs.declared.recorder.Stage.TheVariants.{Open, Over}
@@ -29,7 +31,7 @@ use Rattle.tp_c.specs.Counting.{events_of, told_of, count_in, IsRoll}
 use Rattle.tp_c.specs.Outgoing.{Outgoing, no_bytes, all_of, given_by}
 use Rattle.tp_c.specs.Recording.{HasAll, IsOpen, IsComplete, IsBegun, StandsFor, IsRecording, IsCut, HasTaken, HasCut, bytes_of, outgoing_of, threads_of, is_over_stage, is_over, is_cut_stage, event_of}
 use Rattle.tp_c.proofs.Definitions.{has-fewer}
-use Rattle.tp_c.proofs.Counts.{no-roll, event-roll, point-roll, framed-more}
+use Rattle.tp_c.proofs.Counts.{no-roll, event-roll, point-roll}
 
 -- All that an outlet took, as its trait says it.
 abbrev pub tells : Outgoing → Bool
@@ -117,7 +119,7 @@ taken info entries pulled event old new before after h was is same written given
       distinct = subst (λ (ds : List EventDef). AreDistinct (definition_at ds)) (sym same) h.distinct;
       roll = event-roll entries event (threads_of old) (threads_of new) h.roll ascending told;
       framed_are =
-          framed_is ∙ ap (λ (n : ℕ). framed_with n event.stack) h.framed_are ∙ sym (framed-more entries (Event event));
+          framed_is ∙ ap (λ (n : ℕ). framed_with n event.stack) h.framed_are ∙ sym (fold-append framed_after 0 entries (Event event ∷ []));
     }
 
 -- A recorder that wrote one point more.
@@ -135,7 +137,7 @@ pointed info entries pulled point old new before after h was is same threads fra
       distinct = subst (λ (ds : List EventDef). AreDistinct (definition_at ds)) (sym same) h.distinct;
       roll =
           subst (λ (ts : List (ℕ × ℕ)). IsRoll (entries ++ Point point ∷ []) ts) (sym threads) (point-roll entries point (threads_of old) h.roll);
-      framed_are = framed_is ∙ sym (framed-more entries (Point point));
+      framed_are = framed_is ∙ sym (fold-append framed_after 0 entries (Point point ∷ []));
     }
 
 -- What a sink took in part begins the stream.

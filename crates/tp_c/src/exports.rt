@@ -26,6 +26,7 @@ pub extern "C" fn tp_c_begin(alloc: Global, handle: &mut Handle, info: &Info) ->
     ensures live { handle.old.live ≡ true → (result ≡ LIVE) × (handle.new ≡ handle.old) }
     ensures other { handle.old.live ≡ false → (result ≡ OK) ⊎ (result ≡ OUT_OF_MEMORY) }
     ensures ok { result ≡ OK → Records (info_of info.now) [] [] handle.new }
+    ensures definitions { result ≡ OK → definitions_of (recorder_in handle.new) ≡ [] }
     ensures memory { result ≡ OUT_OF_MEMORY → handle.new ≡ handle.old }
 {
     if handle.live {
@@ -106,6 +107,7 @@ pub extern "C" fn tp_c_event(
         → HasCut info entries pulled (recorder_in handle.old) event.now frames.now payload.now (recorder_in handle.new) }
     ensures memory { result ≡ OUT_OF_MEMORY → IsSame handle.old handle.new }
     ensures live { handle.new.live ≡ handle.old.live }
+    ensures definitions { definitions_of (recorder_in handle.new) ≡ definitions_of (recorder_in handle.old) }
 {
     if !handle.live {
         return NOT_LIVE;
@@ -132,6 +134,7 @@ pub extern "C" fn tp_c_point(alloc: Global, handle: &mut Handle, stamp: u64) -> 
         → Records info entries pulled handle.old → result ≡ CUT
         → WasCut info (entries ++ Point (point_of stamp (threads_of (recorder_in handle.old))) ∷ []) pulled handle.new }
     ensures memory { result ≡ OUT_OF_MEMORY → IsSame handle.old handle.new }
+    ensures definitions { definitions_of (recorder_in handle.new) ≡ definitions_of (recorder_in handle.old) }
 {
     if !handle.live {
         return NOT_LIVE;
@@ -167,6 +170,7 @@ pub extern "C" fn tp_c_pull(
     ensures cut { (info : TraceInfo) (entries : List Entry) (pulled : List ℕ)
         → WasCut info entries pulled handle.old
         → WasCut info entries (pulled ++ take count.new out.new) handle.new }
+    ensures definitions { definitions_of (recorder_in handle.new) ≡ definitions_of (recorder_in handle.old) }
 {
     if !handle.live {
         return NOT_LIVE;

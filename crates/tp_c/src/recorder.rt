@@ -54,6 +54,7 @@ impl Recorder {
     /// The stream's start.
     pub fn begin(alloc: Global, info: &TraceInfo) -> Result<Recorder, Refusal>
         ensures ok { IfOk result (λ recorder. IsRecording info.now [] [] recorder) }
+        ensures definitions { IfOk result (λ recorder. definitions_of recorder ≡ []) }
         ensures memory { (refusal : Refusal) → result ≡ Err refusal → refusal ≡ OutOfMemory }
     {
         let sink = Outlet::new(alloc);
@@ -114,6 +115,7 @@ impl Recorder {
             → IsRecording info entries pulled self.old → result ≡ Err Cut
             → HasCut info entries pulled self.old head.now frames.now payload.now self.new }
         ensures same { result ≡ Err OutOfMemory → self.new ≡ self.old }
+        ensures definitions { definitions_of self.new ≡ definitions_of self.old }
     {
         if let Some(refusal) = self.refuses_head(head.event, frames, payload) {
             return Err(refusal);
@@ -134,6 +136,7 @@ impl Recorder {
             → IsRecording info entries pulled self.old → result ≡ Err Cut
             → IsCut info (entries ++ Point (point_of stamp (threads_of self.old)) ∷ []) pulled self.new }
         ensures same { result ≡ Err OutOfMemory → self.new ≡ self.old }
+        ensures definitions { definitions_of self.new ≡ definitions_of self.old }
     {
         if let Some(refusal) = self.refuses() {
             return Err(refusal);
@@ -273,6 +276,7 @@ impl Recorder {
             → IsRecording info entries pulled self.old → result ≡ Err Cut
             → HasCut info entries pulled self.old head.now frames.now payload.now self.new }
         ensures same { result ≡ Err OutOfMemory → self.new ≡ self.old }
+        ensures definitions { definitions_of self.new ≡ definitions_of self.old }
     {
         let Some(def) = self.definitions.get(head.event) else {
             unreachable!()
