@@ -3,9 +3,10 @@
 #   - `replay` of one event, and of a budget that is spent, and `report` of the latter's stream end with 9, and what they have
 #     written begins what they write else
 #   - `run` with two threads and budgets of one megabyte, of whose sessions the first is stopped, ends with 6 or 9 before it
-#     listens, and later with 9, or with 0: then one connection at most was refused for want of memory, or one session ended for
-#     it, each other one is whole for `report`, with the summary's numbers, and three were opened on all rows, so after one that
-#     was refused, or ended before it was open, others were served
+#     listens, and later with 9, or with 0: then one connection at most was refused for want of memory, the one that asks what
+#     the process says of itself among them, or one session ended for it, each other one is whole for `report`, with the
+#     summary's numbers, and three were opened on all rows, so after one that was refused, or ended before it was open,
+#     others were served
 # A growth is a call of the C library's malloc or realloc, which is refused by a small library that stands before it: those
 # of the C library itself, for its threads, are among them. It prints how many growths there are, and how the runs ended.
 # It needs python3 and a C compiler.
@@ -65,8 +66,8 @@ python3 - "$TRACEPIPE" "$work" "${1:-1}" <<'GROWTHS'
 import collections, struct, subprocess, sys, threading
 
 from peers import (
-    ERROR, LIMIT, OK, WEB, Run, collect_request, connected, ended, marks_in, program, received, report, session_of, sessions_in,
-    stop_request, threads_in, wanted, work,
+    ERROR, INFO_REQUEST, LIMIT, OK, WEB, Run, collect_request, connected, ended, marks_in, program, received, report,
+    session_of, sessions_in, stop_request, threads_in, wanted, work,
 )
 
 every = int(sys.argv[3])
@@ -117,6 +118,7 @@ class Served:
     def __init__(self, number):
         self.run = Run(2, 10, "--wait", 3, more=refusing(number), may_fail=True)
         self.connections, self.refused = 0, 0
+        self.described = self.undescribed = False
         self.streams, self.readers = {}, []
 
     def collect(self):
@@ -142,6 +144,17 @@ class Served:
         self.readers[-1].start()
         return session
 
+    def describe(self):
+        """Asks what the process says of itself, which takes memory."""
+        with connected(self.run) as link:
+            self.connections += 1
+            link.sendall(INFO_REQUEST)
+            reply = received(link)
+        self.described = reply[16:18] == OK
+        is_so = not reply or self.described or reply[20:] == NO_MEMORY.to_bytes(4, "little")
+        wanted(f"a process describes itself, or says that memory is missing, and not {reply.hex()}", is_so)
+        self.undescribed = bool(reply) and not self.described
+
     def stop(self, session):
         with connected(self.run) as link:
             self.connections += 1
@@ -152,6 +165,10 @@ class Served:
     def serve(self):
         """Sessions come until the threads write, the first of which is stopped."""
         first = True
+        try:
+            self.describe()
+        except OSError:
+            return  # It has ended.
         while self.run.process.poll() is None and self.connections < 20:
             try:
                 session = self.collect()
@@ -176,6 +193,7 @@ def one_run(number):
     wanted(f"growth {number}: a run ends with 0 or 9, and not with {status}", status in (0, 9))
     if status == 9:
         return {"9, somebody let in": 1}
+    wanted(f"growth {number}: a process that is asked says something of itself", of.described or of.undescribed)
     told = sessions_in(of.run.summary())
     memory = 0
     for session, stream in of.streams.items():
@@ -192,11 +210,12 @@ def one_run(number):
         wanted(f"growth {number}: session {session} is whole: {line} {said.stdout}", said.returncode == 0)
         same = threads_in(said.stdout.decode()) == marks_in(of.run.summary(), str(session))
         wanted(f"growth {number}: session {session} has the summary's numbers", same)
-    wanted(f"growth {number}: one session at most wants memory", memory + of.refused <= 1)
+    wanted(f"growth {number}: one answer at most wants memory", memory + of.refused + of.undescribed <= 1)
     summary = of.run.summary()
     early = [it for it in told if sum(line[:2] == ["mark", it] and line[3] == "0" for line in summary) == 2]
     wanted(f"growth {number}: as many sessions are opened as the threads wait for: {summary}", len(early) >= 3)
-    return {"0, a session refused": of.refused, "0, a session ended for it": memory, "0": 1 - of.refused - memory}
+    others = {"0, a session refused": of.refused, "0, a session ended for it": memory, "0, not described": of.undescribed}
+    return {**others, "0": 1 - sum(others.values())}
 
 
 def runs():
