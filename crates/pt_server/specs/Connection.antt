@@ -1,7 +1,7 @@
 -- How one connection of a diagnostic server ends: by what was decided on it, what its link gave and what its link took
 -- (the DOTNET_IPC_V1 protocol document of dotnet/diagnostics; that a connection carries one request, and which code
 -- answers which finding, is this project's profile).
-use Rattle.std.specs.Prelude.{◌≡◌, ◌≢◌, ℕ, Bool, ◌<◌, ◌++◌, ◌⊎◌, List, [], Ok, Err, IsTrue}
+use Rattle.std.specs.Prelude.{◌≡◌, ◌≢◌, ℕ, Bool, ◌<◌, ◌++◌, ◌⊎◌, List, [], length, Ok, Err, IsTrue}
 use Rattle.ep_defs.specs.declared.session.Config.{Config}
 use Rattle.ep_defs.specs.declared.session.Facts.{Facts}
 use Rattle.ep_defs.specs.declared.session.TraceInfo.{TraceInfo}
@@ -135,13 +135,17 @@ pub record TookStart (info : TraceInfo) (greeting : List ℕ) (tells : Bool) (ta
   pub id : ℕ
   pub part : IsTrue tells → StartsWith info greeting id taken
 
--- It asked for a session, of which something was written before its start failed, by a write or for want of memory.
+-- The link took more than the greeting, where it tells what it takes.
+abbrev pub TookMore : List ℕ → WriteSide → Type 0
+TookMore greeting took = IsTrue took.tells → length greeting < length took.taken
+
+-- It asked for a session whose start failed: by a write, or for want of memory once something of it was written.
 pub record WasCut (facts : Facts) (greeting : List ℕ) (d : Decision) (told : ConnAnswer) (gave : ReadSide) (took : WriteSide) : Type 0 where
   pub nothing : d ≡ decision.Nothing
   pub config : Config
   pub asked : HasAsked gave (request.Collect config)
   pub begun : TookStart facts.info greeting took.tells took.taken
-  pub why : ((told ≡ answer.WriteFault) × (0 < took.faults)) ⊎ ((told ≡ answer.Error OUT_OF_MEMORY) × (took.faults ≡ 0))
+  pub why : ((told ≡ answer.WriteFault) × (0 < took.faults)) ⊎ ((told ≡ answer.Error OUT_OF_MEMORY) × TookMore greeting took × (took.faults ≡ 0))
 
 -- It ends in one of these ways.
 abbrev pub IsEnded : Facts → List ℕ → Decision → ConnAnswer → ReadSide → WriteSide → Type 0

@@ -13,11 +13,13 @@ use pt_io::{Failed, Link, Sink};
 use std::marker::{Model, PhantomData};
 
 /// The link of a session, as the sink of its stream. Its type keeps that the bytes which the link gave asked for this
-/// configuration, and that the link has taken nothing but the greeting until something is written.
+/// configuration, and that the link has taken nothing but the greeting until something is written, and more from then on,
+/// unless a write of it failed.
 #[derive(Drop)]
 pub struct Served<'a, N: Process, L: Link> {
     link: L,
     config: &'a Config,
+    // A piece that is not empty was written, or a write failed.
     wrote: bool,
     tag: PhantomData<N>,
 }
@@ -97,7 +99,10 @@ impl<N: Process, L: Link> Sink for Served<'_, N, L> {
     ghost read_side = { λ s. L.read_side s.link };
 
     fn write(&mut self, piece: &[u8]) -> Result<(), Failed> {
-        self.wrote = true;
-        self.link.write(piece)
+        let written = self.link.write(piece);
+        if !piece.is_empty() || written.is_err() {
+            self.wrote = true;
+        }
+        written
     }
 }
