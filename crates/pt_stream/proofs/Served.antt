@@ -77,10 +77,9 @@ served-opened rows row life places opened some within count later ascending serv
         by-row (HasOne rows (insert_ascending (thread_of rows (row - 1) life) opened) r (place_at (with_place row (opened_place life) places) r)) r row
         (λ is.
         let now : place_at (with_place row (opened_place life) places) r ≡ opened_place life = ap (place_at (with_place row (opened_place life) places)) is ∙ here in
-        let below : life < (place_at (with_place row (opened_place life) places) r).next = subst (λ (p : Place). life < p.next) (sym now) (omega arith) in
         record {
           life = life;
-          opened = below;
+          opened = ap (λ (p : Place). p.next) now;
           has = subst (λ (x : ℕ). IsOneOf (insert_ascending (thread_of rows (row - 1) life) opened) (thread_of rows (x - 1) life)) (sym is) (one-here (thread_of rows (row - 1) life) opened);
         })
         (λ not.
@@ -88,7 +87,7 @@ served-opened rows row life places opened some within count later ascending serv
         let one = served.all r there (subst (λ (p : Place). 0 < p.next) was up) in
         record {
           life = one.life;
-          opened = still rows row life places some within count later r one.life there one.opened;
+          opened = ap (λ (p : Place). p.next) was ∙ one.opened;
           has = one-more (thread_of rows (row - 1) life) (thread_of rows (r - 1) one.life) opened one.has;
         })
 
@@ -109,5 +108,5 @@ served-same rows old new opened same served =
           };
       all = λ r there up.
           let one = served.all r there (subst (λ (n : ℕ). 0 < n) (same r there) up) in
-          record { life = one.life; opened = subst (λ (n : ℕ). one.life < n) (sym (same r there)) one.opened; has = one.has };
+          record { life = one.life; opened = same r there ∙ one.opened; has = one.has };
     }

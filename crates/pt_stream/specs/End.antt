@@ -1,5 +1,5 @@
 -- What a session over a run's rows comes to (this project's theorem).
-use Rattle.std.specs.Prelude.{◌≡◌, ◌≢◌, ℕ, ◌-◌, ◌<◌, ◌≤◌, true, false, List, length, map}
+use Rattle.std.specs.Prelude.{◌≡◌, ◌≢◌, ℕ, ◌+◌, ◌-◌, ◌<◌, ◌≤◌, true, false, List, length, map}
 use Rattle.std.specs.List.{AllByRecursion, sum_by}
 use Rattle.ep_defs.specs.declared.session.Marks.{Marks}
 use Rattle.pt_io.specs.declared.sink.Sink.{Ghosts as Sink}
@@ -25,14 +25,14 @@ pub record IsServed (rows : ℕ) (places : List Place) (thread : ℕ) : Type 0 w
   pub opened : life < (place_at places row).next
   pub thread_is : thread ≡ thread_of rows (row - 1) life
 
--- Where it was opened on the row, one of these is a thread of the row in such a life.
+-- One of these is the row's thread in the last life in which a session was opened there.
 pub record HasOne (rows : ℕ) (threads : List ℕ) (row : ℕ) (place : Place) : Type 0 where
   pub life : ℕ
-  pub opened : life < place.next
+  pub opened : place.next ≡ life + 1
   pub has : IsOneOf threads (thread_of rows (row - 1) life)
 
--- The threads are those of rows, ascending, in lives in which a session was opened there, and some thread of each row where
--- it was.
+-- The threads are those of rows, ascending, in lives up to the last in which a session was opened there, and the last thread
+-- of each row where it was.
 pub record AreServed (rows : ℕ) (places : List Place) (threads : List ℕ) : Type 0 where
   pub ascending : AreAscending threads
   pub each : (thread : ℕ) → IsOneOf threads thread → IsServed rows places thread

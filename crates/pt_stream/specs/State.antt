@@ -9,6 +9,7 @@ use Rattle.ep_defs.specs.declared.session.Marks.{Marks}
 use Rattle.ep_defs.specs.declared.session.Write.{Write}
 use Rattle.ep_defs.specs.Definitions.{AreDistinct, definition_at}
 use Rattle.ep_defs.specs.Event.{is_valid_event}
+use Rattle.ep_guarded.specs.Tied.{thread_of}
 use Rattle.ep_pool.specs.Shared.{SharedPool, SeatState}
 use Rattle.ep_stream.specs.Named.{with_marks}
 use Rattle.pt_io.specs.Sides.{ReadSide}
@@ -102,10 +103,12 @@ EndsAt writes mark = mark.to ≡ writes
 abbrev pub IsDone : (ℕ → List Write) → Marks → Type 0
 IsDone writes mark = mark.to ≡ length (writes mark.thread)
 
--- These are the marks with those of one thread more, which had made so many writes, where that is known or was asked.
-pub record IsMarked (stands ends : Option ℕ) (old new : List Marks) : Type 0 where
+-- These are the marks with those of one thread more: the row's thread in the last life in which the session was opened there.
+-- It had made so many writes, where that is known or was asked.
+pub record IsMarked (rows row : ℕ) (place : Place) (stands ends : Option ℕ) (old new : List Marks) : Type 0 where
   pub mark : Marks
   pub more : new ≡ with_marks mark old
+  pub thread_is : mark.thread ≡ thread_of rows (row - 1) (place.next - 1)
   pub stands_at : ForSome stands (λ index. mark.to ≡ index)
   pub ends_at : stands ≡ None → ForSome ends (λ index. mark.to ≡ index)
 

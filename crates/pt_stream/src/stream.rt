@@ -365,6 +365,8 @@ impl<'a, P: Run, S: Sink> Stream<'a, P, S> {
         requires open { (place_at self.places row).is_open ≡ true }
         requires events { AreEvents P.events }
         ensures closed { result ≡ closed_on row result.marks self.entry }
+        ensures marked { IsMarked P.rows row (place_at self.entry.places row) self.entry.stands None
+            self.entry.marks result.marks }
         ensures ends { (to : ℕ) → self.entry.stands ≡ Some to → AllByRecursion (EndsAt to) self.entry.marks
             → AllByRecursion (EndsAt to) result.marks }
     {
@@ -387,6 +389,8 @@ impl<'a, P: Run, S: Sink> Stream<'a, P, S> {
         requires each { (thread : ℕ) → length (P.writes thread) ≡ writes }
         requires events { AreEvents P.events }
         ensures closed { result ≡ closed_on row result.marks self.entry }
+        ensures marked { IsMarked P.rows row (place_at self.entry.places row) self.entry.stands (Some writes)
+            self.entry.marks result.marks }
         ensures done { AllByRecursion (IsDone P.writes) self.entry.marks
             → AllByRecursion (IsDone P.writes) result.marks }
     {
@@ -406,7 +410,8 @@ impl<'a, P: Run, S: Sink> Stream<'a, P, S> {
         requires open { (place_at self.places row).is_open ≡ true }
         requires events { AreEvents P.events }
         ensures closed { result ≡ closed_on row result.marks self.entry }
-        ensures marked { IsMarked self.entry.stands ends self.entry.marks result.marks }
+        ensures marked { IsMarked P.rows row (place_at self.entry.places row) self.entry.stands ends
+            self.entry.marks result.marks }
     {
         a_closed_row_is_traced::<S>();
         a_call_that_takes_nothing_changes_no_trace::<S>();

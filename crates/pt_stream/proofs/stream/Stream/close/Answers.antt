@@ -1,4 +1,4 @@
-use Rattle.std.proofs.Common.{◌≡◌, ◌∙◌, ◌-◌, List, false, None, sym, ap, subst, arith}
+use Rattle.std.proofs.Common.{◌≡◌, ◌∙◌, ◌-◌, List, false, None, Some, sym, ap, subst, arith}
 use Rattle.std.specs.Prelude.{slice_set}
 use Rattle.ep_defs.specs.Definitions.{AreDistinct, definition_at}
 use Rattle.ep_defs.specs.declared.event.EventDef.{EventDef}
@@ -6,8 +6,9 @@ use Rattle.ep_defs.specs.declared.session.Marks.{Marks}
 use Rattle.ep_stream.specs.Named.{with_marks}
 use Rattle.ep_stream.specs.Session.{Rest}
 use Rattle.ep_live.specs.RowSet.{LiveRowsState}
+use Rattle.ep_guarded.specs.Tied.{thread_of}
 use Rattle.pt_stream.specs.declared.place.Place.{Place}
-use Rattle.pt_stream.specs.Kept.{IsKept}
+use Rattle.pt_stream.specs.Kept.{IsHandOf, IsKept}
 use Rattle.pt_stream.specs.Setting.{watch_of}
 use Rattle.pt_stream.specs.State.{StreamState, place_at}
 use Rattle.pt_stream.proofs.Keeping.{detached-weaker, kept-closed, kept-moved}
@@ -70,9 +71,14 @@ returns-clause-marked g c =
     let d = c.detach.ensures.detached in
     let moved = c.close_at.ensures ∙ ap (λ (set : LiveRowsState). record set { ends = c.args.ends }) c.resume-rows.ensures in
     let stands = ap (λ (set : LiveRowsState). set.stands) moved ∙ c.self.invariant.0 ∙ ap (λ (v : StreamState). v.stands) c.self.view_is in
+    let place = place_at c.self.inside.places.items c.args.row in
+    let own : IsHandOf g.P.Program.rows c.args.row place (Some d.hand) =
+    subst (IsHandOf g.P.Program.rows c.args.row place) d.was (c.self.invariant.1.places_are.hands_are c.args.row c.requires.row.0)
+    in
     record {
       mark = d.marks;
       more = ap (λ (r : Rest). r.marks) c.give.ensures.rest ∙ ap (λ (r : Rest). r.marks) d.rest ∙ ap (λ (ms : List Marks). with_marks d.marks ms) (ap (λ (v : StreamState). v.marks) c.self.view_is);
+      thread_is = d.marked.thread ∙ own.2 ∙ ap (λ (v : StreamState). thread_of g.P.Program.rows (c.args.row - 1) ((place_at v.places c.args.row).next - 1)) c.self.view_is;
       stands_at = λ index is. d.tested_marks.1 index (stands ∙ is);
       ends_at = λ none index is. d.tested_marks.2 (stands ∙ none) index (ap (λ (set : LiveRowsState). set.ends) moved ∙ is);
     }
