@@ -1,0 +1,5 @@
+-- to be believed
+pub mod Kinds
+pub mod Values
+-- what taking answers
+pub mod Taking
