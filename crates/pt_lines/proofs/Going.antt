@@ -1,0 +1,124 @@
+-- The fields of a payload, put one after another.
+use Rattle.std.proofs.Common.{◌≡◌, ℕ, true, false, eqb, List, [], ◌∷◌, ◌++◌, length, take, Option, Some, None, Result, Ok, Err, refl, sym, ap, ◌∙◌, subst, append_assoc}
+use Rattle.std.proofs.lemmas.List.{append-nil}
+use Rattle.std.proofs.Math.Seq.{take-append_seam}
+use Rattle.ep_defs.specs.declared.event.FieldDef.{FieldDef}
+use Rattle.ep_defs.specs.Event.{deepest_after}
+use Rattle.pt_num.specs.Begins.{Keeps}
+use Rattle.nt_fields.specs.declared.kind.FieldKind.{FieldKind}
+use Rattle.nt_fields.specs.Kinds.{kind_of}
+use Rattle.nt_fields.specs.Values.{FieldValue, Misfit, DoesNotFit, Part, value_at, values_at, payload_at}
+use Rattle.pt_lines.specs.Texts.{IsShown, AreFields, IsPayload, closes, field_name}
+use Rattle.pt_lines.specs.Appends.{Appends}
+use Rattle.pt_lines.specs.state.Fields.{PutsValues}
+
+-- Of the fields some are put, and these are left, with these bytes and so many open objects.
+pub record Going (fields : List FieldDef) (payload : List ℕ) (old : List ℕ) (left : List FieldDef) (bytes : List ℕ) (opened : ℕ) (out : List ℕ) : Type 0 where
+  pub text : List ℕ
+  pub put : out ≡ old ++ text
+  pub goes : (values : List FieldValue) (rest : List ℕ) → values_at left bytes ≡ Ok (values, rest)
+      → (all : List FieldValue) × (values_at fields payload ≡ Ok (all, rest)) × ((more : List ℕ) → AreFields opened left values more → AreFields 0 fields all (text ++ more))
+  pub stops : values_at left bytes ≡ Err DoesNotFit → values_at fields payload ≡ Err DoesNotFit
+
+pub going-start : (fields : List FieldDef) (payload old : List ℕ) → Going fields payload old fields payload 0 old
+going-start fields payload old =
+    record {
+      text = [];
+      put = sym (append-nil old);
+      goes = λ values rest e. (values, e, λ more is. is);
+      stops = λ e. e;
+    }
+
+-- A field and those after it.
+values-on : (field : FieldDef) (others : List FieldDef) (bytes next rest : List ℕ) (kind : FieldKind) (value : FieldValue) (values : List FieldValue) → kind_of field.code ≡ Some kind → value_at kind bytes ≡ Ok (value, next) → values_at others next ≡ Ok (values, rest) → values_at (field ∷ others) bytes ≡ Ok (value ∷ values, rest)
+unfolding values_at
+values-on field others bytes next rest kind value values known read later = rw (known, read, later) refl
+
+values-off : (field : FieldDef) (others : List FieldDef) (bytes next : List ℕ) (kind : FieldKind) (value : FieldValue) → kind_of field.code ≡ Some kind → value_at kind bytes ≡ Ok (value, next) → values_at others next ≡ Err DoesNotFit → values_at (field ∷ others) bytes ≡ Err DoesNotFit
+unfolding values_at
+values-off field others bytes next kind value known read later = rw (known, read, later) refl
+
+pub no-kind : (field : FieldDef) (others : List FieldDef) (bytes : List ℕ) → kind_of field.code ≡ None → values_at (field ∷ others) bytes ≡ Err DoesNotFit
+unfolding values_at
+no-kind field others bytes unknown = rw unknown refl
+
+pub no-value : (field : FieldDef) (others : List FieldDef) (bytes : List ℕ) (kind : FieldKind) → kind_of field.code ≡ Some kind → value_at kind bytes ≡ Err DoesNotFit → values_at (field ∷ others) bytes ≡ Err DoesNotFit
+unfolding values_at
+no-value field others bytes kind known misfit = rw (known, misfit) refl
+
+pub going-on : (fields : List FieldDef) (payload old : List ℕ) (field : FieldDef) (others : List FieldDef) (bytes next : List ℕ) (opened : ℕ) (out named now : List ℕ) (kind : FieldKind) (value : FieldValue)
+    → Going fields payload old (field ∷ others) bytes opened out → kind_of field.code ≡ Some kind → value_at kind bytes ≡ Ok (value, next)
+    → named ≡ out ++ field_name opened field → Appends (IsShown value) named now
+    → Going fields payload old others next (deepest_after field) now
+going-on fields payload old field others bytes next opened out named now kind value going known read name (shown, is, put) =
+    let here = field_name opened field in
+    record {
+      text = going.text ++ (here ++ shown);
+      put = put
+          ∙ ap (λ (xs : List ℕ). xs ++ shown) name
+          ∙ append_assoc out here shown
+          ∙ ap (λ (xs : List ℕ). xs ++ (here ++ shown)) going.put
+          ∙ append_assoc old going.text (here ++ shown);
+      goes = λ values rest e.
+          let all = going.goes (value ∷ values) rest (values-on field others bytes next rest kind value values known read e) in (
+            all.0,
+            all.1,
+            λ more are.
+                subst (λ (text : List ℕ). AreFields 0 fields all.0 text) (sym (append_assoc going.text (here ++ shown) more))
+                (all.2 ((here ++ shown) ++ more) (shown, more, is, are, refl)),
+          );
+      stops = λ e. going.stops (values-off field others bytes next kind value known read e);
+    }
+
+-- ---- the end
+
+keeps-front : (old text out : List ℕ) → out ≡ old ++ text → Keeps old out
+keeps-front old text out put = ap (λ (xs : List ℕ). take (length old) xs) put ∙ take-append_seam old text
+
+misfit-puts : (fields : List FieldDef) (payload old out : List ℕ) → payload_at fields payload ≡ Err DoesNotFit → Keeps old out → PutsValues fields (payload_at fields payload) false old out
+misfit-puts fields payload old out e keeps = rw e keeps
+
+-- A field has no value in the payload.
+pub ends-misfit : (fields : List FieldDef) (payload old : List ℕ) (left : List FieldDef) (bytes : List ℕ) (opened : ℕ) (out : List ℕ)
+    → Going fields payload old left bytes opened out → values_at left bytes ≡ Err DoesNotFit → PutsValues fields (payload_at fields payload) false old out
+ends-misfit fields payload old left bytes opened out going misfit =
+    let none : values_at fields payload ≡ Err DoesNotFit = going.stops misfit in
+    misfit-puts fields payload old out (rw none refl) (keeps-front old going.text out going.put)
+
+no-fields : (bytes : List ℕ) → values_at [] bytes ≡ Ok ([], bytes)
+unfolding values_at
+no-fields bytes = refl
+
+-- Bytes are left over.
+pub ends-over : (fields : List FieldDef) (payload old bytes : List ℕ) (opened : ℕ) (out : List ℕ)
+    → Going fields payload old [] bytes opened out → eqb (length bytes) 0 ≡ false → PutsValues fields (payload_at fields payload) false old out
+ends-over fields payload old bytes opened out going some =
+    let all = going.goes [] bytes (no-fields bytes) in
+    let read : values_at fields payload ≡ Ok (all.0, bytes) = all.1 in
+    misfit-puts fields payload old out (rw (read, some) refl) (keeps-front old going.text out going.put)
+
+-- All fields have their values, and no bytes are left.
+pub ends-all : (fields : List FieldDef) (payload old bytes : List ℕ) (opened : ℕ) (out now : List ℕ)
+    → Going fields payload old [] bytes opened out → eqb (length bytes) 0 ≡ true → now ≡ out ++ closes opened → PutsValues fields (payload_at fields payload) true old now
+ends-all fields payload old bytes opened out now going none put =
+    let all = going.goes [] bytes (no-fields bytes) in
+    let read : values_at fields payload ≡ Ok (all.0, bytes) = all.1 in
+    let fits : payload_at fields payload ≡ Ok all.0 = rw (read, none) refl in
+    rw fits (
+      going.text ++ closes opened,
+      all.2 (closes opened) refl,
+      put ∙ ap (λ (xs : List ℕ). xs ++ closes opened) going.put ∙ append_assoc old going.text (closes opened),
+    )
+
+-- ---- the whole payload
+
+-- It fits, and its fields were put.
+pub payload-fits : (fields : List FieldDef) (payload : List ℕ) (result : Result (List FieldValue) Misfit) (old new : List ℕ) → PutsValues fields result true old new → Appends (IsPayload fields payload result) old new
+payload-fits fields payload (Ok values) old new put = put
+payload-fits fields payload (Err misfit) old new put = absurd put
+
+-- It does not fit, and all of it was put in place of its fields.
+pub payload-misfits : (fields : List FieldDef) (payload : List ℕ) (result : Result (List FieldValue) Misfit) (old mid cut new word bytes : List ℕ) → PutsValues fields result false old mid → cut ≡ take (length old) mid → new ≡ (cut ++ word) ++ bytes → IsPayload fields payload (Err DoesNotFit) (word ++ bytes) → Appends (IsPayload fields payload result) old new
+payload-misfits fields payload (Ok values) old mid cut new word bytes put is now text = absurd put
+payload-misfits fields payload (Err misfit) old mid cut new word bytes put is now text =
+    (word ++ bytes, text, now ∙ append_assoc cut word bytes ∙ ap (λ (xs : List ℕ). xs ++ (word ++ bytes)) (is ∙ put))

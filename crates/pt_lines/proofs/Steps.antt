@@ -1,0 +1,58 @@
+-- What is put behind some bytes, one piece after another.
+use Rattle.std.proofs.Common.{◌≡◌, ℕ, zero, suc, cond, List, [], ◌∷◌, ◌++◌, Result, refl, sym, ap, ◌∙◌, subst, append_assoc}
+use Rattle.std.specs.Prelude.{OnOk, Ok, Err, false, is_err, is_ok, codes}
+use Rattle.ep_defs.specs.declared.event.FieldDef.{FieldDef}
+use Rattle.ep_defs.specs.Entry.{EventEntry}
+use Rattle.nt_fields.specs.Values.{payload_at}
+use Rattle.pt_lines.specs.declared.form.Form.TheVariants as forms
+use Rattle.pt_lines.specs.Line.{Event}
+use Rattle.pt_lines.specs.Texts.{IsLine, IsPayload, event_start, closes}
+use Rattle.std.proofs.lemmas.List.{append-nil}
+use Rattle.std.proofs.lemmas.Result.{on_ok_weaker}
+use Rattle.pt_lines.specs.Appends.{Appends}
+
+-- Where a text was put for which this holds, such a text was put.
+pub said : {E A : Type 0} (P : List ℕ → Type 0) (answer : Result A E) (old new text : List ℕ) → P text → OnOk answer (new ≡ old ++ text) → OnOk answer (Appends P old new)
+said P answer old new text is put = on_ok_weaker answer (λ e. (text, is, e)) put
+
+-- So it is with a text that is known.
+pub said-eq : {E A : Type 0} (answer : Result A E) (old new text : List ℕ) → OnOk answer (new ≡ old ++ text) → OnOk answer ((t : List ℕ) × (t ≡ text) × (new ≡ old ++ t))
+said-eq answer old new text put = on_ok_weaker answer (λ e. (text, refl, e)) put
+
+-- Nothing is put.
+pub nothing : (P : List ℕ → Type 0) (old : List ℕ) → P [] → Appends P old old
+nothing P old is = ([], is, sym (append-nil old))
+
+-- Two pieces are put.
+pub both : (P Q R : List ℕ → Type 0) (old mid new : List ℕ) → ((a b : List ℕ) → P a → Q b → R (a ++ b)) → Appends P old mid → Appends Q mid new → Appends R old new
+both P Q R old mid new joined (a, first, here) (b, second, there) =
+    (a ++ b, joined a b first second, there ∙ ap (λ (xs : List ℕ). xs ++ b) here ∙ append_assoc old a b)
+
+-- What follows of an answer that is no fault.
+pub on-ok-is : {E A P : Type 0} (answer : Result A E) → OnOk answer P → is_err answer ≡ false → P
+on-ok-is (Ok x) p e = p
+on-ok-is (Err fault) p e = absurd (cc)
+
+-- The end of one object more.
+pub closes-more : (count : ℕ) → closes (suc count) ≡ closes count ++ codes " }"
+closes-more zero = refl
+closes-more (suc count) =
+    ap (λ (rest : List ℕ). codes " }" ++ rest) (closes-more count) ∙ sym (append_assoc (codes " }") (closes count) (codes " }"))
+
+-- What a call that appends says, where it appends this text.
+pub ok-items : {E A : Type 0} (answer : Result A E) (old new piece text : List ℕ) → new ≡ cond (is_ok answer) (old ++ piece) old → piece ≡ text → OnOk answer (new ≡ old ++ text)
+ok-items (Ok x) old new piece text e is = e ∙ ap (λ (xs : List ℕ). old ++ xs) is
+ok-items (Err fault) old new piece text e is = tt
+
+-- The line of an event was put.
+pub event-put : (address processor thread : ℕ) (event : EventEntry) (fields : List FieldDef) (payload old start mid new : List ℕ) → fields ≡ event.def.fields → payload ≡ event.payload → start ≡ old ++ event_start event → Appends (IsPayload fields payload (payload_at fields payload)) start mid → new ≡ mid ++ 10 ∷ [] → Appends (IsLine forms.Lines (Event address processor thread event)) old new
+event-put address processor thread event fields payload old start mid new same said begun (text, is, put) end =
+    let told : IsPayload event.def.fields event.payload (payload_at event.def.fields event.payload) text =
+    subst (λ (p : List ℕ). IsPayload event.def.fields p (payload_at event.def.fields p) text) said
+    (subst (λ (f : List FieldDef). IsPayload f payload (payload_at f payload) text) same is) in (
+      event_start event ++ text ++ 10 ∷ [],
+      (text, told, refl),
+      end
+          ∙ ap (λ (xs : List ℕ). xs ++ 10 ∷ []) (put ∙ ap (λ (xs : List ℕ). xs ++ text) begun ∙ append_assoc old (event_start event) text)
+          ∙ append_assoc old (event_start event ++ text) (10 ∷ []),
+    )

@@ -1,0 +1,6 @@
+use Rattle.std.proofs.Common.{arith}
+use Rattle.std.proofs.lemmas.Float.{not_nan_f32_bits}
+use Rattle.pt_lines.proofs.value.put_single.Goals as goal
+
+pub float_from_bits-bits : goal.float_from_bits-bits
+float_from_bits-bits c = not_nan_f32_bits c.args.bits (omega arith)

@@ -1,0 +1,8 @@
+//! The forms of a line.
+
+/// How lines are written.
+#[derive(Clone, Copy, Debug, PartialEq, Eq)]
+pub enum Form {
+    /// A word, numbers, names and values, as in a report.
+    Lines,
+}

@@ -1,0 +1,132 @@
+//! Whole lines.
+ghost use Rattle.std.specs.Prelude.{◌≡◌, ◌++◌, ℕ, OnOk};
+ghost use Rattle.ep_defs.specs.Entry.{EventEntry};
+ghost use Rattle.pt_lines.specs.declared.form.Form.TheVariants as forms;
+ghost use Rattle.pt_lines.specs.Line.{Event, Lost, Point, lost_if};
+ghost use Rattle.pt_lines.specs.Texts.{AreLines, IsLine, event_start, lost_line, point_text};
+ghost use Rattle.pt_lines.specs.Appends.{Appends, Tells};
+
+use crate::fields::put_payload;
+use crate::form::Form;
+use ep_defs::EventDef;
+use pt_print::{put_end, put_number, put_units, put_word};
+use std::alloc::{AllocError, Global};
+
+/// What the line of an event says.
+#[derive(Clone, Copy)]
+pub struct EventLine<'a> {
+    /// How many bytes an address of its stack has.
+    pub address: u32,
+    pub processor: u32,
+    /// The thread that it names beside its capture thread.
+    pub thread_id: u64,
+    pub stamp: u64,
+    /// The capture thread, whose number it has.
+    pub thread: u64,
+    pub number: u32,
+    pub def: &'a EventDef,
+    pub activity: &'a [u8; 16],
+    pub related: &'a [u8; 16],
+    pub stack: &'a [u8],
+    pub payload: &'a [u8],
+}
+
+/// Appends the line of numbers that a thread leaves out, where there are some.
+pub fn put_lost(
+    out: &mut Vec<u8>,
+    form: Form,
+    thread: u64,
+    count: u32,
+) -> Result<(), AllocError>
+    ensures { OnOk result (Appends (AreLines form (lost_if thread count)) out.old.items out.new.items) }
+{
+    if count == 0 {
+        return Ok(());
+    }
+    put_one_lost(out, form, thread, count)
+}
+
+fn put_one_lost(
+    out: &mut Vec<u8>,
+    form: Form,
+    thread: u64,
+    count: u32,
+) -> Result<(), AllocError>
+    ensures { OnOk result (Appends (IsLine form (Lost thread count)) out.old.items out.new.items) }
+{
+    match form {
+        Form::Lines => put_lost_line(out, thread, count),
+    }
+}
+
+fn put_lost_line(out: &mut Vec<u8>, thread: u64, count: u32) -> Result<(), AllocError>
+    ensures { OnOk result (out.new.items ≡ out.old.items ++ lost_line thread count) }
+{
+    put_word(out, "lost")?;
+    put_number(out, thread)?;
+    put_number(out, u64::from(count))?;
+    put_end(out)
+}
+
+/// Appends the line of a point that names these threads with their numbers.
+pub fn put_point(
+    out: &mut Vec<u8>,
+    form: Form,
+    stamp: u64,
+    threads: &[(u64, u32)],
+) -> Result<(), AllocError>
+    ensures { OnOk result (Appends (IsLine form (Point (record { stamp = stamp; threads = threads.now }))) out.old.items out.new.items) }
+{
+    match form {
+        Form::Lines => put_point_line(out, stamp, threads.len()),
+    }
+}
+
+fn put_point_line(out: &mut Vec<u8>, stamp: u64, threads: usize) -> Result<(), AllocError>
+    ensures { OnOk result (out.new.items ≡ out.old.items ++ point_text stamp threads) }
+{
+    put_word(out, "point")?;
+    put_number(out, stamp)?;
+    put_number(out, threads as u64)?;
+    put_end(out)
+}
+
+/// Appends the line of an event.
+pub fn put_event(
+    out: &mut Vec<u8>,
+    alloc: Global,
+    form: Form,
+    event: &EventLine<'_>,
+) -> Result<(), AllocError>
+    ensures { (address processor thread : ℕ) (entry : EventEntry) → Tells event.now address processor thread entry
+        → OnOk result (Appends (IsLine form (Event address processor thread entry)) out.old.items out.new.items) }
+{
+    match form {
+        Form::Lines => put_event_line(out, alloc, event),
+    }
+}
+
+fn put_event_line(
+    out: &mut Vec<u8>,
+    alloc: Global,
+    event: &EventLine<'_>,
+) -> Result<(), AllocError>
+    ensures { (address processor thread : ℕ) (entry : EventEntry) → Tells event.now address processor thread entry
+        → OnOk result (Appends (IsLine forms.Lines (Event address processor thread entry)) out.old.items out.new.items) }
+{
+    put_event_start(out, event)?;
+    put_payload(out, alloc, event.def.fields.as_slice(), event.payload)?;
+    put_end(out)
+}
+
+fn put_event_start(out: &mut Vec<u8>, event: &EventLine<'_>) -> Result<(), AllocError>
+    ensures { (address processor thread : ℕ) (entry : EventEntry) → Tells event.now address processor thread entry
+        → OnOk result (out.new.items ≡ out.old.items ++ event_start entry) }
+{
+    put_word(out, "event")?;
+    put_number(out, event.stamp)?;
+    put_number(out, event.thread)?;
+    put_number(out, u64::from(event.number))?;
+    put_units(out, event.def.provider.as_slice())?;
+    put_units(out, event.def.name.as_slice())
+}
