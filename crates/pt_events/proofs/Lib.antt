@@ -1,0 +1,10 @@
+pub mod Ending
+pub mod Given
+pub mod Ids
+pub mod Items
+pub mod Lines
+pub mod Placed
+pub mod Read
+pub mod Seen
+pub mod Sums
+pub mod Writes

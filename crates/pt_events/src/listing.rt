@@ -1,0 +1,154 @@
+//! The lines of one item after another.
+ghost use Rattle.std.specs.Prelude.{◌≡◌, ℕ, [], ◌∷◌, ◌++◌, List, Err, IfErr, OnOk};
+ghost use Rattle.ep_defs.specs.declared.item.ItemKind.{ItemKind};
+ghost use Rattle.ep_defs.specs.declared.item.ItemKind.TheVariants as item;
+ghost use Rattle.ep_defs.specs.Entry.{EventEntry};
+ghost use Rattle.ep_defs.specs.Gaps.{Sighting, Seen};
+ghost use Rattle.nt_blocks.specs.Ordered.{no_names, told_after};
+ghost use Rattle.nt_check.specs.declared.checker.CheckKind.{CheckKind};
+ghost use Rattle.nt_check.specs.declared.checker.CheckFault.TheVariants.{Bad, OutOfMemory};
+ghost use Rattle.nt_check.specs.Faults.{disorder_of};
+ghost use Rattle.pt_events.specs.Lines.{lost_lines, known_by};
+ghost use Rattle.pt_lines.specs.Texts.{AreLines};
+ghost use Rattle.pt_lines.specs.Appends.{Appends, Tells};
+ghost use Rattle.pt_events.specs.state.Known.{HasSeen};
+ghost use Rattle.pt_events.specs.state.Listed.{HasListed, ListsOne, event_lines};
+
+use crate::lasts::Lasts;
+use crate::names::KnownNames;
+use ep_defs::ItemKind;
+use nt_check::CheckFault;
+use pt_lines::{EventLine, Form, put_event, put_lost, put_point};
+use std::alloc::{AllocError, Global};
+
+/// What is kept of the items that were listed. It stands for the list of them.
+#[derive(Drop)]
+pub struct Listing {
+    alloc: Global,
+    names: KnownNames,
+    lasts: Lasts,
+    // How many bytes an address has, 0 while no Trace object said it.
+    address: u32,
+}
+
+impl Listing {
+    /// No items. It takes no memory.
+    pub fn new(alloc: Global) -> Listing
+        ensures { HasListed [] result }
+    {
+        Listing {
+            alloc,
+            names: KnownNames::new(alloc),
+            lasts: Lasts::new(alloc),
+            address: 0,
+        }
+    }
+
+    /// Appends the lines of one more item. It is refused exactly where it can't stand after the items that were listed, and
+    /// then nothing is appended.
+    pub fn item(&mut self, form: Form, kind: &ItemKind, out: &mut Vec<u8>) -> Result<(), CheckFault>
+        ensures listed { (kinds : List ItemKind) → HasListed kinds self.old
+            → OnOk result (HasListed (kinds ++ kind.now ∷ []) self.new) }
+        ensures lines { (kinds : List ItemKind) → HasListed kinds self.old
+            → OnOk result (ListsOne form kinds kind.now out.old.items out.new.items) }
+        ensures refused { (kinds : List ItemKind) → HasListed kinds self.old → (fault : CheckKind)
+            → result ≡ Err (Bad fault) → told_after no_names (kinds ++ kind.now ∷ []) ≡ Err (disorder_of fault) }
+        ensures unchanged { (fault : CheckKind) → result ≡ Err (Bad fault) → out.new.items ≡ out.old.items }
+    {
+        match kind {
+            ItemKind::Trace { info } => {
+                self.address = info.pointer_size;
+                Ok(())
+            }
+            ItemKind::Meta { id, def } => self.names.define(self.alloc, *id, def),
+            ItemKind::Stack { id, bytes } => self.names.define_stack(self.alloc, *id, bytes),
+            ItemKind::Event {
+                metadata,
+                number,
+                capture,
+                processor,
+                thread,
+                stack,
+                stamp,
+                activity,
+                related,
+                payload,
+            } => {
+                let (def, stack) = self.names.find(*metadata, *stack)?;
+                let event = EventLine {
+                    address: self.address,
+                    processor: *processor,
+                    thread_id: *thread,
+                    stamp: *stamp,
+                    thread: *capture,
+                    number: *number,
+                    def,
+                    activity,
+                    related,
+                    stack,
+                    payload: payload.as_slice(),
+                };
+                Ok(put_all(out, self.alloc, form, &mut self.lasts, &event)?)
+            }
+            ItemKind::Point { stamp, threads } => self.point(form, *stamp, threads.as_slice(), out),
+        }
+    }
+
+    // Appends the lines of a point.
+    fn point(
+        &mut self,
+        form: Form,
+        stamp: u64,
+        threads: &[(u64, u32)],
+        out: &mut Vec<u8>,
+    ) -> Result<(), CheckFault>
+        ensures listed { (kinds : List ItemKind) → HasListed kinds self.old
+            → OnOk result (HasListed (kinds ++ item.Point stamp threads.now ∷ []) self.new) }
+        ensures lines { (kinds : List ItemKind) → HasListed kinds self.old
+            → OnOk result (ListsOne form kinds (item.Point stamp threads.now) out.old.items out.new.items) }
+        ensures memory { IfErr result (λ fault. fault ≡ OutOfMemory) }
+    {
+        put_all_lost(out, form, &mut self.lasts, threads)?;
+        put_point(out, form, stamp, threads)?;
+        self.names.clear_stacks();
+        Ok(())
+    }
+}
+
+// Appends the line of an event, behind that of what is lost before it.
+fn put_all(
+    out: &mut Vec<u8>,
+    alloc: Global,
+    form: Form,
+    lasts: &mut Lasts,
+    event: &EventLine<'_>,
+) -> Result<(), AllocError>
+    ensures lines { (past : List (ℕ × Sighting)) (address processor thread : ℕ) (entry : EventEntry) → HasSeen past lasts.old
+        → Tells event.now address processor thread entry
+        → OnOk result (Appends (AreLines form (event_lines past address processor thread entry)) out.old.items out.new.items) }
+    ensures seen { (past : List (ℕ × Sighting)) → HasSeen past lasts.old
+        → OnOk result (HasSeen (past ++ (event.now.thread, Seen event.now.number) ∷ []) lasts.new) }
+{
+    let lost = lasts.see(event.thread, event.number)?;
+    put_lost(out, form, event.thread, lost)?;
+    put_event(out, alloc, form, event)
+}
+
+// Appends the lines of what is lost up to a point.
+fn put_all_lost(
+    out: &mut Vec<u8>,
+    form: Form,
+    lasts: &mut Lasts,
+    threads: &[(u64, u32)],
+) -> Result<(), AllocError>
+    ensures lines { (past : List (ℕ × Sighting)) → HasSeen past lasts.old
+        → OnOk result (Appends (AreLines form (lost_lines past (known_by threads.now))) out.old.items out.new.items) }
+    ensures seen { (past : List (ℕ × Sighting)) → HasSeen past lasts.old
+        → OnOk result (HasSeen (past ++ known_by threads.now) lasts.new) }
+{
+    for (thread, number) in threads {
+        let lost = lasts.know(*thread, *number)?;
+        put_lost(out, form, *thread, lost)?;
+    }
+    Ok(())
+}

@@ -1,0 +1,17 @@
+//! The words of the command line.
+ghost use Rattle.std.specs.Prelude.{◌≡◌, map};
+ghost use Rattle.std.specs.String.{string_bytes};
+ghost use Rattle.pt_events.specs.Words.{form_in};
+
+use pt_lines::Form;
+
+/// The form in which the words of the command line, without the program's name, ask for the events of a stream, where they
+/// are `events`.
+pub fn form_of(words: &[String]) -> Option<Form>
+    ensures { result ≡ form_in (map string_bytes words.now) }
+{
+    match words {
+        [name] if name.as_str() == "events" => Some(Form::Lines),
+        _ => None,
+    }
+}

@@ -1,0 +1,28 @@
+//! The words that ask for events.
+use pt_events::{Form, form_of};
+use std::alloc::{AllocError, Global};
+use std::test::Fail;
+
+fn asked(alloc: Global, texts: &[&str]) -> Result<Option<Form>, AllocError> {
+    let mut words = Vec::new(alloc);
+    for text in texts {
+        words.push(String::from_str(alloc, text)?)?;
+    }
+    Ok(form_of(&words))
+}
+
+#[test]
+fn the_words_of_events_are_told_from_others(rt: HostRuntime) -> Result<(), Fail> {
+    let cases: [(&[&str], Option<Form>); 6] = [
+        (&["events"], Some(Form::Lines)),
+        (&[], None),
+        (&["event"], None),
+        (&["Events"], None),
+        (&["events", "--xml"], None),
+        (&["events", "events"], None),
+    ];
+    for (texts, want) in cases {
+        assert_eq!(rt; asked(rt.alloc(), texts)?, want);
+    }
+    Ok(())
+}
