@@ -62,6 +62,7 @@ pub plain-causes : {I O : Type 0} (source : Source I) (sink : Sink O) (asked : O
     → HasCauses source sink input_old input_new old new end
 plain-causes source sink (Some (command.Replay session)) input_old input_new old new end comes alone = comes.answers.causes
 plain-causes source sink (Some command.Report) input_old input_new old new end comes alone = comes.answers.causes
+plain-causes source sink (Some (command.Events form)) input_old input_new old new end comes alone = comes.causes
 plain-causes source sink (Some (command.Gen asked)) input_old input_new old new end comes alone =
     unread-causes source sink input_old input_new old new end (alone refl) (gen-unread end comes.ends) comes.write_fault comes.all_written
 plain-causes source sink (Some (command.Trace asked)) input_old input_new old new end comes alone = line-causes source sink input_old input_new old new end (alone refl) comes
@@ -74,6 +75,7 @@ pub plain-words : {I O : Type 0} (source : Source I) (sink : Sink O) (asked : Op
     → is_plain asked ≡ false → PlainComesTo source sink asked input_old input_new old new end → SaysLine sink old new words_error ends.Words end
 plain-words source sink (Some (command.Replay session)) input_old input_new old new end is comes = absurd (cc)
 plain-words source sink (Some command.Report) input_old input_new old new end is comes = absurd (cc)
+plain-words source sink (Some (command.Events form)) input_old input_new old new end is comes = absurd (cc)
 plain-words source sink (Some (command.Gen asked)) input_old input_new old new end is comes = absurd (cc)
 plain-words source sink (Some (command.Trace asked)) input_old input_new old new end is comes = comes
 plain-words source sink (Some (command.Run asked)) input_old input_new old new end is comes = comes
@@ -136,6 +138,8 @@ comes-faults source sink dock caller reads takes gave took facts (Some (command.
     reading-faults source sink (Some (command.Replay session)) a.input_old a.input_new a.output_old a.output_new end (λ _. refl) comes.answers.causes
 comes-faults source sink dock caller reads takes gave took facts (Some command.Report) a end comes alone =
     reading-faults source sink (Some command.Report) a.input_old a.input_new a.output_old a.output_new end (λ _. refl) comes.answers.causes
+comes-faults source sink dock caller reads takes gave took facts (Some (command.Events form)) a end comes alone =
+    reading-faults source sink (Some (command.Events form)) a.input_old a.input_new a.output_old a.output_new end (λ _. refl) comes.causes
 comes-faults source sink dock caller reads takes gave took facts (Some (command.Gen asked)) a end comes alone =
     let read = gen-unread end comes.ends in
     reading-faults source sink (Some (command.Gen asked)) a.input_old a.input_new a.output_old a.output_new end (λ is. absurd (read is))

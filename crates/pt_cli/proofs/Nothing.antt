@@ -1,10 +1,15 @@
 -- A command that found no memory before it began has touched nothing.
-use Rattle.std.proofs.Common.{ℕ, List, [], refl, inl, inr, Option, Some, None}
+use Rattle.std.proofs.Common.{ℕ, List, [], refl, sym, inl, inr, arith, Option, Some, None}
 use Rattle.pt_io.specs.declared.sink.Sink.{Ghosts as Sink}
 use Rattle.pt_io.specs.declared.source.Source.{Ghosts as Source}
 use Rattle.pt_command.specs.declared.end.End.TheVariants as ends
 use Rattle.pt_command.specs.Answers.{Answers}
 use Rattle.pt_command.proofs.Answering.{unanswered, no-refusal, no-done}
+use Rattle.std.proofs.lemmas.List.{append-nil}
+use Rattle.pt_command.specs.declared.limits.TheConstants.{PIECE_BYTES}
+use Rattle.pt_events.proofs.Ending.{spent}
+use Rattle.pt_events.specs.Command.{Lists, SoFar}
+use Rattle.pt_lines.specs.declared.form.Form.{Form}
 use Rattle.pt_cli.specs.declared.words.Command.{Command}
 use Rattle.pt_cli.specs.declared.words.Command.TheVariants as command
 use Rattle.pt_cli.specs.Program.{PlainComesTo}
@@ -13,6 +18,20 @@ no-answer : {I O : Type 0} (source : Source I) (sink : Sink O) (IsDone : List �
     → Answers source sink IsDone IsError input input output output ends.OutOfMemory
 no-answer source sink IsDone IsError input output =
     unanswered source sink IsDone IsError input input output output ends.OutOfMemory (inr refl) (λ is. absurd (cc)) (λ _. refl) refl
+
+-- No line was written.
+pub unlisted : {I O : Type 0} (source : Source I) (sink : Sink O) (form : Form) (input : I) (output : O) → Lists source sink form input input output output ends.OutOfMemory
+unlisted source sink form input output =
+    let unread : SoFar source form input input PIECE_BYTES [] =
+    record {
+      bytes = [];
+      last = [];
+      gave = record { given = λ _. sym (append-nil (source.given input)); left = λ _. refl; counted = omega arith };
+      few = omega arith;
+      is_text = inl (search, refl);
+    } in
+    spent source sink form input input output output output [] ends.OutOfMemory unread refl
+    (record { took = λ _. sym (append-nil (sink.taken output)); sound = refl }) refl
 
 pub plain-nothing : {I O : Type 0} (source : Source I) (sink : Sink O) (asked : Option Command) (input : I) (output : O)
     → PlainComesTo source sink asked input input output output ends.OutOfMemory
@@ -29,6 +48,7 @@ plain-nothing source sink (Some command.Report) input output =
       whole = λ tells whole at refused. no-refusal ends.OutOfMemory at (inr refl) refused;
       not_whole = λ tells none done. no-done ends.OutOfMemory (inr refl) done;
     }
+plain-nothing source sink (Some (command.Events form)) input output = unlisted source sink form input output
 plain-nothing source sink (Some (command.Gen asked)) input output =
     record {
       done = λ is. absurd (cc);

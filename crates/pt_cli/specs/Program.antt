@@ -10,6 +10,7 @@ use Rattle.pt_command.specs.declared.end.End.{End}
 use Rattle.pt_command.specs.declared.end.End.TheVariants as ends
 use Rattle.pt_command.specs.Says.{SaysLine}
 use Rattle.pt_client.specs.Answers.{Asks}
+use Rattle.pt_events.specs.Command.{Lists}
 use Rattle.pt_gen.specs.Command.{Generates}
 use Rattle.pt_replay.specs.Command.{Replays}
 use Rattle.pt_report.specs.Command.{Reports}
@@ -28,6 +29,7 @@ use Rattle.pt_cli.specs.Words.{reads_input, calls_peer, runs_server, runs_thread
 abbrev pub PlainComesTo : {I O : Type 0} → Source I → Sink O → Option Command → I → I → O → O → End → Type 0
 PlainComesTo source sink (Some (command.Replay session)) input_old input_new old new end = Replays source sink session input_old input_new old new end
 PlainComesTo source sink (Some command.Report) input_old input_new old new end = Reports source sink input_old input_new old new end
+PlainComesTo source sink (Some (command.Events form)) input_old input_new old new end = Lists source sink form input_old input_new old new end
 PlainComesTo source sink (Some (command.Gen asked)) input_old input_new old new end = Generates sink asked old new end
 PlainComesTo source sink asked input_old input_new old new end = SaysLine sink old new words_error ends.Words end
 

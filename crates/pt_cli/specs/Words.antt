@@ -4,6 +4,7 @@ use Rattle.ep_defs.specs.Event.{is_same_text}
 use Rattle.ep_plan.specs.Words.{number_in, at_least, at_most}
 use Rattle.pt_words.specs.Session.{session_in}
 use Rattle.pt_gen.specs.declared.limits.TheConstants.{MOST_WRITES}
+use Rattle.pt_events.specs.Words.{form_in}
 use Rattle.pt_gen.specs.Words as gen
 use Rattle.pt_client.specs.Answers as client
 use Rattle.pt_client.specs.Words.{command_in}
@@ -44,6 +45,7 @@ meant words =
     first_some
     (option_map (λ session. command.Replay session) (replay_in words)
     ∷ (if is_report words then Some command.Report else None)
+    ∷ option_map (λ form. command.Events form) (form_in words)
     ∷ option_map (λ asked. command.Gen asked) (gen.asked_in words)
     ∷ option_map (λ asked. command.Trace asked) (trace.asked_in words)
     ∷ option_map (λ asked. command.Run asked) (run.asked_in words)
@@ -56,6 +58,7 @@ meant words =
 abbrev pub Fits : Command → Type 0
 Fits (command.Replay session) = Unit {0}
 Fits command.Report = Unit {0}
+Fits (command.Events form) = Unit {0}
 Fits (command.Gen asked) = asked.writes ≤ MOST_WRITES
 Fits (command.Trace asked) = trace.Fits asked
 Fits (command.Run asked) = run.Fits asked
@@ -67,6 +70,7 @@ Fits (command.Client asked) = client.Fits asked
 abbrev pub is_plain : Option Command → Bool
 is_plain (Some (command.Replay session)) = true
 is_plain (Some command.Report) = true
+is_plain (Some (command.Events form)) = true
 is_plain (Some (command.Gen asked)) = true
 is_plain asked = false
 
@@ -74,6 +78,7 @@ is_plain asked = false
 abbrev pub reads_input : Option Command → Bool
 reads_input (Some (command.Replay session)) = true
 reads_input (Some command.Report) = true
+reads_input (Some (command.Events form)) = true
 reads_input asked = false
 
 -- It calls a peer.

@@ -5,8 +5,10 @@ ghost use Rattle.pt_command.specs.declared.end.End.TheVariants as ends;
 ghost use Rattle.pt_command.specs.Says.{SaysLine};
 ghost use Rattle.pt_client.specs.declared.words.Command.{Command as ClientCommand};
 ghost use Rattle.pt_client.specs.Answers.{Asks, Fits as ClientFits};
+ghost use Rattle.pt_events.specs.Command.{Lists};
 ghost use Rattle.pt_gen.specs.Command.{Generates};
 ghost use Rattle.pt_gen.specs.declared.words.Asked.{Asked as GenAsked};
+ghost use Rattle.pt_lines.specs.declared.form.Form.{Form};
 ghost use Rattle.pt_replay.specs.Command.{Replays};
 ghost use Rattle.pt_report.specs.Command.{Reports};
 ghost use Rattle.pt_run.specs.Command.{RunsTo};
@@ -41,6 +43,9 @@ use std::time;
 /// stream of session N, by default 1, to `output` in one write. With `report` it reads a stream from `input` to its end and
 /// writes the report of what the stream holds. Where the words or the input are refused the output took one error line.
 /// Nothing is written before the input was read.
+///
+/// With `events` it reads a stream from `input` to its end and writes a line for each event, each point and each place where
+/// events are missing, as it reads them, and an error line behind them where the stream is refused.
 ///
 /// With `gen SEED N` it makes a schedule of N writes, which the seed determines, and writes how many of them each session
 /// admitted, wrote and refused, in one write. It reads no input then.
@@ -84,6 +89,9 @@ pub fn tracepipe<
     ensures reported { meant (map string_bytes words.now) ≡ Some commands.Report
         → EndsSo result.status result.code result.at
         (Reports I.Source O.Sink input.old input.new output.old output.new) }
+    ensures listed { (form : Form) → meant (map string_bytes words.now) ≡ Some (commands.Events form)
+        → EndsSo result.status result.code result.at
+        (Lists I.Source O.Sink form input.old input.new output.old output.new) }
     ensures generated { (asked : GenAsked) → meant (map string_bytes words.now) ≡ Some (commands.Gen asked)
         → EndsSo result.status result.code result.at (Generates O.Sink asked output.old output.new) }
     ensures traced { (asked : TraceAsked) → meant (map string_bytes words.now) ≡ Some (commands.Trace asked)

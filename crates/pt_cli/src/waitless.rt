@@ -1,11 +1,13 @@
-//! The commands that wait for nobody: a schedule is replayed, a stream is reported, or a large schedule is made.
+//! The commands that wait for nobody: a schedule is replayed, a stream is reported or listed, or a large schedule is made.
 ghost use Rattle.std.specs.Prelude.{◌≡◌, ℕ, false, map, Some, None, IfSome};
 ghost use Rattle.std.specs.String.{string_bytes};
 ghost use Rattle.pt_command.specs.declared.end.End.TheVariants as ends;
 ghost use Rattle.pt_command.specs.Answers.{HasCauses};
 ghost use Rattle.pt_command.specs.Says.{SaysLine};
+ghost use Rattle.pt_events.specs.Command.{Lists};
 ghost use Rattle.pt_gen.specs.Command.{Generates};
 ghost use Rattle.pt_gen.specs.declared.words.Asked.{Asked as GenAsked};
+ghost use Rattle.pt_lines.specs.declared.form.Form.{Form};
 ghost use Rattle.pt_replay.specs.Command.{Replays};
 ghost use Rattle.pt_report.specs.Command.{Reports};
 ghost use Rattle.pt_cli.specs.declared.words.Command.TheVariants as commands;
@@ -17,14 +19,15 @@ ghost use Rattle.pt_cli.specs.Words.{meant, is_plain, reads_input, Fits};
 use crate::ends::Plain;
 use crate::words::{Command, command_of};
 use pt_command::{End, say};
+use pt_events::write_events;
 use pt_gen::generate;
 use pt_io::{Sink, Source};
 use pt_replay::replay;
 use pt_report::write_report;
 use std::alloc::{AllocError, Global};
 
-/// Does what the words of the command line ask for, where that waits for nobody: `replay`, `report` and `gen`, as
-/// `tracepipe` does. All other words are refused with status 2 and one error line.
+/// Does what the words of the command line ask for, where that waits for nobody: `replay`, `report`, `events` and `gen`,
+/// as `tracepipe` does. All other words are refused with status 2 and one error line.
 pub fn plain<I: Source, O: Sink>(
     alloc: Global,
     words: &[String],
@@ -35,6 +38,8 @@ pub fn plain<I: Source, O: Sink>(
         → PlainEndsSo result.status result.at (Replays I.Source O.Sink session input.old input.new output.old output.new) }
     ensures reported { meant (map string_bytes words.now) ≡ Some commands.Report
         → PlainEndsSo result.status result.at (Reports I.Source O.Sink input.old input.new output.old output.new) }
+    ensures listed { (form : Form) → meant (map string_bytes words.now) ≡ Some (commands.Events form)
+        → PlainEndsSo result.status result.at (Lists I.Source O.Sink form input.old input.new output.old output.new) }
     ensures generated { (asked : GenAsked) → meant (map string_bytes words.now) ≡ Some (commands.Gen asked)
         → PlainEndsSo result.status result.at (Generates O.Sink asked output.old output.new) }
     ensures words { is_plain (meant (map string_bytes words.now)) ≡ false
@@ -74,6 +79,7 @@ pub(crate) fn without_waiting<I: Source, O: Sink>(
     match command {
         Some(Command::Replay { session }) => replay(alloc, *session, input, output),
         Some(Command::Report) => write_report(alloc, input, output),
+        Some(Command::Events(form)) => write_events(alloc, *form, input, output),
         Some(Command::Gen(asked)) => generate(alloc, *asked, output),
         Some(Command::Trace(_) | Command::Run(_) | Command::Client(_)) | None => {
             say(output, b"error: words\n", End::Words)

@@ -5,6 +5,7 @@ ghost use Rattle.pt_cli.specs.Words.{meant, replay_in, is_report, session_number
 
 use crate::trace_words::{Asked, asked_of};
 use ep_plan::number;
+use pt_events::{Form, form_of};
 use pt_words::session_text;
 use std::alloc::{AllocError, Global};
 
@@ -15,6 +16,8 @@ pub enum Command<'a> {
     Replay { session: u32 },
     /// For the report of a stream.
     Report,
+    /// For the events of a stream one by one, in this form.
+    Events(Form),
     /// For a schedule that is made and summed up.
     Gen(pt_gen::Asked),
     /// For a trace of the sample program.
@@ -38,6 +41,9 @@ pub(crate) fn command_of<'a>(
     }
     if is_report(words) {
         return Ok(Some(Command::Report));
+    }
+    if let Some(form) = form_of(words) {
+        return Ok(Some(Command::Events(form)));
     }
     if let Some(asked) = pt_gen::asked_of(alloc, words)? {
         return Ok(Some(Command::Gen(asked)));

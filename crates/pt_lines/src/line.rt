@@ -32,12 +32,7 @@ pub struct EventLine<'a> {
 }
 
 /// Appends the line of numbers that a thread leaves out, where there are some.
-pub fn put_lost(
-    out: &mut Vec<u8>,
-    form: Form,
-    thread: u64,
-    count: u32,
-) -> Result<(), AllocError>
+pub fn put_lost(out: &mut Vec<u8>, form: Form, thread: u64, count: u32) -> Result<(), AllocError>
     ensures { OnOk result (Appends (AreLines form (lost_if thread count)) out.old.items out.new.items) }
 {
     if count == 0 {
@@ -46,12 +41,7 @@ pub fn put_lost(
     put_one_lost(out, form, thread, count)
 }
 
-fn put_one_lost(
-    out: &mut Vec<u8>,
-    form: Form,
-    thread: u64,
-    count: u32,
-) -> Result<(), AllocError>
+fn put_one_lost(out: &mut Vec<u8>, form: Form, thread: u64, count: u32) -> Result<(), AllocError>
     ensures { OnOk result (Appends (IsLine form (Lost thread count)) out.old.items out.new.items) }
 {
     match form {
@@ -106,11 +96,7 @@ pub fn put_event(
     }
 }
 
-fn put_event_line(
-    out: &mut Vec<u8>,
-    alloc: Global,
-    event: &EventLine<'_>,
-) -> Result<(), AllocError>
+fn put_event_line(out: &mut Vec<u8>, alloc: Global, event: &EventLine<'_>) -> Result<(), AllocError>
     ensures { (address processor thread : ℕ) (entry : EventEntry) → Tells event.now address processor thread entry
         → OnOk result (Appends (IsLine forms.Lines (Event address processor thread entry)) out.old.items out.new.items) }
 {

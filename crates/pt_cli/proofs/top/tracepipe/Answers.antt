@@ -2,7 +2,9 @@
 use Rattle.std.proofs.Common.{Option, subst, ◌∙◌}
 use Rattle.pt_cli.specs.declared.words.Command.{Command}
 use Rattle.pt_cli.specs.Program.{Around, HasFaults}
+use Rattle.pt_command.specs.declared.end.End.TheVariants as ends
 use Rattle.pt_cli.proofs.Causes.{comes-faults}
+use Rattle.pt_cli.proofs.Nothing.{unlisted}
 use Rattle.pt_cli.proofs.top.tracepipe.Goals as goal
 
 pub returns-in-Ok-clause-replayed : goal.returns-in-Ok-clause-replayed
@@ -10,6 +12,9 @@ returns-in-Ok-clause-replayed g c = λ session is. rw (c.in-Ok.ensures.meant ∙
 
 pub returns-in-Ok-clause-reported : goal.returns-in-Ok-clause-reported
 returns-in-Ok-clause-reported g c = λ is. rw (c.in-Ok.ensures.meant ∙ is) at c.carry_out.ensures.comes
+
+pub returns-in-Ok-clause-listed : goal.returns-in-Ok-clause-listed
+returns-in-Ok-clause-listed g c = λ form is. rw (c.in-Ok.ensures.meant ∙ is) at c.carry_out.ensures.comes
 
 pub returns-in-Ok-clause-generated : goal.returns-in-Ok-clause-generated
 returns-in-Ok-clause-generated g c = λ asked is. rw (c.in-Ok.ensures.meant ∙ is) at c.carry_out.ensures.comes
@@ -49,3 +54,7 @@ returns-in-Ok-clause-faults g c =
       live = result.live;
     } in
     (comes.0, comes.1, subst Faults c.in-Ok.ensures.meant (comes-faults g.I.Source g.O.Sink g.D.Dock g.K.Caller g.L.Source g.L.Sink g.L.Sink.read_side g.L.Source.write_side c.args.facts.now c.in-Ok.command around comes.0 comes.2 c.carry_out.ensures.alone.unread))
+
+-- Where the words found no memory nothing was listed.
+pub returns-in-Err-clause-listed : goal.returns-in-Err-clause-listed
+returns-in-Err-clause-listed g c = λ form is. (ends.OutOfMemory, c.ended_with.ensures.ended, unlisted g.I.Source g.O.Sink form c.args.input.now c.args.output.now)

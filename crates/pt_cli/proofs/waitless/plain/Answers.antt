@@ -8,6 +8,9 @@ returns-clause-replayed g c = λ session is. (c.answer-end.result, c.status.ensu
 pub returns-clause-reported : goal.returns-clause-reported
 returns-clause-reported g c = λ is. (c.answer-end.result, c.status.ensures, c.at.ensures, (rw is at c.answer-end.ensures.comes))
 
+pub returns-clause-listed : goal.returns-clause-listed
+returns-clause-listed g c = λ form is. (c.answer-end.result, c.status.ensures, c.at.ensures, (rw is at c.answer-end.ensures.comes))
+
 pub returns-clause-generated : goal.returns-clause-generated
 returns-clause-generated g c = λ asked is. (c.answer-end.result, c.status.ensures, c.at.ensures, (rw is at c.answer-end.ensures.comes))
 
