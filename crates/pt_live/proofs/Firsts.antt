@@ -11,7 +11,7 @@ use Rattle.pt_stream.specs.declared.place.Place.{Place}
 use Rattle.pt_stream.specs.End.{AreServed, IsFromFirst}
 use Rattle.pt_stream.specs.State.{EndsAt, IsDone, StreamState, place_at}
 use Rattle.pt_stream.proofs.Lives.{first-of}
-use Rattle.pt_live.specs.Trace.{IsWhole}
+use Rattle.pt_writers.specs.Whole.{IsWhole}
 use Rattle.pt_live.specs.state.Open.{IsOpenOn}
 use Rattle.pt_live.specs.state.Run.{RunState}
 

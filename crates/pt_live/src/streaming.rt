@@ -4,11 +4,12 @@ ghost use Rattle.std.specs.List.{AllByRecursion};
 ghost use Rattle.pt_stream.specs.State.{EndsAt};
 ghost use Rattle.pt_live.specs.state.Open.{IsOpenOn};
 
-use crate::run::{Around, TraceRun};
+use crate::run::TraceRun;
 use ep_live::Live;
 use pt_io::{Clock, Gate, Moment, Sink};
 use pt_load::laws::sample_events_are_valid;
 use pt_stream::Stream;
+use pt_writers::Around;
 use std::alloc::Global;
 use std::sync::Wait;
 use std::sync::atomic::{AtomicBool, Ordering};

@@ -1,0 +1,4 @@
+pub mod Rows
+pub mod Opening
+pub mod Hearing
+pub mod Ending

@@ -1,0 +1,5 @@
+use Rattle.std.proofs.Common.{◌≡◌}
+use Rattle.pt_listen.proofs.watch.run_watch.Goals as goal
+
+pub returns : goal.returns
+returns g c = rw c.in-Ok.ensures.callback at c.run_named.ensures
