@@ -17,6 +17,3 @@ mod threads;
 mod watch;
 
 pub use watch::{WatchEnd, run_watch};
-
-#[cfg(test)]
-mod tests;

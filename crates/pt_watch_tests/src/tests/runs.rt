@@ -1,9 +1,9 @@
 //! Runs with threads, and a callback that keeps what it hears.
-use crate::{WatchEnd, run_watch};
 use ep_defs::limits::{THREADS, WRITES};
 use ep_defs::{Config, Items, Marks, Rule};
 use ep_listen::{Callback, Heard};
 use pt_io::{Gate, Moment, OpenGate, StepClock};
+use pt_listen::{WatchEnd, run_watch};
 use pt_load::{JOBS, Plan, STORE, WEB, units};
 use std::alloc::{AllocError, Global};
 use std::process::Abort;

@@ -1,0 +1,3 @@
+//! Runs with threads.
+mod lines;
+mod runs;
