@@ -17,6 +17,7 @@ use Rattle.pt_load.specs.Sample.{nth, sample}
 use Rattle.pt_load.specs.declared.plan.Plan.{Plan}
 use Rattle.pt_writers.specs.Whole.{AreWhole, IsSpent, IsWhole, admitted_of}
 use Rattle.pt_writers.specs.Written.{threads_of, writes_of}
+use Rattle.pt_writers.proofs.Whole.{all-counted}
 use Rattle.pt_listen.specs.Watched.{AreWatched}
 use Rattle.pt_listen.specs.state.Hearing.{HasEnded, HasHeard, IsMarkBy, admitted_in}
 
@@ -38,18 +39,6 @@ threads-from first [] each = refl
 threads-from first (m ∷ marks) each =
     ap (λ (t : ℕ). t ∷ map (λ m. m.thread) marks) (each 0 m refl ∙ omega arith)
     ∙ ap (λ (ts : List ℕ). first ∷ ts) (threads-from (first + 1) marks (λ k mark is. each (suc k) mark is ∙ omega arith))
-
-count-writes : (plan : Plan) (thread : ℕ) → length (writes_of plan thread) ≡ plan.writes
-count-writes plan thread = simp (length-map, length-range_with_len)
-
--- The marks count all that the session admits.
-all-counted : (plan : Plan) (config : Config) (mark : Marks) → mark.from ≡ 0 → mark.to ≡ plan.writes → AreCounted sample (writes_of plan) config mark → mark.taken + mark.refused ≡ length (admitted_of plan config mark.thread)
-all-counted plan config mark from to counted =
-    let writes = writes_of plan mark.thread in
-    let all : take mark.to writes ≡ writes = take_all mark.to writes (let long = count-writes plan mark.thread in omega (arith, long, to)) in
-    counted.counted
-    ∙ ap (λ (f : ℕ). length (admitted_from sample (Some config) f (take mark.to writes))) from
-    ∙ ap (λ (ws : List Write). length (admitted_from sample (Some config) 0 ws)) all
 
 empty : {A : Type 0} (xs : List A) → length xs ≤ 0 → xs ≡ []
 empty [] few = refl
@@ -77,7 +66,7 @@ module _ {C : Type 0} (has_heard : C → List HeardEvent → Type 0) (plan : Pla
   share-of law k mark is =
       let by = ended.marks_are k mark is in
       let account = account-is k mark is in
-      let all = all-counted plan config mark by.from by.to_is by.counted in
+      let all = all-counted plan config mark (record { from = by.from; to_is = by.to_is }) by.counted in
       law (admitted_of plan config mark.thread) (ended.accounts mark.thread) mark.refused failed mark.thread ended.heard.heard (of-mark k mark is)
       (omega (arith, all, account.1))
       (ap (λ (n : ℕ). n + mark.refused) (sym account.0) ∙ all)

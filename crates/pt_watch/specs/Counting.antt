@@ -11,7 +11,7 @@ counts_in counts = counts.counts.items
 abbrev pub times : ℕ → List HeardEvent → ℕ
 times event heard = length (filter (λ e. e.event == event) heard)
 
--- The same, held at the last number of 64 bits.
+-- The same as far as a counter of 64 bits goes, which stands still at its last number.
 abbrev pub count_of : ℕ → List HeardEvent → ℕ
 count_of event heard = min (2 ^ 64 - 1) (times event heard)
 

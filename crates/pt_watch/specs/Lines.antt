@@ -5,7 +5,8 @@ use Rattle.ep_defs.specs.declared.session.Marks.{Marks}
 use Rattle.ep_listen.specs.Heard.{HeardEvent}
 use Rattle.ep_listen.specs.Shares.{heard_by}
 use Rattle.pt_print.specs.Printed.{number_part}
-use Rattle.pt_watch.specs.Counting.{count_of}
+use Rattle.pt_load.specs.Sample.{sample}
+use Rattle.pt_watch.specs.Counting.{times}
 use Rattle.pt_watch.specs.declared.limits.TheConstants.{EVENTS}
 
 -- A line's word and its numbers.
@@ -31,7 +32,7 @@ heard_lines marks heard = flat_map (λ mark. heard_line mark.thread (length (hea
 
 -- The lines of the sample program's events, by their numbers.
 abbrev pub count_lines : List HeardEvent → List ℕ
-count_lines heard = flat_map (λ event. count_line_of event (count_of event heard)) (range_with_len 1 EVENTS)
+count_lines heard = flat_map (λ event. count_line_of event (times event heard)) (range_with_len 1 (length sample))
 
 -- All that is printed.
 abbrev pub watch_text : List Marks → List HeardEvent → List ℕ

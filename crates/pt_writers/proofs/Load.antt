@@ -23,7 +23,8 @@ write-at plan thread index few =
 pub count-writes : (plan : Plan) (thread : ℕ) → length (writes_of plan thread) ≡ plan.writes
 count-writes plan thread = simp (length-map, length-range_with_len)
 
-range-more : (first n : ℕ) → range_with_len first (suc n) ≡ range_with_len first n ++ (first + n) ∷ []
+-- A range with one number more.
+pub range-more : (first n : ℕ) → range_with_len first (suc n) ≡ range_with_len first n ++ (first + n) ∷ []
 range-more first zero = ap (λ (k : ℕ). k ∷ []) (omega arith)
 range-more first (suc n) =
     ap (λ ns. first ∷ ns) (range-more (first + 1) n ∙ ap (λ (k : ℕ). range_with_len (first + 1) n ++ k ∷ []) (omega arith))
