@@ -56,10 +56,10 @@ others t e heard apart = rw (ne_eqb e.thread t apart) refl
 
 -- The list of no thread has an event of it.
 not-none : (t : ℕ) (e : HeardEvent) (heard : List HeardEvent) → heard_by t (e ∷ heard) ≡ [] → e.thread ≢ t
-not-none t e heard none is = cc
+not-none t e heard none is = filled (heard_by t heard) (sym (own t e heard is) ∙ none)
   where
-    there : heard_by t (e ∷ heard) ≡ e ∷ heard_by t heard
-    there = own t e heard is
+    filled : (xs : List HeardEvent) → e ∷ xs ≡ [] → ⊥
+    filled xs at = cc
 
 -- Where nothing is of a thread outside the range, the events of the threads within are all.
 by-threads : (n : ℕ) (heard : List HeardEvent) → ((t : ℕ) → (t ≡ 0) ⊎ (n < t) → heard_by t heard ≡ []) → length heard ≤ sum_by (λ t. length (heard_by t heard)) (range_with_len 1 n)
@@ -114,5 +114,5 @@ few-heard plan config heard marks few most whole taken alone =
     let sum : sum_by (λ t. length (heard_by t heard)) (threads_of plan) ≤ length marks * 4000000000 =
     subst (λ (ts : List ℕ). sum_by (λ t. length (heard_by t heard)) ts ≤ length marks * 4000000000) whole.threads (by-marks plan config heard marks most whole.whole whole.counted taken)
     in
-    let count : length marks ≡ plan.threads = sym (length-map (λ (m : Marks). m.thread) marks) ∙ ap length whole.threads ∙ length-range_with_len 1 plan.threads in
+    let count : length marks ≡ plan.threads = sym (length-map marks (λ (m : Marks). m.thread)) ∙ ap length whole.threads ∙ length-range_with_len 1 plan.threads in
     omega (arith, all, sum, count, few)
