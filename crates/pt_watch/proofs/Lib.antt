@@ -1,3 +1,4 @@
 pub mod Few
 pub mod Telling
+pub mod Ending
 pub mod Counted

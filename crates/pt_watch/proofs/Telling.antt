@@ -1,5 +1,5 @@
 -- What is told of marks and counts is what was heard.
-use Rattle.std.proofs.Common.{◌≡◌, ◌∙◌, ℕ, zero, suc, ◌+◌, ◌<◌, ◌≤◌, Bool, true, false, List, [], ◌∷◌, ◌++◌, length, refl, sym, ap, subst, arith}
+use Rattle.std.proofs.Common.{◌≡◌, ◌∙◌, ℕ, zero, suc, ◌+◌, ◌<◌, ◌≤◌, List, [], ◌∷◌, ◌++◌, length, refl, sym, ap, arith}
 use Rattle.std.specs.Prelude.{slice_index, ◌==◌, ◌^◌}
 use Rattle.std.specs.List.{AllByRecursion, flat_map, range_with_len}
 use Rattle.std.proofs.lemmas.List.Concat.{flat_map-cons, flat_map-append}
@@ -8,11 +8,8 @@ use Rattle.std.proofs.lemmas.List.Sums.{count_by-le-length, length-filter}
 use Rattle.ep_defs.specs.declared.session.Marks.{Marks}
 use Rattle.ep_listen.specs.Heard.{HeardEvent}
 use Rattle.ep_listen.specs.Shares.{heard_by}
-use Rattle.pt_command.specs.declared.end.End.{End}
 use Rattle.pt_load.specs.Sample.{sample}
-use Rattle.pt_io.specs.declared.sink.Sink.{Ghosts as Sink}
 use Rattle.pt_writers.proofs.Load.{range-more}
-use Rattle.pt_watch.specs.Command.{Tells}
 use Rattle.pt_watch.specs.declared.limits.TheConstants.{EVENTS}
 use Rattle.pt_watch.specs.Counting.{AreCountsOf, count_of, times}
 use Rattle.pt_watch.specs.Lines.{count_line_of, counted_lines, heard_line, heard_lines, mark_lines, told_lines, watch_text}
@@ -65,10 +62,3 @@ counted-more counts n =
   where
     up : (k : ℕ) → k + 1 ≡ suc k
     up k = omega arith
-
--- ---- what the command says
-
--- Where nothing is written it does not matter what was to be.
-pub tells-as : {O : Type 0} (sink : Sink O) (old new : O) (first second : List ℕ) (failed : Bool) (end : End) → (failed ≡ false → first ≡ second) → Tells sink old new first failed end → Tells sink old new second failed end
-tells-as sink old new first second true end same told = told
-tells-as sink old new first second false end same told = subst (λ (text : List ℕ). Tells sink old new text false end) (same refl) told

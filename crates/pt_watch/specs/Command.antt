@@ -1,5 +1,5 @@
 -- What the command `watch` comes to (this project's theorem).
-use Rattle.std.specs.Prelude.{◌≡◌, ℕ, Bool, true, false, List, [], Option, None, IfSome}
+use Rattle.std.specs.Prelude.{◌≡◌, ◌≢◌, ℕ, ◌⊎◌, Bool, true, false, List, [], Option, None, IfSome}
 use Rattle.ep_defs.specs.declared.session.Marks.{Marks}
 use Rattle.ep_listen.specs.Heard.{HeardEvent}
 use Rattle.ep_pool.specs.Shared.{SeatState}
@@ -8,6 +8,7 @@ use Rattle.pt_command.specs.declared.end.End.{End}
 use Rattle.pt_command.specs.declared.end.End.TheVariants as ends
 use Rattle.pt_command.specs.Says.{SaysLine}
 use Rattle.pt_io.specs.declared.sink.Sink.{Ghosts as Sink}
+use Rattle.pt_io.specs.Faults.{HasRisen}
 use Rattle.pt_listen.specs.Watched.{AreWatched}
 use Rattle.pt_writers.specs.Whole.{AreWhole, IsSpent}
 use Rattle.pt_writers.specs.Written.{rows_of}
@@ -32,8 +33,12 @@ pub record WatchedTo {O : Type 0} (sink : Sink O) (asked : Asked) (old new : O) 
   pub watched : AreWatched asked.plan asked.config failed marks heard
   pub told : Tells sink old new (watch_text marks heard) failed end
 
--- The command ended so.
+-- The command ended so, with these rows and marks, and this seat of the session's pool.
 pub record Watches {O : Type 0} (sink : Sink O) (asked : Asked) (old new : O) (rows : List (ℕ × ℕ)) (seat : Option SeatState) (marks : List Marks) (end : End) : Type 0 where
   pub watched : IfSome seat (WatchedTo sink asked old new rows marks end)
   -- without the memory to begin nothing was written
   pub none : seat ≡ None → (end ≡ ends.OutOfMemory) × (new ≡ old) × (rows ≡ []) × (marks ≡ [])
+  -- a fault comes only from the output, in this call
+  pub write_fault : end ≡ ends.WriteFault → HasRisen (sink.write_faults old) (sink.write_faults new)
+  pub all_written : end ≢ ends.WriteFault → sink.write_faults new ≡ sink.write_faults old
+  pub ends : (end ≡ ends.Done) ⊎ (end ≡ ends.WriteFault) ⊎ (end ≡ ends.OutOfMemory)
