@@ -75,7 +75,7 @@ pub(crate) fn without_waiting<I: Source, O: Sink>(
         Some(Command::Replay { session }) => replay(alloc, *session, input, output),
         Some(Command::Report) => write_report(alloc, input, output),
         Some(Command::Gen(asked)) => generate(alloc, *asked, output),
-        Some(Command::Trace(_) | Command::Run(_) | Command::Client(_)) | None => {
+        Some(Command::Trace(_) | Command::Watch(_) | Command::Run(_) | Command::Client(_)) | None => {
             say(output, b"error: words\n", End::Words)
         }
     }

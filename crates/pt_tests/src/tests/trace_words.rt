@@ -1,6 +1,6 @@
 //! Words of `trace`, good and bad.
 use ep_defs::Config;
-use pt_cli::asked_of;
+use pt_asked::asked_of;
 use pt_load::Plan;
 use std::alloc::Global;
 use std::test::Fail;
@@ -79,7 +79,7 @@ fn words_ask_for_a_plan_and_a_session(rt: HostRuntime) -> Result<(), Fail> {
     let alloc = rt.alloc();
     for (words, plan, chunks) in GOOD {
         let words = owned(alloc, words)?;
-        let Some(asked) = asked_of(alloc, &words)? else {
+        let Some(asked) = asked_of(alloc, "trace", &words)? else {
             return Err("good words are refused")?;
         };
         assert_eq!(rt; asked.plan, plan);
@@ -100,7 +100,7 @@ fn other_words_are_refused(rt: HostRuntime) -> Result<(), Fail> {
     let alloc = rt.alloc();
     for words in OTHERS {
         let words = owned(alloc, words)?;
-        assert!(rt; asked_of(alloc, &words)?.is_none());
+        assert!(rt; asked_of(alloc, "trace", &words)?.is_none());
     }
     Ok(())
 }
