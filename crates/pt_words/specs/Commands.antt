@@ -51,8 +51,8 @@ abbrev pub trace_app : App
 trace_app =
     with_rule (with_rule (with_rule two_app (position_rule (codes "three"))) (option_rule (codes "seed"))) (option_rule (codes "mb"))
 
--- Two words and the options `--seed`, `--wait`, `--streamers` and `--lives`.
+-- Two words and the options `--seed`, `--wait`, `--streamers`, `--lives`, `--reverse` and `--calls`.
 abbrev pub run_app : App
 run_app =
-    with_rule (with_rule (with_rule (with_rule two_app (option_rule (codes "seed"))) (option_rule (codes "wait"))) (option_rule (codes "streamers")))
-    (option_rule (codes "lives"))
+    with_rule (with_rule (with_rule (with_rule (with_rule (with_rule two_app (option_rule (codes "seed"))) (option_rule (codes "wait"))) (option_rule (codes "streamers")))
+    (option_rule (codes "lives"))) (option_rule (codes "reverse"))) (option_rule (codes "calls"))

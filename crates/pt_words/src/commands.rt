@@ -44,7 +44,8 @@ pub(crate) fn trace_words<'a>(alloc: Global) -> Result<Command<'a>, AllocError>
         .arg(option(alloc, "mb"))
 }
 
-/// Two positions, and the options `--seed`, `--wait`, `--streamers` and `--lives`, each of which has one text.
+/// Two positions, and the options `--seed`, `--wait`, `--streamers`, `--lives`, `--reverse` and `--calls`, each of which has one
+/// text.
 pub(crate) fn run_words<'a>(alloc: Global) -> Result<Command<'a>, AllocError>
     ensures { IfOk result (λ command. app_of command ≡ run_app) }
 {
@@ -52,7 +53,9 @@ pub(crate) fn run_words<'a>(alloc: Global) -> Result<Command<'a>, AllocError>
         .arg(option(alloc, "seed"))?
         .arg(option(alloc, "wait"))?
         .arg(option(alloc, "streamers"))?
-        .arg(option(alloc, "lives"))
+        .arg(option(alloc, "lives"))?
+        .arg(option(alloc, "reverse"))?
+        .arg(option(alloc, "calls"))
 }
 
 // No positions.

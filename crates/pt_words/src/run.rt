@@ -23,10 +23,12 @@ pub struct Run<'a> {
     pub wait: Option<&'a str>,
     pub streamers: Option<&'a str>,
     pub lives: Option<&'a str>,
+    pub reverse: Option<&'a str>,
+    pub calls: Option<&'a str>,
 }
 
-/// The texts of two positions, and of the options `--seed`, `--wait`, `--streamers` and `--lives`, each of which may stand
-/// before, between or after them, as two words or as one with `=`.
+/// The texts of two positions, and of the options `--seed`, `--wait`, `--streamers`, `--lives`, `--reverse` and `--calls`, each of
+/// which may stand before, between or after them, as two words or as one with `=`.
 ///
 /// None where there are more positions or fewer, where an option stands twice or has no text, or where a word begins
 /// with `-` and is not one of them.
@@ -47,7 +49,8 @@ fn texts_of<'a>(matches: &ArgMatches<'a>) -> Option<Run<'a>>
     ensures { option_map texts_of result ≡ texts_from
         (first_value (found_of matches.now) (codes "one")) (first_value (found_of matches.now) (codes "two"))
         (first_value (found_of matches.now) (codes "seed")) (first_value (found_of matches.now) (codes "wait"))
-        (first_value (found_of matches.now) (codes "streamers")) (first_value (found_of matches.now) (codes "lives")) }
+        (first_value (found_of matches.now) (codes "streamers")) (first_value (found_of matches.now) (codes "lives"))
+        (first_value (found_of matches.now) (codes "reverse")) (first_value (found_of matches.now) (codes "calls")) }
 {
     Some(Run {
         threads: matches.get_str("one")?,
@@ -56,6 +59,8 @@ fn texts_of<'a>(matches: &ArgMatches<'a>) -> Option<Run<'a>>
         wait: matches.get_str("wait"),
         streamers: matches.get_str("streamers"),
         lives: matches.get_str("lives"),
+        reverse: matches.get_str("reverse"),
+        calls: matches.get_str("calls"),
     })
 }
 
@@ -79,6 +84,8 @@ fn is_known(word: &String) -> bool
         || is_named(word, "--wait", "--wait=")
         || is_named(word, "--streamers", "--streamers=")
         || is_named(word, "--lives", "--lives=")
+        || is_named(word, "--reverse", "--reverse=")
+        || is_named(word, "--calls", "--calls=")
 }
 
 // Whether a word is an option alone, or begins as the option with its text does.

@@ -53,22 +53,43 @@ const NO_TRACES: [&str; 14] = [
 ];
 
 // Words with the texts of `--seed`, `--wait`, `--streamers` and `--lives` in them, where the positions are `2 8`.
-const RUNS: [(&str, [Option<&str>; 4]); 8] = [
-    ("2 8", [None; 4]),
-    ("2 8 --seed 7", [Some("7"), None, None, None]),
-    ("--wait=3 2 8", [None, Some("3"), None, None]),
-    ("2 --streamers 4 8", [None, None, Some("4"), None]),
-    ("2 8 --lives=5", [None, None, None, Some("5")]),
+const RUNS: [(&str, [Option<&str>; 6]); 10] = [
+    ("2 8", [None; 6]),
+    ("2 8 --seed 7", [Some("7"), None, None, None, None, None]),
+    ("--wait=3 2 8", [None, Some("3"), None, None, None, None]),
     (
-        "--lives 5 2 --streamers=4 --wait 3 8 --seed=7",
-        [Some("7"), Some("3"), Some("4"), Some("5")],
+        "2 --streamers 4 8",
+        [None, None, Some("4"), None, None, None],
     ),
-    ("2 8 --seed= --wait==", [Some(""), Some("="), None, None]),
-    ("2 8 --lives=--seed", [None, None, None, Some("--seed")]),
+    ("2 8 --lives=5", [None, None, None, Some("5"), None, None]),
+    (
+        "--reverse /x 2 8",
+        [None, None, None, None, Some("/x"), None],
+    ),
+    ("2 --calls=9 8", [None, None, None, None, None, Some("9")]),
+    (
+        "--lives 5 2 --streamers=4 --calls 6 --wait 3 8 --reverse=/x --seed=7",
+        [
+            Some("7"),
+            Some("3"),
+            Some("4"),
+            Some("5"),
+            Some("/x"),
+            Some("6"),
+        ],
+    ),
+    (
+        "2 8 --seed= --wait==",
+        [Some(""), Some("="), None, None, None, None],
+    ),
+    (
+        "2 8 --lives=--seed",
+        [None, None, None, Some("--seed"), None, None],
+    ),
 ];
 
 // Words that are no two positions with each option once at most.
-const NO_RUNS: [&str; 14] = [
+const NO_RUNS: [&str; 17] = [
     "",
     "2",
     "2 8 9",
@@ -79,6 +100,9 @@ const NO_RUNS: [&str; 14] = [
     "--seed 7 --seed 7 2 8",
     "--wait=1 2 8 --wait 1",
     "2 8 --lives=1 --lives=1",
+    "2 8 --reverse=/x --reverse /x",
+    "2 8 --calls --reverse /x",
+    "2 8 --revers /x",
     "2 8 --live=1",
     "2 8 --mb 1",
     "-- 2 8",
@@ -184,7 +208,15 @@ fn the_options_of_a_run_are_anywhere(rt: HostRuntime) -> Result<(), Fail> {
             return Err("good words are refused")?;
         };
         assert_eq!(rt; (run.threads, run.writes), ("2", "8"));
-        assert_eq!(rt; [run.seed, run.wait, run.streamers, run.lives], options);
+        let given = [
+            run.seed,
+            run.wait,
+            run.streamers,
+            run.lives,
+            run.reverse,
+            run.calls,
+        ];
+        assert_eq!(rt; given, options);
     }
     Ok(())
 }
