@@ -28,21 +28,22 @@ fn is_part(alloc: Global, taken: &[u8]) -> bool {
 #[test]
 fn a_link_that_fails_ends_its_own_session(rt: HostRuntime) -> Result<(), Fail> {
     let most = Request::Most;
-    let ended = "rows [1-4 80]\nsession 1 of 1: link\nsession 2 of 2: program [1-4 0..80 10+0]";
+    let ended =
+        "rows [1-4 10000]\nsession 1 of 1: link\nsession 2 of 2: program [1-4 0..10000 1250+0]";
     let cases: [(Peer, &str, usize); 5] = [
         (
             unheard(most, 1),
-            "rows [1-4 80]\nsession 1 of 2: program [1-4 0..80 10+0]\nconnection 1: read fault 0 bytes",
+            "rows [1-4 10000]\nsession 1 of 2: program [1-4 0..10000 1250+0]\nconnection 1: read fault 0 bytes",
             0,
         ),
         (
             deaf(most, 1, 0),
-            "rows [1-4 80]\nsession 2 of 2: program [1-4 0..80 10+0]\nconnection 1: write fault 0 bytes",
+            "rows [1-4 10000]\nsession 2 of 2: program [1-4 0..10000 1250+0]\nconnection 1: write fault 0 bytes",
             0,
         ),
         (
             deaf(most, 2, 0),
-            "rows [1-4 80]\nsession 2 of 2: program [1-4 0..80 10+0]\nconnection 1: write fault 28 bytes",
+            "rows [1-4 10000]\nsession 2 of 2: program [1-4 0..10000 1250+0]\nconnection 1: write fault 28 bytes",
             0,
         ),
         (deaf(most, 3, 0), ended, 130),
@@ -50,7 +51,7 @@ fn a_link_that_fails_ends_its_own_session(rt: HostRuntime) -> Result<(), Fail> {
     ];
     for (first, want, bytes) in &cases {
         let peers = [*first, sound(Request::Jobs)];
-        let told = run(&rt, rt.alloc(), runs(4, 80, 2), &peers, &[])?;
+        let told = run(&rt, rt.alloc(), runs(4, 10_000, 2), &peers, &[])?;
         assert_eq!(rt; told.text(), *want);
         if *bytes > 0 {
             assert_eq!(rt; told.taken.first().map(|taken| taken.len()), Some(*bytes));

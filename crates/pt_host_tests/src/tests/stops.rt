@@ -9,13 +9,20 @@ fn a_session_is_stopped_while_it_goes_on(rt: HostRuntime) -> Result<(), Fail> {
     let most = sound(Request::Most);
     let jobs = sound(Request::Jobs);
     let stop = sound(Request::Stop);
-    let cases: [(Asked, &[Peer], &[Hold], &str); 4] = [
+    let cases: [(Asked, &[Peer], &[Hold], &str); 5] = [
         // Within its threads' writes.
         (
-            runs(2, 16, 1),
+            runs(2, 10, 1),
             &[most, stop],
             &[until(wrote(1, 5), answered(2))],
-            "rows [1-2 16]\nsession 1 of 1: stopped by 2 [1-*\nconnection 2: stops 1 28 bytes",
+            "rows [1-2 10]\nsession 1 of 1: stopped by 2 [1-*\nconnection 2: stops 1 28 bytes",
+        ),
+        // Before any write. It counts among those that are waited for, though it has ended.
+        (
+            runs(2, 16, 2),
+            &[most, stop, jobs],
+            &[late_as(3, 1)],
+            "rows [1-2 16]\nsession 1 of 1: stopped by 2 [1-2 0..0 0+0]\nsession 2 of 3: program [1-2 0..16 2+0]\nconnection 2: stops 1 28 bytes",
         ),
         // The other session goes on.
         (
@@ -47,6 +54,7 @@ fn a_session_is_stopped_while_it_goes_on(rt: HostRuntime) -> Result<(), Fail> {
     for (asked, peers, holds, want) in &cases {
         let told = run(&rt, rt.alloc(), *asked, peers, holds)?;
         assert!(rt; told.says(want), "{}", told.text());
+        assert!(rt; told.is_within(asked.writes));
     }
     Ok(())
 }

@@ -41,3 +41,20 @@ fn sessions_get_what_their_rules_admit(rt: HostRuntime) -> Result<(), Fail> {
     }
     Ok(())
 }
+
+// Nobody is let in behind them, so the threads wait for no session more, and the session that is there goes on to its end.
+#[test]
+fn a_run_takes_500_connections(rt: HostRuntime) -> Result<(), Fail> {
+    let alloc = rt.alloc();
+    let mut peers = vec![in alloc; sound(Request::Info); 501]?;
+    if let Some(first) = peers.first_mut() {
+        *first = sound(Request::Jobs);
+    }
+    let told = run(&rt, alloc, runs(2, 8, 2), &peers, &[])?;
+    let start =
+        "rows [1-2 8]\nsession 1 of 1: program [1-2 0..8 1+0]\nconnection 2: info 62 bytes\n";
+    assert!(rt; told.text().starts_with(start), "{}", told.text());
+    assert!(rt; told.text().ends_with("\nconnection 500: info 62 bytes"));
+    assert_eq!(rt; told.text().lines().count(), 501);
+    Ok(())
+}
