@@ -2,7 +2,7 @@ use super::SocketDock;
 use pt_io::{Arrival, Dock, Link, Sink, Source};
 use std::io::{Read, Write};
 use std::os::unix::fs::PermissionsExt;
-use std::os::unix::net::UnixStream;
+use std::os::unix::net::{UnixListener, UnixStream};
 use std::{env, fs, io, process, thread};
 
 // A path for a socket of this name, which no other test and no other run of the tests has.
@@ -77,6 +77,18 @@ fn a_path_that_is_taken_fails_and_stays(rt: HostRuntime) -> io::Result<()> {
     assert!(rt; dock.next().is_err());
     drop(dock);
     assert_eq!(rt; fs::read_to_string(&rt, &path)?.as_str(), "mine");
+    fs::remove_file(&rt, &path)
+}
+
+// Whoever listened there has gone, and has left the file.
+#[test]
+fn a_socket_that_was_left_fails_and_stays(rt: HostRuntime) -> io::Result<()> {
+    let path = path_of(rt, "left")?;
+    drop(UnixListener::bind(&rt, &path)?);
+    let mut dock = SocketDock::new(rt, Some(path.clone()?));
+    assert!(rt; dock.next().is_err());
+    drop(dock);
+    assert!(rt; fs::exists(&rt, &path)?);
     fs::remove_file(&rt, &path)
 }
 
