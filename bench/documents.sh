@@ -140,6 +140,26 @@ def are_named(path):
     return wrong
 
 
+@functools.cache
+def words_there():
+    """Each word of the sources, the definitions and the proofs, and of the scripts and the C files."""
+    names = glob.glob(f"{here}/crates/*/[sp]*/**/*", recursive=True)
+    names += [it for at in ("bench", "bench/c", "c", "include", "examples/c", ".") for it in glob.glob(f"{here}/{at}/*")]
+    texts = [read(it) for it in names if os.path.isfile(it) and not it.endswith(".md")]
+    return {word for text in texts for word in re.findall(r"\w+", text)}
+
+
+def are_there(path):
+    """Whether the names of code that the text cites without a crate stand somewhere."""
+    wrong = 0
+    for name in quoted_in(read(path)):
+        if re.fullmatch(r"[A-Za-z]\w*(::\w+)*", name) and re.search(r"_\w|::|[a-z][A-Z]", name):
+            if not all(it in words_there() for it in name.split("::")):
+                wrong += 1
+                tell(path, f"`{name}` stands nowhere")
+    return wrong
+
+
 def are_mapped():
     """Whether the map has exactly the crates of crates.txt that are no tests, in their order."""
     path = f"{here}/docs/ARCHITECTURE.md"
@@ -396,7 +416,7 @@ def run_all():
     return wrong
 
 
-wrong = sum(lead_somewhere(path) + are_named(path) + are_defined(path) for path in DOCUMENTS)
+wrong = sum(lead_somewhere(path) + are_named(path) + are_there(path) + are_defined(path) for path in DOCUMENTS)
 wrong += are_mapped() + are_claimed() + are_promised() + are_counted() + are_planted() + are_tested() + are_measured()
 wrong += are_limits() + are_statuses() + are_shaped() + is_short()
 print(f"words, counts and figures: {wrong} differ")
