@@ -18,13 +18,13 @@ use Rattle.ep_stream.specs.declared.session.Fate.{Fate}
 use Rattle.ep_stream.specs.declared.session.Fate.TheVariants as fate
 use Rattle.ep_live_laws.specs.Streams.{PartsAreFound, TracesAreFound}
 use Rattle.ep_live_laws.specs.Tracing.{is_fault, TookTraced, TookTracedPart}
-use Rattle.pt_load.specs.Sample.{sample}
+use Rattle.pt_load.specs.Sample.{sample, writes_of}
 use Rattle.pt_load.specs.declared.plan.Plan.{Plan}
 use Rattle.pt_live.specs.declared.trace.TraceEnd.{TraceEnd}
-use Rattle.pt_live.specs.Trace.{AreUnwritten, AreWhole, HasSpent, TookPart, TookSome, TookTrace, TookUnwritten, Traced, Traces, rows_of, writes_of}
+use Rattle.pt_live.specs.Trace.{AreUnwritten, AreWhole, HasSpent, TookPart, TookSome, TookTrace, TookUnwritten, Traced, Traces, rows_of}
 use Rattle.pt_live.specs.state.Ended.{HasEndedAt}
 use Rattle.pt_live.specs.state.Run.{IsLentTo, RunState}
-use Rattle.pt_live.proofs.Load.{count-writes}
+use Rattle.pt_load.proofs.Places.{count-writes}
 use Rattle.pt_live.proofs.Long.{is-long}
 
 -- The stream of entries that trace the threads is found, and so is a part of it.

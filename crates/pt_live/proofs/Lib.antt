@@ -1,5 +1,4 @@
 pub mod Load
-pub mod Lists
 pub mod Opening
 pub mod Firsts
 pub mod Ending

@@ -11,10 +11,10 @@ use Rattle.ep_defs.specs.declared.session.Write.{Write}
 use Rattle.ep_guarded.specs.Tied.{AreCounted}
 use Rattle.ep_model.specs.History.{admits_write, admitted_from}
 use Rattle.nt_write.specs.declared.limits.TheConstants.{FRAMED_EVENTS}
-use Rattle.pt_load.specs.Sample.{sample}
+use Rattle.pt_load.specs.Sample.{sample, writes_of}
 use Rattle.pt_load.specs.declared.plan.Plan.{Plan}
-use Rattle.pt_live.specs.Trace.{AreWhole, IsLong, IsWhole, admitted_of, taken_of, threads_of, writes_of}
-use Rattle.pt_live.proofs.Load.{count-writes}
+use Rattle.pt_live.specs.Trace.{AreWhole, IsLong, IsWhole, admitted_of, taken_of, threads_of}
+use Rattle.pt_load.proofs.Places.{count-writes}
 
 -- Of a thread no more is taken than the session gets of it.
 taken-few : (plan : Plan) (config : Config) (mark : Marks) → IsWhole plan.writes mark → AreCounted sample (writes_of plan) config mark → mark.taken ≤ admitted_of plan config mark.thread

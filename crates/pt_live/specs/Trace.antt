@@ -15,7 +15,7 @@ use Rattle.ep_stream.specs.declared.session.Fate.{Fate}
 use Rattle.ep_stream.specs.declared.session.Fate.TheVariants as fate
 use Rattle.ep_live_laws.specs.Streams.{IsPartOf, IsTraceOf}
 use Rattle.ep_live_laws.specs.Tracing.{is_fault}
-use Rattle.pt_load.specs.Sample.{nth, sample}
+use Rattle.pt_load.specs.Sample.{nth, sample, writes_of}
 use Rattle.pt_load.specs.declared.plan.Plan.{Plan}
 use Rattle.pt_live.specs.declared.trace.TraceEnd.{TraceEnd}
 
@@ -24,10 +24,6 @@ use Rattle.pt_live.specs.declared.trace.TraceEnd.{TraceEnd}
 -- The threads of a run.
 abbrev pub threads_of : Plan → List ℕ
 threads_of plan = range_with_len 1 plan.threads
-
--- All that a thread, from 1, writes in a run.
-abbrev pub writes_of : Plan → ℕ → List Write
-writes_of plan thread = map (nth plan thread) (range_with_len 0 plan.writes)
 
 -- Each thread with the number of its writes.
 abbrev pub rows_of : Plan → List (ℕ × ℕ)

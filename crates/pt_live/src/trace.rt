@@ -5,8 +5,9 @@ ghost use Rattle.ep_defs.specs.Session.{is_valid_config};
 ghost use Rattle.ep_guarded.specs.Granted.{IsGrantFor};
 ghost use Rattle.ep_live.specs.Made.{AreHandTies, AreStands};
 ghost use Rattle.pt_stream.specs.State.{first_seat};
-ghost use Rattle.pt_live.specs.Trace.{Traces, writes_of};
+ghost use Rattle.pt_live.specs.Trace.{Traces};
 ghost use Rattle.pt_live.specs.state.Run.{IsLentTo, IsRunOf, TracesOver, setting_of};
+ghost use Rattle.pt_load.specs.Sample.{writes_of};
 
 use crate::kit::Kit;
 use crate::lent::{Lent, RunOutput};

@@ -1,3 +1,4 @@
 pub mod Writes
 pub mod Pushed
 pub mod Valid
+pub mod Places

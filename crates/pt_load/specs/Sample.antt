@@ -1,6 +1,6 @@
 -- The sample program: its events, and what each of its threads writes (this project's profile).
 use Rattle.std.specs.Prelude.{ℕ, ◌+◌, ◌-◌, ◌*◌, ◌%◌, List, [], ◌∷◌, ◌++◌, codes, map, replicate, take, slice_get, nat_le, ◌==◌, if◌then◌else◌}
-use Rattle.std.specs.List.{flat_map}
+use Rattle.std.specs.List.{flat_map, range_with_len}
 use Rattle.std.specs.Option.{option_map_or}
 use Rattle.std.specs.Int.{w32, w64, to_le_bytes}
 use Rattle.ep_defs.specs.declared.event.EventDef.{EventDef}
@@ -84,3 +84,7 @@ write_of event thread index =
 -- What a thread, from 1, writes after so many writes.
 abbrev pub nth : Plan → ℕ → ℕ → Write
 nth plan thread index = write_of (event_at plan thread index) thread index
+
+-- All that a thread, from 1, writes in a run.
+abbrev pub writes_of : Plan → ℕ → List Write
+writes_of plan thread = map (nth plan thread) (range_with_len 0 plan.writes)

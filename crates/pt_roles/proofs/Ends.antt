@@ -22,7 +22,7 @@ use Rattle.ep_registry.specs.declared.hold.Hold.{Hold}
 use Rattle.ep_live_laws.specs.Streams.{PartsAreFound, TracesAreFound}
 use Rattle.ep_live_laws.specs.Traced.{ArePart, AreTraced}
 use Rattle.ep_live_laws.specs.Tracing.{TookTraced, TookTracedPart, is_fault}
-use Rattle.pt_load.specs.Sample.{sample}
+use Rattle.pt_load.specs.Sample.{sample, writes_of}
 use Rattle.pt_server.specs.Connection.{HasAsked}
 use Rattle.pt_server.specs.Served.{ServedState}
 use Rattle.ep_live.specs.Free.{EndedState}
@@ -36,9 +36,9 @@ use Rattle.pt_roles.specs.Ran.{AreMarksOf, HasEachRow, IsEnd, IsSpent, IsThread,
 use Rattle.pt_roles.specs.Fates.{fate_as}
 use Rattle.pt_roles.specs.Serving.{IsLastOf, IsLeftOf}
 use Rattle.pt_roles.specs.Table.{IsOver, was_opened}
-use Rattle.pt_roles.specs.World.{IsWorldOf, WorldState, before_of, setting_of, writes_of}
+use Rattle.pt_roles.specs.World.{IsWorldOf, WorldState, before_of, setting_of}
 use Rattle.pt_roles.specs.declared.live_end.LiveSession.{LiveSession}
-use Rattle.pt_roles.proofs.Load.{count-writes}
+use Rattle.pt_load.proofs.Places.{count-writes}
 use Rattle.pt_roles.proofs.Marks.{all-done, all-marks, each-row, early-marks, is-thread}
 
 -- The link asked for the session that is left.

@@ -2,8 +2,8 @@
 use Rattle.std.proofs.Common.{◌≡◌, ℕ, zero, suc, ◌+◌, ◌-◌, ◌<◌, ◌≤◌, Bool, true, false, List, [], ◌∷◌, length, get_or, refl, ap, ◌∙◌, sym, subst, arith}
 use Rattle.std.specs.Prelude.{◌==◌, ◌||◌, ◌&&◌, nat_lt, slice_index_or}
 use Rattle.std.specs.List.{AllByRecursion, list_all, list_any, range_with_len}
+use Rattle.std.proofs.Math.Bool.{or-true}
 use Rattle.std.proofs.lemmas.Bool.{eq-eqb, ltb-false, ltb-true}
-use Rattle.std.proofs.lemmas.Bool.Decides.{nat_tests}
 use Rattle.std.proofs.lemmas.List.Folds.{list_all_at}
 use Rattle.ep_defs.specs.declared.session.Marks.{Marks}
 use Rattle.ep_guarded.specs.Tied.{thread_of}
@@ -13,8 +13,9 @@ use Rattle.pt_stream.specs.End.{AreEarly, AreServed, IsFromFirst}
 use Rattle.pt_stream.specs.State.{IsDone, no_place, place_at}
 use Rattle.pt_stream.specs.declared.place.Place.{Place}
 use Rattle.pt_roles.specs.Ran.{HasEachRow, IsThread, is_early, threads_in}
-use Rattle.pt_roles.specs.World.{WorldState, writes_of}
-use Rattle.pt_roles.proofs.Load.{count-writes}
+use Rattle.pt_roles.specs.World.{WorldState}
+use Rattle.pt_load.specs.Sample.{writes_of}
+use Rattle.pt_load.proofs.Places.{count-writes}
 
 -- ---- lists
 
@@ -22,15 +23,8 @@ pub all-map : {A : Type 0} (P Q : A → Type 0) → ((x : A) → P x → Q x) �
 all-map P Q h [] all = tt
 all-map P Q h (x ∷ xs) all = (h x all.0, all-map P Q h xs all.1)
 
-same-self : (n : ℕ) → (n == n) ≡ true
-same-self n = grind (arith, nat_tests)
-
 one-here : (n : ℕ) (ns : List ℕ) → IsOneOf (n ∷ ns) n
-one-here n ns = rw (same-self n) refl
-
-or-true : (b : Bool) → (b || true) ≡ true
-or-true true = refl
-or-true false = refl
+one-here n ns = rw (eq-eqb n n refl) refl
 
 one-later : (m n : ℕ) (ns : List ℕ) → IsOneOf ns n → IsOneOf (m ∷ ns) n
 one-later m n ns is = ap (λ (b : Bool). (m == n) || b) is ∙ or-true (m == n)

@@ -3,7 +3,7 @@ use Rattle.std.proofs.Common.{◌≡◌, ◌≢◌, ◌∙◌, ℕ, zero, suc, �
 use Rattle.std.specs.Prelude.{◌&&◌, ◌||◌, nat_lt, not}
 use Rattle.std.specs.List.{list_all}
 use Rattle.std.proofs.Math.ListN.{set}
-use Rattle.std.proofs.lemmas.Bool.{lt-ltb}
+use Rattle.std.proofs.lemmas.Bool.{lt-ltb, or_left}
 use Rattle.ep_defs.specs.declared.session.Marks.{Marks}
 use Rattle.ep_table.proofs.Places.{list_all-at, list_all-set}
 use Rattle.pt_stream.specs.declared.place.Place.{Place}
@@ -12,21 +12,6 @@ use Rattle.pt_stream.proofs.Places.{by-row, place-here, place-other}
 use Rattle.pt_roles.specs.Serving.{KeepsSession}
 
 -- ---- the session
-
-pub keeps-self : (stream : StreamState) → KeepsSession stream stream
-keeps-self stream = record { id = refl; slot = refl; conn = refl; config = refl; early = refl; gave = refl; stands = refl }
-
-pub keeps-both : (a b c : StreamState) → KeepsSession a b → KeepsSession b c → KeepsSession a c
-keeps-both a b c h k =
-    record {
-      id = k.id ∙ h.id;
-      slot = k.slot ∙ h.slot;
-      conn = k.conn ∙ h.conn;
-      config = k.config ∙ h.config;
-      early = k.early ∙ h.early;
-      gave = k.gave ∙ h.gave;
-      stands = k.stands ∙ h.stands;
-    }
 
 pub keeps-closed : (row : ℕ) (marks : List Marks) (old new : StreamState) → new ≡ closed_on row marks old → KeepsSession old new
 keeps-closed row marks old new is =
@@ -62,10 +47,6 @@ and-true : (b c : Bool) → c ≡ true → (b && c) ≡ b
 and-true true c is = is
 and-true false c is = refl
 
-or-true : (b c : Bool) → b ≡ true → (b || c) ≡ true
-or-true true c is = refl
-or-true false c is = absurd (cc)
-
 -- Once it was opened on each row it stays as early as it is.
 pub keeps-opened : (row life : ℕ) (old new : StreamState) → 0 < row → row ≤ length old.places → new ≡ opened_on row life old → is_complete old ≡ true → KeepsSession old new
 keeps-opened row life old new some within is complete =
@@ -75,20 +56,12 @@ keeps-opened row life old new some within is complete =
       slot = ap (λ (s : StreamState). s.slot) is;
       conn = ap (λ (s : StreamState). s.conn) is;
       config = ap (λ (s : StreamState). s.config) is;
-      early = ap (λ (s : StreamState). s.early) is ∙ and-true old.early (stays_early old.stands (place_at old.places row) life) (or-true (nat_lt 0 (place_at old.places row).next) _ opened);
+      early = ap (λ (s : StreamState). s.early) is ∙ and-true old.early (stays_early old.stands (place_at old.places row) life) (or_left (nat_lt 0 (place_at old.places row).next) _ opened);
       gave = ap (λ (s : StreamState). s.gave) is;
       stands = ap (λ (s : StreamState). s.stands) is;
     }
 
 -- ---- on the first rows
-
-pub not-open : (b : Bool) → not b ≡ true → b ≡ false
-not-open true is = absurd (cc)
-not-open false is = refl
-
--- It is open on none of no rows.
-pub shut-none : (stream : StreamState) → IsShut 0 stream
-shut-none stream row some few = absurd (omega arith)
 
 -- It is not open on the next row.
 pub shut-more : (count : ℕ) (stream : StreamState) → (place_at stream.places (count + 1)).is_open ≡ false → IsShut count stream → IsShut (count + 1) stream

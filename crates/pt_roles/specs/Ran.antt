@@ -20,11 +20,11 @@ use Rattle.ep_journal.specs.declared.session.Stage.TheVariants as stage
 use Rattle.ep_journal.specs.declared.limits.TheConstants.{CONNECTIONS}
 use Rattle.ep_journal.specs.Kept.{is_session}
 use Rattle.ep_journal.specs.Told.{AreTold}
-use Rattle.pt_load.specs.Sample.{sample}
+use Rattle.pt_load.specs.Sample.{sample, writes_of}
 use Rattle.pt_server.specs.Connection.{HasAsked}
 use Rattle.pt_server.specs.Told.{AreTold as AreEnded}
 use Rattle.pt_roles.specs.Fates.{fate_as}
-use Rattle.pt_roles.specs.World.{WorldState, before_of, rows_of, writes_of}
+use Rattle.pt_roles.specs.World.{WorldState, before_of, rows_of}
 use Rattle.pt_roles.specs.declared.live_end.LiveEnd.{LiveEnd}
 use Rattle.pt_roles.specs.declared.live_end.LiveSession.{LiveSession}
 

@@ -8,9 +8,9 @@ use Rattle.ep_defs.specs.declared.session.TraceInfo.{TraceInfo}
 use Rattle.ep_defs.specs.Session.{standard_info_of}
 use Rattle.pt_io.specs.declared.sink.Sink.{Ghosts as Sink}
 use Rattle.pt_stream.specs.Setting.{Setting}
-use Rattle.pt_load.specs.Sample.{sample}
+use Rattle.pt_load.specs.Sample.{sample, writes_of}
 use Rattle.pt_load.specs.declared.plan.Plan.{Plan}
-use Rattle.pt_live.specs.Trace.{Traces, writes_of}
+use Rattle.pt_live.specs.Trace.{Traces}
 use Rattle.pt_live.specs.declared.trace.TraceEnd.{TraceEnd}
 
 -- How much is written, what the stream says of the program, and what the session was asked for; and of the output by which

@@ -1,5 +1,5 @@
-use Rattle.pt_load.specs.Sample.{sample}
-use Rattle.pt_roles.specs.World.{setting_of, world_of, writes_of}
+use Rattle.pt_load.specs.Sample.{sample, writes_of}
+use Rattle.pt_roles.specs.World.{setting_of, world_of}
 use Rattle.pt_host.proofs.run.run_live.Given as goal
 
 -- the ties that were just made

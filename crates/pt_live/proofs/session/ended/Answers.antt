@@ -7,7 +7,7 @@ use Rattle.pt_load.specs.declared.plan.Plan.{Plan}
 use Rattle.pt_stream.specs.State.{EndsAt}
 use Rattle.pt_live.proofs.Ending.{ended-at, faulty-memory, memory-apart, never-asked, own-end, spent-so}
 use Rattle.pt_live.proofs.Firsts.{all-done}
-use Rattle.pt_live.proofs.Load.{count-writes}
+use Rattle.pt_load.proofs.Places.{count-writes}
 use Rattle.pt_live.proofs.Opening.{closed-all, opened-each}
 use Rattle.pt_live.proofs.session.ended.Goals as goal
 

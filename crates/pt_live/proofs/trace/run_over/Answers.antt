@@ -7,8 +7,8 @@ use Rattle.ep_defs.specs.declared.session.Config.{Config}
 use Rattle.ep_defs.specs.declared.session.TraceInfo.{TraceInfo}
 use Rattle.pt_io.specs.declared.sink.Sink.{Ghosts as Sink}
 use Rattle.pt_live.specs.declared.trace.TraceEnd.{TraceEnd}
-use Rattle.pt_load.specs.Sample.{sample}
-use Rattle.pt_live.specs.Trace.{Traced, Traces, writes_of}
+use Rattle.pt_load.specs.Sample.{sample, writes_of}
+use Rattle.pt_live.specs.Trace.{Traced, Traces}
 use Rattle.pt_stream.specs.Setting.{Setting}
 use Rattle.pt_stream.specs.State.{StreamState}
 use Rattle.pt_live.proofs.Answering.{of-sample, other-fault, traces-by, traces-end, traces-memory, traces-none, unwritten-end, unwritten-none, unwritten-start}

@@ -1,5 +1,4 @@
-use Rattle.pt_load.specs.Sample.{sample}
-use Rattle.pt_live.specs.Trace.{writes_of}
+use Rattle.pt_load.specs.Sample.{sample, writes_of}
 use Rattle.pt_live.specs.state.Run.{RunState, setting_of}
 use Rattle.pt_live.proofs.trace.run_trace.Given as goal
 

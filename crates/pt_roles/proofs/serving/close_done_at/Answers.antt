@@ -1,11 +1,12 @@
 use Rattle.std.proofs.Common.{◌+◌, ◌∙◌, ap, sym, arith}
 use Rattle.pt_stream.specs.declared.place.Place.{Place}
-use Rattle.pt_roles.proofs.Rows.{complete-closed, not-open, shut-closed, shut-more}
+use Rattle.std.proofs.lemmas.Bool.{not-true}
+use Rattle.pt_roles.proofs.Rows.{complete-closed, shut-closed, shut-more}
 use Rattle.pt_roles.proofs.serving.close_done_at.Goals as goal
 
 pub returns-then-not-place-clause-shut : goal.returns-then-not-place-clause-shut
 returns-then-not-place-clause-shut g c shut =
-    shut-more c.args.number c.args.stream (ap (λ (p : Place). p.is_open) (sym c.place.ensures.place) ∙ not-open c.place.result.is_open c.if-not-place.true) shut
+    shut-more c.args.number c.args.stream (ap (λ (p : Place). p.is_open) (sym c.place.ensures.place) ∙ not-true c.place.result.is_open c.if-not-place.true) shut
 
 pub returns-clause-complete : goal.returns-clause-complete
 returns-clause-complete g c =

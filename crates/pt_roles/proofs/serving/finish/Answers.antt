@@ -1,7 +1,6 @@
 use Rattle.std.proofs.Common.{◌∙◌, refl, rules, subst, sym}
-use Rattle.pt_load.specs.Sample.{sample}
+use Rattle.pt_load.specs.Sample.{sample, writes_of}
 use Rattle.pt_roles.specs.Ran.{IsEnd, IsSpent}
-use Rattle.pt_roles.specs.World.{writes_of}
 use Rattle.pt_roles.proofs.Ends.{is-end, is-over, spent-left}
 use Rattle.pt_roles.proofs.serving.finish.Goals as goal
 

@@ -5,7 +5,7 @@ use Rattle.pt_load.specs.Sample.{nth}
 use Rattle.pt_load.specs.Shape.{Drafted}
 use Rattle.pt_load.specs.declared.plan.Plan.{Plan}
 use Rattle.pt_live.specs.state.Writers.{StandsAt}
-use Rattle.pt_live.proofs.Load.{write-at}
+use Rattle.pt_load.proofs.Places.{write-at}
 use Rattle.pt_live.proofs.writers.Writer.write_all.Goals as goal
 
 same : (a b : Stand) → Some a ≡ Some b → a ≡ b
