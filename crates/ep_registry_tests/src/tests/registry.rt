@@ -8,14 +8,13 @@ ghost use Rattle.ep_registry.specs.Registered.{AreLeft};
 
 use ep_journal::limits::CONNECTIONS;
 use ep_journal::{Decision, Entry, Fate, Log, Opened, Stage};
-use ep_registry::{Ended, Handed, Hold, Kinds, Mark, Registry, Role, Server};
+use ep_registry::{Ended, Finished, Handed, Hold, Kinds, Mark, Registry, Role, Server};
 use ep_table::StopAnswer;
 use ep_table::limits::SLOTS;
 use ep_tie::{Blank, Named, Right};
-use std::alloc::{AllocError, Global};
+use std::alloc::{AllocError, AllocGlobal, Global};
 use std::marker::Brand;
 use std::process::Abort;
-use std::test::Fail;
 
 /// A free slot is there with its number, which goes with its session; what is left of a session is its id.
 struct ByNumber;
@@ -32,17 +31,40 @@ impl Kinds<u32, u32, u64, u32> for ByNumber {
     ghost gone = { λ writers. writers ≡ 2 };
 }
 
-/// What the history tells in the end.
-#[derive(Drop)]
+/// A step of a history, with what is to come of it.
+#[derive(Clone, Copy)]
+enum Step {
+    /// The next connection asks for a session whose start fails.
+    FailedStart,
+    /// The next connection asks for a session, which is opened early or late and waits for its role.
+    Begin(bool),
+    /// The next connection asks for the end of this session, which is granted or not.
+    Stop(u64, bool),
+    /// The role of this slot looks at its session, and ends it as it finds.
+    Turn(u32, Option<Fate>),
+    /// All writers end.
+    WritersEnd,
+}
+
+/// What a history is to tell.
+#[derive(Clone, Copy)]
+struct Wanted<'a> {
+    decisions: &'a [Decision],
+    sessions: &'a [Entry],
+    /// The ids of the sessions that have ended, with what is left of each.
+    left: &'a [(u64, u64)],
+}
+
+/// What a history tells in the end, and whether it is what it was to tell.
+#[derive(Clone, Copy, PartialEq, Eq)]
 struct Told {
-    /// Whether what came of each step is what was to come.
+    /// Whether what came of each step is what it says.
     agrees: bool,
     early: u32,
     late: u32,
-    decisions: Vec<Decision>,
-    sessions: Vec<Entry>,
-    /// The ids of the sessions that have ended, with what is left of each.
-    left: Vec<(u64, u64)>,
+    decisions: bool,
+    sessions: bool,
+    left: bool,
     gone: Option<u32>,
 }
 
@@ -55,15 +77,16 @@ struct Sets {
 }
 
 impl Sets {
-    fn new(alloc: Global) -> Result<Sets, AllocError>
-        ensures { IfOk result (λ sets. (sets.book.places ≡ 1) × (sets.holds.places ≡ CONNECTIONS)
-            × (sets.marks.places ≡ SLOTS + 1)) }
+    fn new(rt: &(impl Abort + AllocGlobal)) -> Sets
+        ensures { (result.book.places ≡ 1) × (result.holds.places ≡ CONNECTIONS)
+            × (result.marks.places ≡ SLOTS + 1) }
     {
-        Ok(Sets {
-            book: Blank::new(alloc, 1)?,
-            holds: Blank::new(alloc, CONNECTIONS as u32)?,
-            marks: Blank::new(alloc, SLOTS as u32 + 1)?,
-        })
+        let alloc = rt.alloc();
+        Sets {
+            book: Blank::new(alloc, 1).expect(rt, "a tie"),
+            holds: Blank::new(alloc, CONNECTIONS as u32).expect(rt, "ties"),
+            marks: Blank::new(alloc, SLOTS as u32 + 1).expect(rt, "ties"),
+        }
     }
 }
 
@@ -75,9 +98,8 @@ struct Run<B: Named, S: Named, R: Named> {
 }
 
 impl<B: Named, S: Named, R: Named> Run<B, S, R> {
-    // The next connection asks for a session, which is opened early or late and waits for its role. Its start fails where
-    // it is not to be opened.
-    fn begin(&mut self, early: Option<bool>) -> bool
+    // The next connection asks for a session, whose start fails.
+    fn fail_start(&mut self) -> bool
         requires room { length self.old.server.decisions < CONNECTIONS }
         requires open { self.old.server.left ≡ false }
         ensures room { length self.new.server.decisions ≤ length self.old.server.decisions + 1 }
@@ -86,9 +108,19 @@ impl<B: Named, S: Named, R: Named> Run<B, S, R> {
         let Some((holder, free)) = self.registry.accept(&mut self.server) else {
             return false;
         };
-        let Some(early) = early else {
-            self.registry.fail(&mut self.server, holder, free);
-            return true;
+        self.registry.fail(&mut self.server, holder, free);
+        true
+    }
+
+    // The next connection asks for a session, which is opened early or late and waits for its role.
+    fn begin(&mut self, early: bool) -> bool
+        requires room { length self.old.server.decisions < CONNECTIONS }
+        requires open { self.old.server.left ≡ false }
+        ensures room { length self.new.server.decisions ≤ length self.old.server.decisions + 1 }
+        ensures open { self.new.server.left ≡ false }
+    {
+        let Some((holder, free)) = self.registry.accept(&mut self.server) else {
+            return false;
         };
         let mut holder = holder;
         self.registry.open(&mut self.server, &mut holder, early);
@@ -129,43 +161,56 @@ impl<B: Named, S: Named, R: Named> Run<B, S, R> {
         Some(fate)
     }
 
-    // Whether each step has what is to come of it: a start fails, one session is opened early and one late, the second is
-    // stopped, and the first goes on until all writers have ended.
-    fn play(&mut self) -> bool
-        requires { (self.old.server.decisions ≡ []) × (self.old.server.left ≡ false) }
-        ensures { self.new.server.left ≡ false }
+    // Whether what came of the step is what it says.
+    fn make(&mut self, step: Step) -> bool
+        requires room { length self.old.server.decisions < CONNECTIONS }
+        requires open { self.old.server.left ≡ false }
+        ensures room { length self.new.server.decisions ≤ length self.old.server.decisions + 1 }
+        ensures open { self.new.server.left ≡ false }
     {
-        let begun = self.begin(None) && self.begin(Some(true)) && self.begin(Some(false));
-        let stops = self.stop(3) && !self.stop(9);
-        let requested = self.turn(1) == Some(Fate::Requested { conn: 4 });
-        let goes_on = self.turn(0).is_none();
-        self.registry.end_writers(2);
-        let ends = self.turn(0) == Some(Fate::ProgramEnd);
-        begun && stops && requested && goes_on && ends
+        match step {
+            Step::FailedStart => self.fail_start(),
+            Step::Begin(early) => self.begin(early),
+            Step::Stop(id, granted) => self.stop(id) == granted,
+            Step::Turn(slot, found) => slot < SLOTS as u32 && self.turn(slot) == found,
+            Step::WritersEnd => {
+                self.registry.end_writers(2);
+                true
+            }
+        }
     }
 }
 
-fn tell<P: Kinds<u32, u32, u64, u32>>(
-    alloc: Global,
-    ended: Ended<P, u32, u32, u64, u32>,
-    run: (bool, u32, u32),
-) -> Result<Told, AllocError> {
-    let mut left = Vec::new(alloc);
-    for place in ended.over {
+// Whether what came of each step is what it says.
+fn play<B: Named, S: Named, R: Named>(run: &mut Run<B, S, R>, steps: &[Step]) -> bool
+    requires { (run.old.server.decisions ≡ []) × (run.old.server.left ≡ false) }
+{
+    let mut agrees = true;
+    let mut count = 0;
+    for step in steps {
+        if count == CONNECTIONS {
+            return false;
+        }
+        count += 1;
+        agrees = run.make(*step) && agrees;
+    }
+    agrees
+}
+
+// Whether this is left of the sessions.
+fn are_left(
+    over: Vec<Option<Finished<ByNumber, u32, u32, u64, u32>>>,
+    left: &[(u64, u64)],
+) -> bool {
+    let mut left = left.iter().copied();
+    let mut agrees = true;
+    for place in over {
         if let Some(finished) = place {
             let (hold, end) = finished.open();
-            left.push((hold.id, end))?;
+            agrees = left.next() == Some((hold.id, end)) && agrees;
         }
     }
-    Ok(Told {
-        agrees: run.0,
-        early: run.1,
-        late: run.2,
-        decisions: ended.decisions.as_slice().to_vec(alloc)?,
-        sessions: ended.sessions.as_slice().to_vec(alloc)?,
-        left,
-        gone: ended.gone,
-    })
+    agrees && left.next().is_none()
 }
 
 fn leave<B: Named, S: Named, R: Named>(
@@ -181,15 +226,15 @@ fn leave<B: Named, S: Named, R: Named>(
     role
 }
 
-fn two<R: Named>(alloc: Global, first: Role<R>, second: Role<R>) -> Result<Vec<Role<R>>, AllocError>
+fn two<R: Named>(rt: &(impl Abort + AllocGlobal), first: Role<R>, second: Role<R>) -> Vec<Role<R>>
     requires first { first ≡ record { number = 0; roles = 2; left = true } }
     requires second { second ≡ record { number = 1; roles = 2; left = true } }
-    ensures { IfOk result (λ roles. AreLeft roles.items) }
+    ensures { AreLeft result.items }
 {
-    let mut roles = Vec::new(alloc);
-    roles.push(first)?;
-    roles.push(second)?;
-    Ok(roles)
+    let mut roles = Vec::with_capacity(rt.alloc(), 2).expect(rt, "room for two roles");
+    roles.push_reserved(first);
+    roles.push_reserved(second);
+    roles
 }
 
 fn two_roles<R: Named>(halves: Vec<Right<R, Mark>>) -> (Role<R>, Role<R>)
@@ -214,25 +259,15 @@ fn numbers(alloc: Global) -> Result<Vec<u32>, AllocError>
     Ok(free)
 }
 
-fn whole<B: Named, S: Named, R: Named>(
+// All roles end behind the server. Gives what the registry leaves, and how many sessions were opened early and late.
+fn close<B: Named, S: Named, R: Named>(
     rt: &(impl Abort + AllocGlobal),
-    sets: Sets,
-) -> Result<Told, AllocError>
-    requires named { (sets.book.ties ≡ B.ties) × (sets.holds.ties ≡ S.ties) × (sets.marks.ties ≡ R.ties) }
-    requires room { (sets.book.places ≡ 1) × (sets.holds.places ≡ CONNECTIONS)
-        × (sets.marks.places ≡ SLOTS + 1) }
+    run: Run<B, S, R>,
+    halves: Vec<Right<R, Mark>>,
+) -> (Ended<ByNumber, u32, u32, u64, u32>, u32, u32)
+    requires { halves.items ≡ numbered SLOTS (mark.Role 2 false) }
 {
-    let alloc = rt.alloc();
-    let free = numbers(alloc)?;
-    let opening = Registry::<B, S, R, ByNumber, u32, u32, u64, u32>::new(
-        alloc, sets.book, sets.holds, sets.marks, 2, free,
-    )?;
-    let mut run = Run {
-        registry: opening.registry,
-        server: opening.server,
-    };
-    let agrees = run.play();
-    let (first, second) = two_roles(opening.roles);
+    let (first, second) = two_roles(halves);
     let Run {
         mut registry,
         mut server,
@@ -240,15 +275,47 @@ fn whole<B: Named, S: Named, R: Named>(
     registry.close(&mut server);
     let first = leave(rt, &mut registry, first);
     let second = leave(rt, &mut registry, second);
-    let roles = two(alloc, first, second)?;
-    let ended = registry.finish(&mut server, roles);
-    tell(alloc, ended, (agrees, server.early(), server.late()))
+    let ended = registry.finish(&mut server, two(rt, first, second));
+    (ended, server.early(), server.late())
 }
 
-// What a registry tells at the end of its history.
-fn history(rt: &(impl Abort + AllocGlobal)) -> Result<Told, AllocError> {
-    let sets = Sets::new(rt.alloc())?;
-    whole::<Brand, Brand, Brand>(rt, sets)
+fn whole<B: Named, S: Named, R: Named>(
+    rt: &(impl Abort + AllocGlobal),
+    sets: Sets,
+    steps: &[Step],
+) -> (bool, Ended<ByNumber, u32, u32, u64, u32>, u32, u32)
+    requires named { (sets.book.ties ≡ B.ties) × (sets.holds.ties ≡ S.ties) × (sets.marks.ties ≡ R.ties) }
+    requires room { (sets.book.places ≡ 1) × (sets.holds.places ≡ CONNECTIONS)
+        × (sets.marks.places ≡ SLOTS + 1) }
+{
+    let alloc = rt.alloc();
+    let free = numbers(alloc).expect(rt, "the slots");
+    let Sets { book, holds, marks } = sets;
+    let opening = Registry::<B, S, R, ByNumber, u32, u32, u64, u32>::new(
+        alloc, book, holds, marks, 2, free,
+    ).expect(rt, "a registry");
+    let mut run = Run {
+        registry: opening.registry,
+        server: opening.server,
+    };
+    let agrees = play(&mut run, steps);
+    let (ended, early, late) = close(rt, run, opening.roles);
+    (agrees, ended, early, late)
+}
+
+// What a registry tells at the end of its history, against what it is to tell.
+fn history(rt: &(impl Abort + AllocGlobal), steps: &[Step], wanted: &Wanted<'_>) -> Told {
+    let sets = Sets::new(rt);
+    let (agrees, ended, early, late) = whole::<Brand, Brand, Brand>(rt, sets, steps);
+    Told {
+        agrees,
+        early,
+        late,
+        decisions: ended.decisions.as_slice() == wanted.decisions,
+        sessions: ended.sessions.as_slice() == wanted.sessions,
+        gone: ended.gone,
+        left: are_left(ended.over, wanted.left),
+    }
 }
 
 fn entry(
@@ -270,8 +337,19 @@ fn entry(
 }
 
 #[test]
-fn each_call_is_told_in_the_end(rt: HostRuntime) -> Result<(), Fail> {
-    let told = history(&rt)?;
+fn each_call_is_told_in_the_end(rt: HostRuntime) {
+    let stopped = Fate::Requested { conn: 4 };
+    let steps = [
+        Step::FailedStart,
+        Step::Begin(true),
+        Step::Begin(false),
+        Step::Stop(3, true),
+        Step::Stop(9, false),
+        Step::Turn(1, Some(stopped)),
+        Step::Turn(0, None),
+        Step::WritersEnd,
+        Step::Turn(0, Some(Fate::ProgramEnd)),
+    ];
     let decisions = [
         Decision::Nothing,
         Decision::Accepted { id: 2 },
@@ -279,15 +357,24 @@ fn each_call_is_told_in_the_end(rt: HostRuntime) -> Result<(), Fail> {
         Decision::Ticket { id: 3 },
         Decision::Refused { id: 9 },
     ];
-    assert!(rt; told.agrees && told.early == 1 && told.late == 1);
-    assert!(rt; told.decisions.as_slice() == decisions.as_slice());
-    let stopped = Fate::Requested { conn: 4 };
     let sessions = [
         entry(1, 0, None, Stage::Failed, Opened::No, 1),
         entry(2, 0, None, Stage::Over(Fate::ProgramEnd), Opened::Early, 5),
         entry(3, 1, Some(4), Stage::Over(stopped), Opened::Late, 3),
     ];
-    assert!(rt; told.sessions.as_slice() == sessions.as_slice());
-    assert!(rt; told.left.as_slice() == [(2, 2), (3, 3)].as_slice() && told.gone == Some(2));
-    Ok(())
+    let wanted = Wanted {
+        decisions: &decisions,
+        sessions: &sessions,
+        left: &[(2, 2), (3, 3)],
+    };
+    let told = Told {
+        agrees: true,
+        early: 1,
+        late: 1,
+        decisions: true,
+        sessions: true,
+        left: true,
+        gone: Some(2),
+    };
+    assert!(rt; history(&rt, &steps, &wanted) == told);
 }
