@@ -17,6 +17,3 @@ mod read;
 
 pub use fault::{AutoFault, AutoKind};
 pub use read::{a_text_is_good_or_bad, read_auto};
-
-#[cfg(test)]
-mod tests;

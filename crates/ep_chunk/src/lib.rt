@@ -21,6 +21,3 @@ pub use chain::Chain;
 pub use chunk::Chunk;
 pub use limits::{CHUNK_LEN, FRAME_LEN, HEAD_LEN};
 pub use rec::{RecIn, RecOut};
-
-#[cfg(test)]
-mod tests;

@@ -3,10 +3,12 @@ ghost use Rattle.ep_defs.specs.Event.{is_valid_event};
 ghost use Rattle.ep_core.specs.Machine.{steps_of};
 
 use ep_core::{Machine, StepFault};
-use ep_defs::{Config, EventDef, Items, Rule, Units, Write, standard_info};
+use ep_defs::{Config, EventDef, Items, Marks, Rule, Units, Write, standard_info};
 use ep_model::{Kind, Step};
 use std::alloc::{AllocError, Global};
 use std::test::Fail;
+
+mod table;
 
 fn text(alloc: Global, unit: u16) -> Result<Units, AllocError>
     ensures { IfOk result (λ text. text ≡ unit ∷ []) }
@@ -111,39 +113,69 @@ fn one_write(alloc: Global) -> Result<Vec<Step>, AllocError> {
 const STREAM: &[u8] =
     b"Nettrace\x14\0\0\0!FastSerialization.1\x05\x05\x01\x04\0\0\0\x04\0\0\0\x05\0\0\0Trace\x06\xb2\x07\x01\0\x04\0\x01\0\0\0\0\0\0\0\0\0\0\0\0\0\0\0\0\0\0\xca\x9a\x3b\0\0\0\0\x08\0\0\0\x01\0\0\0\x01\0\0\0\0\0\0\0\x06\x05\x05\x01\x02\0\0\0\x02\0\0\0\x0d\0\0\0MetadataBlock\x06\x3b\0\0\0\0\x14\0\x01\0\0\0\0\0\0\0\0\0\0\0\0\0\0\0\0\0\xc0\0\x24\x01\0\0\0P\0\0\0\x01\0\0\0E\0\0\0\x01\0\0\0\0\0\0\0\0\0\0\0\x04\0\0\0\0\0\0\0\x06\x05\x05\x01\x02\0\0\0\x02\0\0\0\x0a\0\0\0EventBlock\x06\x1b\0\0\0\0\0\x14\0\x01\0\x64\0\0\0\0\0\0\0\x64\0\0\0\0\0\0\0\x07\x01\0\x01\0\x01\x64\x06\x05\x05\x01\x02\0\0\0\x02\0\0\0\x07\0\0\0SPBlock\x06\x18\0\0\0\0\xc8\0\0\0\0\0\0\0\x01\0\0\0\x01\0\0\0\0\0\0\0\x01\0\0\0\x06\x01";
 
+// What it had of its one thread.
+const MARKS: &[Marks] = &[Marks {
+    thread: 1,
+    from: 0,
+    to: 1,
+    taken: 1,
+    refused: 0,
+}];
+
+// That it was made, or which step can't be made, and why; or nothing where memory is missing.
+fn answer(made: Result<(), StepFault>) -> Option<Result<(), (u64, Kind)>> {
+    match made {
+        Ok(()) => Some(Ok(())),
+        Err(StepFault::Unlawful(why)) => Some(Err((why.step, why.kind))),
+        Err(StepFault::OutOfMemory) => None,
+    }
+}
+
+// A machine that made one run.
+fn one_run(alloc: Global) -> Result<(Option<Result<(), (u64, Kind)>>, Machine), AllocError> {
+    let steps = one_write(alloc)?;
+    let mut machine = machine(alloc)?;
+    let made = answer(machine.run(alloc, steps));
+    Ok((made, machine))
+}
+
+// A machine which a thread leaves that never came, and then one that did; and which makes the run twice.
+fn two_runs(alloc: Global) -> Result<([Option<Result<(), (u64, Kind)>>; 4], Machine), AllocError> {
+    let steps = one_write(alloc)?;
+    let again = one_write(alloc)?;
+    let mut machine = machine(alloc)?;
+    let made = [
+        answer(machine.step(alloc, Step::Leave { thread: 257 })),
+        answer(machine.step(alloc, Step::Leave { thread: 2 })),
+        answer(machine.run(alloc, steps)),
+        answer(machine.run(alloc, again)),
+    ];
+    Ok((made, machine))
+}
+
 #[test]
 fn a_run_leaves_a_stream_and_marks(rt: HostRuntime) -> Result<(), Fail> {
-    let alloc = rt.alloc();
-    let mut machine = machine(alloc)?;
-    let steps = one_write(alloc)?;
-    assert!(rt; machine.run(alloc, steps).is_ok());
-    assert_eq!(rt; machine.stream(1), Some(STREAM));
-    assert_eq!(rt; machine.stream(2), None);
-    let Some([mark]) = machine.marks(1) else {
-        return Err(Fail::new("not the marks of one thread"));
-    };
+    let (made, machine) = one_run(rt.alloc())?;
     assert_eq!(rt;
-        (mark.thread, mark.from, mark.to, mark.taken, mark.refused),
-        (1, 0, 1, 1, 0)
+        (
+            made,
+            [machine.stream(1), machine.stream(2)],
+            [machine.marks(1), machine.marks(2)],
+        ),
+        (Some(Ok(())), [Some(STREAM), None], [Some(MARKS), None],)
     );
-    assert!(rt; machine.marks(2).is_none());
     Ok(())
 }
 
 #[test]
 fn a_refused_step_changes_nothing(rt: HostRuntime) -> Result<(), Fail> {
-    let alloc = rt.alloc();
-    let mut machine = machine(alloc)?;
-    let Err(StepFault::Unlawful(why)) = machine.step(alloc, Step::Leave { thread: 257 }) else {
-        return Err(Fail::new("a thread left that never came"));
-    };
-    assert_eq!(rt; (why.step, why.kind), (1, Kind::NoThread));
-    assert!(rt; machine.step(alloc, Step::Leave { thread: 2 }).is_ok());
-    assert!(rt; machine.run(alloc, one_write(alloc)?).is_ok());
-    let Err(StepFault::Unlawful(why)) = machine.run(alloc, one_write(alloc)?) else {
-        return Err(Fail::new("a session was accepted twice"));
-    };
-    assert_eq!(rt; (why.step, why.kind), (11, Kind::SessionNumber));
-    assert_eq!(rt; machine.stream(1), Some(STREAM));
+    let (made, machine) = two_runs(rt.alloc())?;
+    let wanted = [
+        Some(Err((1, Kind::NoThread))),
+        Some(Ok(())),
+        Some(Ok(())),
+        Some(Err((11, Kind::SessionNumber))),
+    ];
+    assert_eq!(rt; (made, machine.stream(1)), (wanted, Some(STREAM)));
     Ok(())
 }

@@ -26,6 +26,3 @@ pub use session::{
     CLOCK_FREQUENCY, Config, Facts, MarkList, Marks, POINTER_BYTES, Rule, RuleList, TraceInfo,
     Write, admits, standard_info,
 };
-
-#[cfg(test)]
-mod tests;

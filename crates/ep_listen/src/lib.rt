@@ -19,6 +19,3 @@ mod listener;
 pub use heard::{Callback, Heard};
 pub use laws::{a_batch_is_heard, all_is_heard_but_what_is_missing, nothing_is_heard_at_first};
 pub use listener::{ListenEnd, Listener};
-
-#[cfg(test)]
-mod tests;

@@ -5,4 +5,3 @@ pub mod Columns
 pub mod Batches
 pub mod Standing
 pub mod Answering
-pub mod Testing

@@ -4,5 +4,4 @@ pub mod Free
 pub mod Stands
 pub mod RowSet
 pub mod Outside
-pub mod Tests
 pub mod Written

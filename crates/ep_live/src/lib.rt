@@ -34,6 +34,3 @@ pub use live_rows::{LiveRows, same_tests_have_the_same_lives, same_tests_have_th
 pub use parked::Parked;
 pub use stands::Stands;
 pub use written::Written;
-
-#[cfg(test)]
-mod tests;

@@ -20,6 +20,3 @@ mod steps;
 pub use held::Held;
 pub use locks::Locks;
 pub use steps::Guards;
-
-#[cfg(test)]
-mod tests;

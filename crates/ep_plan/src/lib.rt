@@ -24,6 +24,3 @@ mod words;
 pub use line::{Line, LineFault, LineKind, a_line_means_one_thing, read_line};
 pub use print::print_step;
 pub use words::{hexadecimal, number, provider, rule};
-
-#[cfg(test)]
-mod tests;

@@ -18,6 +18,3 @@ pub(crate) use numbers::{put_hexadecimal, put_number};
 pub(crate) use rules::put_rule;
 pub use rules::rule;
 pub(crate) use split::first_part;
-
-#[cfg(test)]
-mod tests;

@@ -24,6 +24,3 @@ pub use own_pool::OwnPool;
 pub use pool::Pool;
 pub use purse::Purse;
 pub use seat::{PoolSeat, Seated};
-
-#[cfg(test)]
-mod tests;

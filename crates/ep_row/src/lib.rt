@@ -15,6 +15,3 @@ mod bits;
 mod row;
 
 pub use row::{Opening, Row};
-
-#[cfg(test)]
-mod tests;

@@ -19,9 +19,6 @@ use std::alloc::{AllocError, Global};
 use std::marker::Model;
 use std::sync::Wait;
 
-#[cfg(test)]
-mod tests;
-
 /// Values of one type, each at an index of its own. Contracts see which shelf it is.
 #[derive(Drop)]
 pub struct Shelf<T> {

@@ -18,6 +18,3 @@ mod slot;
 pub use hand::Hand;
 pub use shown::{Batch, Counts, Shown};
 pub use slot::{Slot, pair};
-
-#[cfg(test)]
-mod tests;

@@ -6,5 +6,3 @@ pub mod Taking
 pub mod Sweep
 pub mod Staying
 pub mod Refused
-pub mod Listed
-pub mod OneEvent

@@ -7,4 +7,3 @@ pub mod Opened
 pub mod Fates
 pub mod Session
 pub mod Sweep
-pub mod OneSlot

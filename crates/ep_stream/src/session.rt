@@ -29,9 +29,6 @@ use nt_write::{Fault, TraceWriter};
 use pt_io::Sink;
 use std::alloc::{AllocError, Global};
 
-#[cfg(test)]
-mod tests;
-
 /// Where a session was accepted.
 #[derive(Clone, Copy, Debug, PartialEq, Eq)]
 pub struct Seat {

@@ -14,6 +14,3 @@ pub mod limits;
 mod table;
 
 pub use table::{Accepted, Seat, StopAnswer, StopTicket, Table};
-
-#[cfg(test)]
-mod tests;

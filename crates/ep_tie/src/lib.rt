@@ -21,6 +21,3 @@ mod steps;
 pub use ends::{Left, Right};
 pub use maker::{Blank, Maker, Ties};
 pub use named::Named;
-
-#[cfg(test)]
-mod tests;

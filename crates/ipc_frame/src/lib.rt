@@ -14,6 +14,3 @@ mod frame;
 pub mod limits;
 
 pub use frame::{Framed, has_magic, header, put_message, size_in, take_message};
-
-#[cfg(test)]
-mod tests;

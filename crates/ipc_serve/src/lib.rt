@@ -19,6 +19,3 @@ mod replies;
 pub use asks::{a_decision_is_made_in_two_steps, asked};
 pub use decision::{Action, answer, decide};
 pub use replies::{ERROR_BYTES, SESSION_BYTES, error_reply, info_reply, session_reply};
-
-#[cfg(test)]
-mod tests;

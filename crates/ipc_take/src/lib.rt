@@ -15,8 +15,6 @@
 mod lack;
 mod message;
 mod pieces;
-#[cfg(test)]
-mod tests;
 
 pub use lack::Lack;
 pub use message::receive;

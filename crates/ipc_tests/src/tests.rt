@@ -1,3 +1,7 @@
-//! The messages, and the calls.
+//! The messages, the calls, what a server answers, and what a program says of itself.
+mod answers;
 mod body;
 mod call;
+mod frames;
+mod program;
+mod takes;

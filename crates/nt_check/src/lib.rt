@@ -16,8 +16,6 @@ mod by_id;
 mod checker;
 mod ids;
 mod limits;
-#[cfg(test)]
-mod tests;
 mod threads;
 
 pub use by_id::ById;

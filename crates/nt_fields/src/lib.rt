@@ -11,8 +11,6 @@
 
 mod kind;
 mod take;
-#[cfg(test)]
-mod tests;
 mod value;
 
 pub use kind::{FieldKind, Size};

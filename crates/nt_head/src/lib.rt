@@ -17,8 +17,6 @@ mod laws;
 pub mod limits;
 mod put;
 mod take;
-#[cfg(test)]
-mod tests;
 
 pub use head::{HeadState, state_fits};
 pub use laws::{no_form_begins_another, what_is_put_is_taken, what_is_taken_is_a_form};

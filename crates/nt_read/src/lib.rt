@@ -15,8 +15,6 @@ mod judge;
 pub mod limits;
 mod reader;
 mod stage;
-#[cfg(test)]
-mod tests;
 
 pub use fault::{ReadFault, ReadKind};
 pub use reader::TraceReader;

@@ -14,8 +14,6 @@ mod interner;
 mod limits;
 mod recent;
 mod table;
-#[cfg(test)]
-mod tests;
 
 pub use interner::{Interned, Interner};
 pub use limits::MOST_STACKS;

@@ -141,10 +141,4 @@ impl Stacks {
         self.fresh.clear();
         self.size = STACKS_BYTES;
     }
-
-    // As many events had a stack as can.
-    #[cfg(test)]
-    pub(crate) fn spend(&mut self) {
-        self.framed = FRAMED_EVENTS;
-    }
 }

@@ -532,6 +532,3 @@ fn event_head(id: u32, stack: u32, out: &EventOut) -> HeadState
         size: out.payload.len() as u32,
     }
 }
-
-#[cfg(test)]
-mod tests;

@@ -18,6 +18,3 @@ mod words;
 
 pub use calling::{Called, client};
 pub use words::{Command, Target, command_of};
-
-#[cfg(test)]
-mod tests;

@@ -22,8 +22,6 @@ mod run;
 mod session;
 mod stage;
 mod summary;
-#[cfg(test)]
-mod tests;
 mod walk;
 mod words;
 

@@ -6,6 +6,7 @@ mod moments;
 mod peers;
 mod scene;
 mod stops;
+mod stream;
 mod text;
 mod watched;
 mod whole;

@@ -21,8 +21,6 @@ mod mem_sink;
 mod mem_source;
 mod sink;
 mod source;
-#[cfg(test)]
-mod tests;
 
 pub use caller::Caller;
 pub use clock::{Clock, Gate, Moment, OpenGate, StepClock};

@@ -16,8 +16,6 @@ mod lent;
 mod run;
 mod session;
 mod streaming;
-#[cfg(test)]
-mod tests;
 mod threads;
 mod trace;
 mod writers;

@@ -19,6 +19,3 @@ mod plan;
 pub use draft::{Draft, event_at, nth_write};
 pub use events::{JOBS, STORE, STORE_OPENED, WEB, sample_events, units};
 pub use plan::Plan;
-
-#[cfg(test)]
-mod tests;

@@ -23,6 +23,3 @@ pub use laws::{
 };
 pub use text::{TakenText, put_counted, put_utf16z, take_counted, take_utf16z};
 pub use varuint::{Taken, push_var32, push_var64, put_var32, put_var64, take_var32, take_var64};
-
-#[cfg(test)]
-mod tests;

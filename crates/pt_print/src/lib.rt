@@ -14,9 +14,6 @@ ghost use Rattle.pt_print.specs.Printed as units;
 
 use std::alloc::AllocError;
 
-#[cfg(test)]
-mod tests;
-
 /// How many places a number fills at least.
 pub const PLACES: usize = 10;
 

@@ -17,8 +17,6 @@ mod command;
 mod errors;
 pub mod laws;
 mod schedule;
-#[cfg(test)]
-mod tests;
 mod text;
 
 pub use command::replay;

@@ -26,8 +26,6 @@ mod reading;
 mod report;
 mod stacks;
 mod tally;
-#[cfg(test)]
-mod tests;
 
 pub use command::write_report;
 pub use errors::{Flaw, Refusal};

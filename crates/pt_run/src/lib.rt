@@ -15,8 +15,6 @@ mod command;
 pub mod limits;
 mod plan;
 mod summary;
-#[cfg(test)]
-mod tests;
 mod words;
 
 pub use command::{Ran, run};

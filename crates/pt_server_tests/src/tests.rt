@@ -17,7 +17,7 @@ use ipc_serve::codes::{OUT_OF_MEMORY, REFUSED};
 use ipc_serve::session_reply;
 use nt_write::Fault;
 use pt_io::{Failed, Link, MemLink, MemSink, MemSource, OpenGate, Sink};
-use pt_server::{Asked, ConnAnswer, Desk, Process, Served, Unstarted};
+use pt_server::{Asked, ConnAnswer, ConnEnd, Desk, Process, Served, Unstarted};
 use std::alloc::{AllocError, Global};
 use std::marker::Brand;
 use std::test::Fail;
@@ -84,10 +84,8 @@ pub fn sound_peer(bytes: &[u8], most: usize) -> Peer<'_> {
 /// What came of all connections.
 #[derive(Drop)]
 pub struct Told {
-    /// How each connection ended that is no session, by its number.
-    pub answers: Vec<(u32, ConnAnswer)>,
-    /// What the link of each of these took.
-    pub replies: Vec<Vec<u8>>,
+    /// The number of each connection that is no session, how it ended, and what its link took.
+    pub ends: Vec<(u32, ConnAnswer, Vec<u8>)>,
     pub decisions: Vec<Decision>,
     /// The id, the slot and the chunks of each session that began.
     pub begun: Vec<(u64, u32, u32)>,
@@ -132,6 +130,53 @@ fn unstarted<N: Process, L: Link>(config: &Config, link: L, id: u64, cut: bool) 
     }
 }
 
+// The next connection, where one is left. A session that begins is noted.
+fn connect<N: Process>(
+    desk: &mut Desk<N, (), (), Book, MemLink>,
+    alloc: Global,
+    facts: &Facts,
+    peer: &Peer<'_>,
+    sessions: &mut Vec<(u64, u32, u32)>,
+) -> Result<(), AllocError>
+    requires facts { facts.now ≡ N.facts }
+    requires valid { IsTrue (is_valid_facts facts.now) }
+    requires greeting { N.greeting ≡ [] }
+{
+    if desk.decider.journal.decided() as usize >= CONNECTIONS {
+        return Ok(());
+    }
+    let link = link_of(alloc, peer)?;
+    let Some(asked) = desk.answer(alloc, facts, &OpenGate, link) else {
+        return Ok(());
+    };
+    let Asked {
+        begun,
+        config,
+        link,
+        ..
+    } = asked;
+    if peer.start == Start::Well {
+        sessions.push((begun.id, begun.slot, config.chunks))?;
+        return Ok(());
+    }
+    let cut = peer.start == Start::Cut;
+    let (link, why) = unstarted::<N, MemLink>(&config, link, begun.id, cut);
+    desk.fail(&OpenGate, begun, link, why);
+    Ok(())
+}
+
+// How these connections ended, and what their links took.
+fn ends_of(
+    alloc: Global,
+    conns: &[ConnEnd<MemLink>],
+) -> Result<Vec<(u32, ConnAnswer, Vec<u8>)>, AllocError> {
+    let mut ends = Vec::new(alloc);
+    for end in conns {
+        ends.push((end.conn, end.answer, end.link.taken().to_vec(alloc)?))?;
+    }
+    Ok(ends)
+}
+
 fn serve_all<N: Process>(
     alloc: Global,
     facts: &Facts,
@@ -145,37 +190,11 @@ fn serve_all<N: Process>(
     let mut desk = Desk::<N, (), (), Book, MemLink>::new(alloc, Book { journal })?;
     let mut begun = Vec::new(alloc);
     for peer in peers {
-        let link = link_of(alloc, peer)?;
-        if desk.decider.journal.decided() as usize >= CONNECTIONS {
-            break;
-        }
-        if let Some(asked) = desk.answer(alloc, facts, &OpenGate, link) {
-            let Asked {
-                begun: session,
-                config,
-                link,
-                ..
-            } = asked;
-            let id = session.id;
-            if peer.start == Start::Well {
-                begun.push((id, session.slot, config.chunks))?;
-            } else {
-                let cut = peer.start == Start::Cut;
-                let (link, why) = unstarted::<N, MemLink>(&config, link, id, cut);
-                desk.fail(&OpenGate, session, link, why);
-            }
-        }
+        connect::<N>(&mut desk, alloc, facts, peer, &mut begun)?;
     }
     let (decider, conns) = desk.finish();
-    let mut answers = Vec::new(alloc);
-    let mut replies = Vec::new(alloc);
-    for end in &conns {
-        answers.push((end.conn, end.answer))?;
-        replies.push(end.link.taken().to_vec(alloc)?)?;
-    }
     Ok(Told {
-        answers,
-        replies,
+        ends: ends_of(alloc, &conns)?,
         decisions: decider.journal.decisions().as_slice().to_vec(alloc)?,
         begun,
         held: decider.journal.held(),
@@ -198,21 +217,27 @@ pub fn serve(alloc: Global, peers: &[Peer<'_>]) -> Result<Told, AllocError> {
     serve_all::<Brand>(alloc, &facts, peers)
 }
 
-// Whether the connection that ended at this place of those that are no sessions had this number, answer and reply.
-fn is(told: &Told, place: usize, conn: u32, answer: ConnAnswer, reply: &[u8]) -> bool {
-    let answered = told.answers.get(place).copied() == Some((conn, answer));
-    let replied = match told.replies.get(place) {
-        Some(taken) => taken.as_slice() == reply,
-        None => false,
-    };
-    answered && replied
+// Whether these connections ended so, with these replies.
+fn are(ends: &[(u32, ConnAnswer, Vec<u8>)], wanted: &[(u32, ConnAnswer, &[u8])]) -> bool {
+    let mut agree = ends.len() == wanted.len();
+    for ((conn, answer, taken), want) in ends.iter().zip(wanted) {
+        agree = agree & ((*conn, *answer, taken.as_slice()) == *want);
+    }
+    agree
 }
+
+const ERROR: ConnAnswer = ConnAnswer::Error { code: REFUSED };
 
 #[test]
 fn a_process_describes_itself_and_sessions_begin_and_stop_once(
     rt: HostRuntime,
 ) -> Result<(), Fail> {
-    let alloc = rt.alloc();
+    let ends: [(u32, ConnAnswer, &[u8]); 4] = [
+        (1, ConnAnswer::Info, &DESCRIPTION),
+        (2, ERROR, &ERROR_REFUSED),
+        (4, ConnAnswer::Stopped { session: 1 }, &SESSION_1),
+        (5, ERROR, &ERROR_REFUSED),
+    ];
     for most in [65_536usize, 1] {
         let peers = [
             sound_peer(&INFO, most),
@@ -221,32 +246,42 @@ fn a_process_describes_itself_and_sessions_begin_and_stop_once(
             sound_peer(&STOP_1, most),
             sound_peer(&STOP_1, most),
         ];
-        let told = serve(alloc, &peers)?;
-        let refused = ConnAnswer::Error { code: REFUSED };
-        assert!(rt; is(&told, 0, 1, ConnAnswer::Info, &DESCRIPTION));
-        assert!(rt; is(&told, 1, 2, refused, &ERROR_REFUSED));
-        assert!(rt; is(&told, 2, 4, ConnAnswer::Stopped { session: 1 }, &SESSION_1));
-        assert!(rt; is(&told, 3, 5, refused, &ERROR_REFUSED));
-        assert_eq!(rt; (told.answers.len(), told.held), (4, 1));
-        assert!(rt; told.begun.as_slice() == [(1, 0, 4_096)].as_slice());
+        let told = serve(rt.alloc(), &peers)?;
+        assert_eq!(rt;
+            (are(&told.ends, &ends), told.begun.as_slice(), told.held),
+            (true, [(1, 0, 4_096)].as_slice(), 1)
+        );
     }
     Ok(())
 }
 
+// The number of a connection, how it ended, and whether its link took the error of a refusal.
+fn refusal(end: &(u32, ConnAnswer, Vec<u8>)) -> (u32, ConnAnswer, bool) {
+    (end.0, end.1, end.2.as_slice() == ERROR_REFUSED.as_slice())
+}
+
+// The same of the first and of the last connection.
+fn outer(ends: &[(u32, ConnAnswer, Vec<u8>)]) -> Option<[(u32, ConnAnswer, bool); 2]> {
+    Some([refusal(ends.first()?), refusal(ends.last()?)])
+}
+
 #[test]
 fn the_65th_session_is_refused_and_500_connections_are_taken(rt: HostRuntime) -> Result<(), Fail> {
-    let alloc = rt.alloc();
     for most in [65_536usize, 1] {
-        let peers = vec![in alloc; sound_peer(&COLLECT, most); 510]?;
-        let told = serve(alloc, &peers)?;
-        let refused = ConnAnswer::Error { code: REFUSED };
-        assert!(rt; is(&told, 0, 65, refused, &ERROR_REFUSED));
-        assert!(rt; is(&told, 435, 500, refused, &ERROR_REFUSED));
+        let peers = vec![in rt.alloc(); sound_peer(&COLLECT, most); 510]?;
+        let told = serve(rt.alloc(), &peers)?;
         assert_eq!(rt;
-            (told.begun.len(), told.answers.len(), told.decisions.len()),
-            (64, 436, 500)
+            (
+                outer(&told.ends),
+                [told.ends.len(), told.begun.len(), told.decisions.len()],
+                told.held,
+            ),
+            (
+                Some([(65, ERROR, true), (500, ERROR, true)]),
+                [436, 64, 500],
+                64,
+            )
         );
-        assert_eq!(rt; told.held, 64);
     }
     Ok(())
 }
@@ -299,8 +334,7 @@ fn faulty_peers() -> [Peer<'static>; 12] {
 
 #[test]
 fn each_fault_ends_its_own_connection(rt: HostRuntime) -> Result<(), Fail> {
-    let alloc = rt.alloc();
-    let told = serve(alloc, &faulty_peers())?;
+    let told = serve(rt.alloc(), &faulty_peers())?;
     let memory = ConnAnswer::Error {
         code: OUT_OF_MEMORY,
     };
@@ -315,20 +349,30 @@ fn each_fault_ends_its_own_connection(rt: HostRuntime) -> Result<(), Fail> {
         (8, memory, &SESSION_3),
         (9, ConnAnswer::WriteFault, &SESSION_3[..3]),
         (11, ConnAnswer::WriteFault, b""),
-        (12, ConnAnswer::Error { code: REFUSED }, &ERROR_REFUSED),
+        (12, ERROR, &ERROR_REFUSED),
     ];
-    for (place, (conn, answer, reply)) in ends.iter().enumerate() {
-        assert!(rt; is(&told, place, *conn, *answer, reply));
-    }
-    assert!(rt; told.begun.as_slice() == [(5, 0, 4_096)].as_slice());
-    assert_eq!(rt; (told.answers.len(), told.held), (11, 1));
-    let last = [
+    let decisions = [
+        Decision::Nothing,
+        Decision::Nothing,
+        Decision::Nothing,
+        Decision::Nothing,
+        Decision::Nothing,
+        Decision::Nothing,
+        Decision::Nothing,
+        Decision::Nothing,
         Decision::Nothing,
         Decision::Accepted { id: 5 },
         Decision::Ticket { id: 5 },
         Decision::Refused { id: 5 },
     ];
-    assert_eq!(rt; told.decisions.len(), 12);
-    assert!(rt; told.decisions[8..12] == last[..]);
+    assert_eq!(rt;
+        (
+            are(&told.ends, &ends),
+            told.begun.as_slice(),
+            told.decisions.as_slice(),
+            told.held,
+        ),
+        (true, [(5, 0, 4_096)].as_slice(), &decisions[..], 1)
+    );
     Ok(())
 }

@@ -8,4 +8,3 @@ pub mod Rows
 pub mod Keeping
 pub mod Ends
 pub mod Starts
-pub mod Testing

@@ -2,7 +2,5 @@
 pub mod Setting
 pub mod State
 pub mod End
--- what the tests say
-pub mod Tests
 -- what private fields say
 pub mod Kept

@@ -20,6 +20,3 @@ pub use place::Place;
 pub use run::Run;
 pub use start::{Accepted, NotStarted};
 pub use stream::Stream;
-
-#[cfg(test)]
-mod tests;

@@ -20,6 +20,3 @@ pub use positions::{Several, one_text, several_texts, two_texts};
 pub use run::{Run, run_texts};
 pub use session::session_text;
 pub use trace::{Trace, trace_texts};
-
-#[cfg(test)]
-mod tests;

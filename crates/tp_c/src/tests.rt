@@ -36,7 +36,7 @@ const FIELD_NAME: [u16; 5] = [105, 110, 100, 101, 120];
 // A call of C. An event is of a definition's number and a thread, with an index, which gives its stamp and its payload,
 // and has this many bytes of frames and of payload. A definition has an id, a type of its field and the units that are
 // said to be its name's.
-#[derive(Clone, Copy, Debug)]
+#[derive(Clone, Copy)]
 enum Call {
     Begin,
     Define(u32, u8, u32),
@@ -54,12 +54,17 @@ fn event(thread: u64, index: u64) -> Call {
 const DEFINE: Call = Call::Define(7, 12, 5);
 
 // What the calls answered, the last number of a definition, and what was pulled.
-#[derive(Debug, Drop)]
+#[derive(Drop)]
 struct Outcome {
     codes: Vec<u32>,
     number: u32,
     pulled: Vec<u8>,
 }
+
+// The most bytes of frames and of a pull here.
+const FRAMES_BYTES: usize = 808;
+
+const ROOM_BYTES: usize = 1000;
 
 // A payload of this many bytes, whose first are the index.
 fn payload_of(alloc: Global, index: u64, size: usize) -> Result<Vec<u8>, AllocError> {
@@ -77,7 +82,7 @@ fn write_event(
     index: u64,
     sizes: (usize, usize),
 ) -> Result<u32, AllocError> {
-    let frames = vec![in alloc; 1u8; sizes.0]?;
+    let frames = [1; FRAMES_BYTES];
     let payload = payload_of(alloc, index, sizes.1)?;
     let head = EventHead {
         thread,
@@ -86,7 +91,8 @@ fn write_event(
         related: [0; 16],
         event,
     };
-    Ok(tp_c_event(alloc, handle, &head, &frames, &payload))
+    let count = sizes.0.min(FRAMES_BYTES);
+    Ok(tp_c_event(alloc, handle, &head, &frames[..count], &payload))
 }
 
 fn define(
@@ -120,6 +126,17 @@ fn define(
     )
 }
 
+// Pulls into a room, or ends the stream into it, and tells how many bytes were given.
+fn give(alloc: Global, handle: &mut Handle, is_end: bool, room: &mut [u8]) -> (u32, usize) {
+    let mut count = 0;
+    let code = if is_end {
+        tp_c_end(alloc, handle, room, &mut count)
+    } else {
+        tp_c_pull(alloc, handle, room, &mut count)
+    };
+    (code, count)
+}
+
 // Takes what a call gave of a room of this many bytes.
 fn take_given(
     alloc: Global,
@@ -128,42 +145,54 @@ fn take_given(
     is_end: bool,
     pulled: &mut Vec<u8>,
 ) -> Result<u32, AllocError> {
-    let mut out = vec![in alloc; 0u8; room]?;
-    let mut count = 0;
-    let code = if is_end {
-        tp_c_end(alloc, handle, &mut out, &mut count)
-    } else {
-        tp_c_pull(alloc, handle, &mut out, &mut count)
-    };
-    pulled.extend_from_slice(out.get(..count).unwrap_or(&[]))?;
+    let mut out = [0; ROOM_BYTES];
+    let (code, count) = give(alloc, handle, is_end, &mut out[..room.min(ROOM_BYTES)]);
+    pulled.extend_from_slice(&out[..count.min(ROOM_BYTES)])?;
     Ok(code)
+}
+
+fn make(
+    alloc: Global,
+    handle: &mut Handle,
+    call: Call,
+    outcome: &mut Outcome,
+) -> Result<u32, AllocError> {
+    match call {
+        Call::Begin => Ok(tp_c_begin(alloc, handle, &INFO)),
+        Call::Define(id, code, units) => {
+            Ok(define(alloc, handle, id, code, units, &mut outcome.number))
+        }
+        Call::Event(event, thread, index, frames, payload) => {
+            write_event(alloc, handle, event, thread, index, (frames, payload))
+        }
+        Call::Point(stamp) => Ok(tp_c_point(alloc, handle, stamp)),
+        Call::Pull(room) => take_given(alloc, handle, room, false, &mut outcome.pulled),
+        Call::End(room) => take_given(alloc, handle, room, true, &mut outcome.pulled),
+    }
+}
+
+fn make_all(
+    alloc: Global,
+    handle: &mut Handle,
+    calls: &[Call],
+    outcome: &mut Outcome,
+) -> Result<(), AllocError> {
+    for call in calls {
+        let code = make(alloc, handle, *call, outcome)?;
+        outcome.codes.push(code)?;
+    }
+    Ok(())
 }
 
 fn run(alloc: Global, calls: &[Call]) -> Result<Outcome, AllocError> {
     let mut handle = Handle::new(alloc);
-    let mut codes = Vec::new(alloc);
-    let mut number = 0;
-    let mut pulled = Vec::new(alloc);
-    for call in calls {
-        let code = match *call {
-            Call::Begin => tp_c_begin(alloc, &mut handle, &INFO),
-            Call::Define(id, code, units) => {
-                define(alloc, &mut handle, id, code, units, &mut number)
-            }
-            Call::Event(event, thread, index, frames, payload) => {
-                write_event(alloc, &mut handle, event, thread, index, (frames, payload))?
-            }
-            Call::Point(stamp) => tp_c_point(alloc, &mut handle, stamp),
-            Call::Pull(room) => take_given(alloc, &mut handle, room, false, &mut pulled)?,
-            Call::End(room) => take_given(alloc, &mut handle, room, true, &mut pulled)?,
-        };
-        codes.push(code)?;
-    }
-    Ok(Outcome {
-        codes,
-        number,
-        pulled,
-    })
+    let mut outcome = Outcome {
+        codes: Vec::new(alloc),
+        number: 0,
+        pulled: Vec::new(alloc),
+    };
+    make_all(alloc, &mut handle, calls, &mut outcome)?;
+    Ok(outcome)
 }
 
 #[test]
@@ -177,9 +206,10 @@ fn a_stream_has_the_bytes_that_are_written_by_hand(rt: HostRuntime) -> Result<()
         Call::End(1000),
     ];
     let run = run(rt.alloc(), &calls)?;
-    assert_eq!(rt; run.codes.as_slice(), [0; 6].as_slice());
-    assert_eq!(rt; run.number, 1);
-    assert_eq!(rt; run.pulled.as_slice(), TWO_EVENTS);
+    assert_eq!(rt;
+        (run.codes.as_slice(), run.number, run.pulled.as_slice()),
+        ([0; 6].as_slice(), 1, TWO_EVENTS)
+    );
     Ok(())
 }
 
@@ -201,11 +231,11 @@ fn pieces_are_pulled_in_order(rt: HostRuntime) -> Result<(), AllocError> {
         Call::End(41),
     ];
     let run = run(rt.alloc(), &calls)?;
+    let answers = [0, 0, 0, 0, 0, 0, 0, 0, 0, 0, 13, 13, 0];
     assert_eq!(rt;
-        run.codes.as_slice(),
-        [0, 0, 0, 0, 0, 0, 0, 0, 0, 0, 13, 13, 0].as_slice()
+        (run.codes.as_slice(), run.pulled.as_slice()),
+        (answers.as_slice(), TWO_EVENTS)
     );
-    assert_eq!(rt; run.pulled.as_slice(), TWO_EVENTS);
     Ok(())
 }
 
@@ -278,10 +308,17 @@ fn what_is_refused_has_its_code_and_changes_nothing(rt: HostRuntime) -> Result<(
         codes::NOT_LIVE,
     ];
     let run = run(rt.alloc(), &calls)?;
-    assert_eq!(rt; run.codes.as_slice(), answers.as_slice());
-    assert_eq!(rt; run.number, 1);
-    assert_eq!(rt; run.pulled.as_slice(), TWO_EVENTS);
+    assert_eq!(rt;
+        (run.codes.as_slice(), run.number, run.pulled.as_slice()),
+        (answers.as_slice(), 1, TWO_EVENTS)
+    );
     Ok(())
+}
+
+// The last number of a definition.
+fn number_of(alloc: Global, calls: &[Call]) -> Result<u32, AllocError> {
+    let run = run(alloc, calls)?;
+    Ok(run.number)
 }
 
 #[test]
@@ -291,9 +328,7 @@ fn a_definition_that_differs_has_a_number_of_its_own(rt: HostRuntime) -> Result<
         ([Call::Begin, DEFINE, Call::Define(8, 12, 5)], 2),
         ([Call::Begin, DEFINE, Call::Define(7, 11, 5)], 2),
     ] {
-        let mut run = run(rt.alloc(), &calls)?;
-        assert_eq!(rt; run.number, number);
-        run.pulled.clear();
+        assert_eq!(rt; number_of(rt.alloc(), &calls)?, number);
     }
     Ok(())
 }

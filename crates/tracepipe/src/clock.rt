@@ -61,6 +61,15 @@ mod tests {
         }
     }
 
+    // What a clock says once it was set by a system that says this.
+    fn said_by(since_1970: Option<Duration>) -> u64 {
+        let clock = SystemClock::new(Said {
+            seconds: AtomicU64::new(7),
+            since_1970,
+        });
+        clock.now()
+    }
+
     #[test]
     fn a_clock_goes_on_from_the_time_at_which_it_was_set(rt: HostRuntime) {
         let said = [
@@ -74,11 +83,7 @@ mod tests {
             (None, 8_000_000_003),
         ];
         for (since_1970, nanoseconds) in said {
-            let clock = SystemClock::new(Said {
-                seconds: AtomicU64::new(7),
-                since_1970,
-            });
-            assert_eq!(rt; clock.now(), nanoseconds);
+            assert_eq!(rt; said_by(since_1970), nanoseconds);
         }
     }
 }

@@ -20,6 +20,8 @@ mod facts;
 mod name;
 mod socket;
 mod standard;
+#[cfg(test)]
+mod tests;
 
 use arguments::words;
 use clock::SystemClock;

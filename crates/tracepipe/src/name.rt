@@ -51,6 +51,7 @@ fn start_in(stat: &str) -> Option<u64> {
 #[cfg(test)]
 mod tests {
     use super::{path_in, socket_path, start_in};
+    use std::alloc::AllocError;
     use std::{io, process};
 
     // What the system tells of a process, and its start there.
@@ -76,19 +77,31 @@ mod tests {
         }
     }
 
+    // The path in the folder that is named.
+    const PATHS: [(&str, &str); 2] = [
+        ("/var/tmp", "/var/tmp/dotnet-diagnostic-7-8561-socket"),
+        ("", "/tmp/dotnet-diagnostic-7-8561-socket"),
+    ];
+
     #[test]
-    fn the_name_has_the_processs_number_and_start(rt: HostRuntime) -> io::Result<()> {
-        let paths = [
-            ("/var/tmp", "/var/tmp/dotnet-diagnostic-7-8561-socket"),
-            ("", "/tmp/dotnet-diagnostic-7-8561-socket"),
-        ];
-        for (folder, path) in paths {
+    fn the_name_has_the_processs_number_and_start(rt: HostRuntime) -> Result<(), AllocError> {
+        for (folder, path) in PATHS {
             assert_eq!(rt; path_in(rt.alloc(), folder, 7, 8_561)?.as_str(), path);
         }
+        Ok(())
+    }
+
+    // Whether a path of this process is the name of its socket, but for the start.
+    fn is_named(rt: HostRuntime, path: &str, process: u32) -> Result<bool, AllocError> {
+        let part = format!(in rt.alloc(); "/dotnet-diagnostic-{process}-")?;
+        Ok(path.contains(part.as_str()) && path.ends_with("-socket"))
+    }
+
+    #[test]
+    fn this_process_has_a_name(rt: HostRuntime) -> io::Result<()> {
         let process = process::id(rt.process());
         let path = socket_path(&rt, process)?;
-        let part = format!(in rt.alloc(); "/dotnet-diagnostic-{process}-")?;
-        assert!(rt; path.contains(part.as_str()) && path.ends_with("-socket"));
+        assert!(rt; is_named(rt, path.as_str(), process)?);
         Ok(())
     }
 }

@@ -30,18 +30,26 @@ enum Step {
 }
 
 /// What a history tells in the end.
-#[derive(Clone, Copy, PartialEq, Eq)]
+#[derive(Drop)]
 struct Told {
     /// Whether what came of each step is what it says.
     agrees: bool,
     /// How many sessions each of two roles had before the end.
     serving: [u32; 2],
-    decisions: usize,
-    /// How many connections were refused, since all slots were held.
-    full: usize,
-    sessions: usize,
-    /// Whether the decisions and the sessions begin with those that were to be told.
-    begins: bool,
+    decisions: Log<Decision>,
+    sessions: Log<Entry>,
+}
+
+impl Told {
+    // Whether what came of each step is what it says, and whether this is what is told.
+    fn tells(&self, serving: [u32; 2], decisions: &[Decision], sessions: &[Entry]) -> [bool; 4] {
+        [
+            self.agrees,
+            self.serving == serving,
+            self.decisions.as_slice() == decisions,
+            self.sessions.as_slice() == sessions,
+        ]
+    }
 }
 
 /// A journal at work, with how many writers go on.
@@ -137,165 +145,154 @@ impl Run {
             Step::LinkFails(id) => self.end(id, Fate::LinkFault),
         }
     }
-}
 
-// Whether what came of each step is what it says.
-fn play(run: &mut Run, steps: &[Step]) -> bool {
-    let mut agrees = true;
-    for step in steps {
-        agrees = run.make(*step) && agrees;
+    // Whether what came of each step is what it says.
+    fn play(&mut self, steps: &[Step]) -> bool {
+        let mut agrees = true;
+        for step in steps {
+            agrees = self.make(*step) & agrees;
+        }
+        agrees
     }
-    agrees
-}
 
-// What was decided and what became of the sessions, once all writers and sessions have ended.
-fn end_all(rt: &impl Abort, run: Run) -> (Log<Decision>, Log<Entry>) {
-    let mut run = run;
-    run.journal.end_writers();
-    for id in 1..=CONNECTIONS as u64 {
-        let _fate = run.look(id);
+    // All writers and sessions end.
+    fn end_all(&mut self) {
+        self.journal.end_writers();
+        for id in 1..=CONNECTIONS as u64 {
+            let _fate = self.look(id);
+        }
     }
-    let held = run.journal.held();
-    assert!(rt; held == 0);
-    run.journal.finish()
 }
 
-// What a journal tells once these steps were made, and all writers and sessions have ended, against what it is to tell
-// first.
-fn history(
-    rt: &(impl Abort + AllocGlobal),
-    steps: &[Step],
-    decisions: &[Decision],
-    sessions: &[Entry],
-) -> Told {
+// What a journal tells once these steps were made, and all writers and sessions have ended.
+fn history(rt: &(impl Abort + AllocGlobal), steps: &[Step]) -> Told {
     let journal = Journal::new(rt.alloc()).expect(rt, "room for a journal");
     let mut run = Run {
         journal,
         writers: 2,
     };
-    let agrees = play(&mut run, steps);
+    let agrees = run.play(steps);
     let serving = [run.journal.serving(2, 0), run.journal.serving(2, 1)];
-    let (decided, kept) = end_all(rt, run);
-    let full = decided.as_slice().iter().filter(|d| **d == Decision::Full);
+    run.end_all();
+    let held = run.journal.held();
+    assert!(rt; held == 0);
+    let (decisions, sessions) = run.journal.finish();
     Told {
         agrees,
         serving,
-        decisions: decided.as_slice().len(),
-        full: full.count(),
-        sessions: kept.as_slice().len(),
-        begins: decided.as_slice().starts_with(decisions) && kept.as_slice().starts_with(sessions),
-    }
-}
-
-// What is told of a history whose steps all agree, and which no session outlives and no connection finds full.
-fn whole(decisions: usize, sessions: usize) -> Told {
-    Told {
-        agrees: true,
-        serving: [0, 0],
         decisions,
-        full: 0,
         sessions,
-        begins: true,
     }
 }
 
-fn over(conn: u32, slot: u32, fate: Fate, gone: u32) -> Entry {
-    Entry {
-        conn,
-        slot,
-        ticket: None,
-        stage: Stage::Over(fate),
-        opened: Opened::No,
-        gone: Some(gone),
-    }
-}
+const STOPPED: Fate = Fate::Requested { conn: 2 };
 
-#[test]
-fn a_stop_after_the_last_write_comes_before_the_programs_end(rt: HostRuntime) {
-    let fate = Fate::Requested { conn: 2 };
-    let steps = [
-        Step::Begin(true),
-        Step::WriterEnds,
-        Step::Look(1, None),
-        Step::WriterEnds,
-        Step::Stop(1, true),
-        Step::Stop(1, false),
-        Step::Look(1, Some(fate)),
-    ];
-    let decisions = [
-        Decision::Accepted { id: 1 },
-        Decision::Ticket { id: 1 },
-        Decision::Refused { id: 1 },
-    ];
-    let sessions = [Entry {
-        ticket: Some(2),
-        ..over(1, 0, fate, 1)
-    }];
-    assert!(rt; history(&rt, &steps, &decisions, &sessions) == whole(3, 1));
-}
-
-#[test]
-fn a_stop_after_the_last_write_comes_after_the_programs_end(rt: HostRuntime) {
-    let steps = [
-        Step::Begin(true),
-        Step::WriterEnds,
-        Step::WriterEnds,
-        Step::Look(1, Some(Fate::ProgramEnd)),
-        Step::Stop(1, false),
-    ];
-    let decisions = [Decision::Accepted { id: 1 }, Decision::Refused { id: 1 }];
-    let sessions = [over(1, 0, Fate::ProgramEnd, 1)];
-    assert!(rt; history(&rt, &steps, &decisions, &sessions) == whole(2, 1));
-}
+const LIVED: Entry = Entry {
+    conn: 1,
+    slot: 0,
+    ticket: None,
+    stage: Stage::Over(Fate::ProgramEnd),
+    opened: Opened::No,
+    gone: Some(1),
+};
 
 #[test]
 fn each_call_is_told_in_the_end(rt: HostRuntime) {
-    let steps = [
-        Step::FailedStart,
-        Step::Pass,
-        Step::Begin(true),
-        Step::Open(2, true),
-        Step::Begin(true),
-        Step::Open(3, false),
-        Step::LinkFails(3),
-        Step::Stop(3, false),
+    let cases: [(&[Step], [u32; 2], &[Decision], &[Entry]); 3] = [
+        // A stop after the last write comes before the program's end.
+        (
+            &[
+                Step::Begin(true),
+                Step::WriterEnds,
+                Step::Look(1, None),
+                Step::WriterEnds,
+                Step::Stop(1, true),
+                Step::Stop(1, false),
+                Step::Look(1, Some(STOPPED)),
+            ],
+            [0, 0],
+            &[
+                Decision::Accepted { id: 1 },
+                Decision::Ticket { id: 1 },
+                Decision::Refused { id: 1 },
+            ],
+            &[Entry {
+                ticket: Some(2),
+                stage: Stage::Over(STOPPED),
+                ..LIVED
+            }],
+        ),
+        // A stop after the last write comes after the program's end.
+        (
+            &[
+                Step::Begin(true),
+                Step::WriterEnds,
+                Step::WriterEnds,
+                Step::Look(1, Some(Fate::ProgramEnd)),
+                Step::Stop(1, false),
+            ],
+            [0, 0],
+            &[Decision::Accepted { id: 1 }, Decision::Refused { id: 1 }],
+            &[LIVED],
+        ),
+        // A start fails, one session is opened early, and the link of one that is opened late fails.
+        (
+            &[
+                Step::FailedStart,
+                Step::Pass,
+                Step::Begin(true),
+                Step::Open(2, true),
+                Step::Begin(true),
+                Step::Open(3, false),
+                Step::LinkFails(3),
+                Step::Stop(3, false),
+            ],
+            [1, 0],
+            &[
+                Decision::Nothing,
+                Decision::Nothing,
+                Decision::Accepted { id: 2 },
+                Decision::Accepted { id: 3 },
+                Decision::Refused { id: 3 },
+            ],
+            &[
+                Entry {
+                    stage: Stage::Failed,
+                    ..LIVED
+                },
+                Entry {
+                    conn: 3,
+                    opened: Opened::Early,
+                    gone: Some(5),
+                    ..LIVED
+                },
+                Entry {
+                    conn: 4,
+                    slot: 1,
+                    stage: Stage::Over(Fate::LinkFault),
+                    opened: Opened::Late,
+                    gone: Some(4),
+                    ..LIVED
+                },
+            ],
+        ),
     ];
-    let decisions = [
-        Decision::Nothing,
-        Decision::Nothing,
-        Decision::Accepted { id: 2 },
-        Decision::Accepted { id: 3 },
-        Decision::Refused { id: 3 },
-    ];
-    let sessions = [
-        Entry {
-            stage: Stage::Failed,
-            ..over(1, 0, Fate::ProgramEnd, 1)
-        },
-        Entry {
-            opened: Opened::Early,
-            ..over(3, 0, Fate::ProgramEnd, 5)
-        },
-        Entry {
-            opened: Opened::Late,
-            ..over(4, 1, Fate::LinkFault, 4)
-        },
-    ];
-    let wanted = Told {
-        serving: [1, 0],
-        ..whole(5, 3)
-    };
-    assert!(rt; history(&rt, &steps, &decisions, &sessions) == wanted);
+    for (steps, serving, decisions, sessions) in cases {
+        let told = history(&rt, steps);
+        assert_eq!(rt; told.tells(serving, decisions, sessions), [true; 4]);
+    }
 }
 
 #[test]
 fn the_65th_session_is_refused_and_all_500_connections_are_told(rt: HostRuntime) {
     let mut steps = [Step::Begin(false); 500];
     steps[..64].fill(Step::Begin(true));
-    let wanted = Told {
-        serving: [32, 32],
-        full: 436,
-        ..whole(500, 64)
-    };
-    assert!(rt; history(&rt, &steps, &[], &[]) == wanted);
+    let mut decisions = [Decision::Full; 500];
+    for (id, decision) in (1..=64).zip(&mut decisions) {
+        *decision = Decision::Accepted { id };
+    }
+    let told = history(&rt, &steps);
+    let sessions = told.sessions.as_slice();
+    assert_eq!(rt; sessions.len(), 64);
+    assert_eq!(rt; told.tells([32, 32], &decisions, sessions), [true; 4]);
 }

@@ -31,41 +31,18 @@ impl Kinds<u32, u32, u64, u32> for ByNumber {
     ghost gone = { λ writers. writers ≡ 2 };
 }
 
-/// A step of a history, with what is to come of it.
-#[derive(Clone, Copy)]
-enum Step {
-    /// The next connection asks for a session whose start fails.
-    FailedStart,
-    /// The next connection asks for a session, which is opened early or late and waits for its role.
-    Begin(bool),
-    /// The next connection asks for the end of this session, which is granted or not.
-    Stop(u64, bool),
-    /// The role of this slot looks at its session, and ends it as it finds.
-    Turn(u32, Option<Fate>),
-    /// All writers end.
-    WritersEnd,
-}
-
-/// What a history is to tell.
-#[derive(Clone, Copy)]
-struct Wanted<'a> {
-    decisions: &'a [Decision],
-    sessions: &'a [Entry],
-    /// The ids of the sessions that have ended, with what is left of each.
-    left: &'a [(u64, u64)],
-}
-
-/// What a history tells in the end, and whether it is what it was to tell.
-#[derive(Clone, Copy, PartialEq, Eq)]
+/// What came of the steps of a history, and what is left in the end.
+#[derive(Drop)]
 struct Told {
-    /// Whether what came of each step is what it says.
-    agrees: bool,
-    early: u32,
-    late: u32,
-    decisions: bool,
-    sessions: bool,
-    left: bool,
-    gone: Option<u32>,
+    /// Whether each connection that asked for a session had it.
+    begun: [bool; 3],
+    /// Whether each stop was granted.
+    stopped: [bool; 2],
+    /// How each session ended at which its role looked.
+    found: [Option<Fate>; 3],
+    /// How many sessions were opened early, and how many late.
+    opened: [u32; 2],
+    ended: Ended<ByNumber, u32, u32, u64, u32>,
 }
 
 /// The ties of a registry.
@@ -161,56 +138,34 @@ impl<B: Named, S: Named, R: Named> Run<B, S, R> {
         Some(fate)
     }
 
-    // Whether what came of the step is what it says.
-    fn make(&mut self, step: Step) -> bool
-        requires room { length self.old.server.decisions < CONNECTIONS }
-        requires open { self.old.server.left ≡ false }
-        ensures room { length self.new.server.decisions ≤ length self.old.server.decisions + 1 }
-        ensures open { self.new.server.left ≡ false }
+    // The first start fails, one session is opened early and one late, the second of these is stopped, and the first goes
+    // on until all writers have ended.
+    fn play(&mut self) -> ([bool; 3], [bool; 2], [Option<Fate>; 3])
+        requires { (self.old.server.decisions ≡ []) × (self.old.server.left ≡ false) }
     {
-        match step {
-            Step::FailedStart => self.fail_start(),
-            Step::Begin(early) => self.begin(early),
-            Step::Stop(id, granted) => self.stop(id) == granted,
-            Step::Turn(slot, found) => slot < SLOTS as u32 && self.turn(slot) == found,
-            Step::WritersEnd => {
-                self.registry.end_writers(2);
-                true
-            }
-        }
+        let begun = [self.fail_start(), self.begin(true), self.begin(false)];
+        let stopped = [self.stop(3), self.stop(9)];
+        let second = self.turn(1);
+        let first = self.turn(0);
+        self.registry.end_writers(2);
+        (begun, stopped, [second, first, self.turn(0)])
     }
 }
 
-// Whether what came of each step is what it says.
-fn play<B: Named, S: Named, R: Named>(run: &mut Run<B, S, R>, steps: &[Step]) -> bool
-    requires { (run.old.server.decisions ≡ []) × (run.old.server.left ≡ false) }
-{
-    let mut agrees = true;
-    let mut count = 0;
-    for step in steps {
-        if count == CONNECTIONS {
-            return false;
-        }
-        count += 1;
-        agrees = run.make(*step) && agrees;
-    }
-    agrees
-}
-
-// Whether this is left of the sessions.
-fn are_left(
+// The ids of the sessions that have ended, with what is left of each.
+fn left_of(
+    rt: &(impl Abort + AllocGlobal),
     over: Vec<Option<Finished<ByNumber, u32, u32, u64, u32>>>,
-    left: &[(u64, u64)],
-) -> bool {
-    let mut left = left.iter().copied();
-    let mut agrees = true;
+) -> Vec<(u64, u64)> {
+    let mut left = Vec::new(rt.alloc());
     for place in over {
         if let Some(finished) = place {
             let (hold, end) = finished.open();
-            agrees = left.next() == Some((hold.id, end)) && agrees;
+            left.push((hold.id, end))
+                .expect(rt, "room for what is left");
         }
     }
-    agrees && left.next().is_none()
+    left
 }
 
 fn leave<B: Named, S: Named, R: Named>(
@@ -279,11 +234,7 @@ fn close<B: Named, S: Named, R: Named>(
     (ended, server.early(), server.late())
 }
 
-fn whole<B: Named, S: Named, R: Named>(
-    rt: &(impl Abort + AllocGlobal),
-    sets: Sets,
-    steps: &[Step],
-) -> (bool, Ended<ByNumber, u32, u32, u64, u32>, u32, u32)
+fn whole<B: Named, S: Named, R: Named>(rt: &(impl Abort + AllocGlobal), sets: Sets) -> Told
     requires named { (sets.book.ties ≡ B.ties) × (sets.holds.ties ≡ S.ties) × (sets.marks.ties ≡ R.ties) }
     requires room { (sets.book.places ≡ 1) × (sets.holds.places ≡ CONNECTIONS)
         × (sets.marks.places ≡ SLOTS + 1) }
@@ -298,24 +249,21 @@ fn whole<B: Named, S: Named, R: Named>(
         registry: opening.registry,
         server: opening.server,
     };
-    let agrees = play(&mut run, steps);
+    let (begun, stopped, found) = run.play();
     let (ended, early, late) = close(rt, run, opening.roles);
-    (agrees, ended, early, late)
+    Told {
+        begun,
+        stopped,
+        found,
+        opened: [early, late],
+        ended,
+    }
 }
 
-// What a registry tells at the end of its history, against what it is to tell.
-fn history(rt: &(impl Abort + AllocGlobal), steps: &[Step], wanted: &Wanted<'_>) -> Told {
+// What a registry tells at the end of its history.
+fn history(rt: &(impl Abort + AllocGlobal)) -> Told {
     let sets = Sets::new(rt);
-    let (agrees, ended, early, late) = whole::<Brand, Brand, Brand>(rt, sets, steps);
-    Told {
-        agrees,
-        early,
-        late,
-        decisions: ended.decisions.as_slice() == wanted.decisions,
-        sessions: ended.sessions.as_slice() == wanted.sessions,
-        gone: ended.gone,
-        left: are_left(ended.over, wanted.left),
-    }
+    whole::<Brand, Brand, Brand>(rt, sets)
 }
 
 fn entry(
@@ -338,18 +286,7 @@ fn entry(
 
 #[test]
 fn each_call_is_told_in_the_end(rt: HostRuntime) {
-    let stopped = Fate::Requested { conn: 4 };
-    let steps = [
-        Step::FailedStart,
-        Step::Begin(true),
-        Step::Begin(false),
-        Step::Stop(3, true),
-        Step::Stop(9, false),
-        Step::Turn(1, Some(stopped)),
-        Step::Turn(0, None),
-        Step::WritersEnd,
-        Step::Turn(0, Some(Fate::ProgramEnd)),
-    ];
+    let requested = Fate::Requested { conn: 4 };
     let decisions = [
         Decision::Nothing,
         Decision::Accepted { id: 2 },
@@ -360,21 +297,35 @@ fn each_call_is_told_in_the_end(rt: HostRuntime) {
     let sessions = [
         entry(1, 0, None, Stage::Failed, Opened::No, 1),
         entry(2, 0, None, Stage::Over(Fate::ProgramEnd), Opened::Early, 5),
-        entry(3, 1, Some(4), Stage::Over(stopped), Opened::Late, 3),
+        entry(3, 1, Some(4), Stage::Over(requested), Opened::Late, 3),
     ];
-    let wanted = Wanted {
-        decisions: &decisions,
-        sessions: &sessions,
-        left: &[(2, 2), (3, 3)],
-    };
-    let told = Told {
-        agrees: true,
-        early: 1,
-        late: 1,
-        decisions: true,
-        sessions: true,
-        left: true,
-        gone: Some(2),
-    };
-    assert!(rt; history(&rt, &steps, &wanted) == told);
+    let Told {
+        begun,
+        stopped,
+        found,
+        opened,
+        ended,
+    } = history(&rt);
+    let left = left_of(&rt, ended.over);
+    assert_eq!(rt;
+        (
+            (begun, stopped, found, opened),
+            ended.decisions.as_slice(),
+            ended.sessions.as_slice(),
+            left.as_slice(),
+            ended.gone,
+        ),
+        (
+            (
+                [true; 3],
+                [true, false],
+                [Some(requested), None, Some(Fate::ProgramEnd)],
+                [1, 1],
+            ),
+            &decisions[..],
+            &sessions[..],
+            [(2, 2), (3, 3)].as_slice(),
+            Some(2),
+        )
+    );
 }

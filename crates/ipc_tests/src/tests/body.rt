@@ -1,125 +1,179 @@
 //! Requests and replies as they stand on a connection.
 
-use ep_defs::{Items, Rule, Units};
+use crate::tests::program::{PARTS, PROGRAM, parts_of};
+use ep_defs::{Rule, Units};
 use ipc_body::{
-    Asked, Reply, ReplyFault, Request, RequestFault, put_collect, put_info, put_stop, read_reply,
-    read_request,
+    Asked, Reply, ReplyFault, Request, RequestFault, collect_size, put_collect, put_info, put_stop,
+    read_reply, read_request,
 };
 use std::alloc::{AllocError, Global};
 use std::test::Fail;
-
-fn units(alloc: Global, text: &[u8]) -> Result<Units, AllocError> {
-    let mut units = Vec::new(alloc);
-    for byte in text {
-        units.push(u16::from(*byte))?;
-    }
-    Ok(Items::new(units))
-}
 
 // CollectTracing2 for one megabyte, without a rundown: the provider P with keywords 4 and level 3.
 const COLLECT: [u8; 57] =
     *b"DOTNET_IPC_V1\0\x39\0\x02\x03\0\0\x01\0\0\0\x01\0\0\0\0\x01\0\0\0\x04\0\0\0\0\0\0\0\x03\0\0\0\x02\0\0\0P\0\0\0\0\0\0\0";
 
-// What a process without a command line says of itself.
-const INFO: [u8; 78] =
-    *b"DOTNET_IPC_V1\0\x4e\0\xff\0\0\0\x01\0\0\0\0\0\0\0\x00\x01\x02\x03\x04\x05\x06\x07\x08\x09\x0a\x0b\x0c\x0d\x0e\x0f\x01\0\0\0\0\0\x06\0\0\0l\0i\0n\0u\0x\0\0\0\x04\0\0\0x\06\04\0\0\0";
-
-#[test]
-fn requests_are_put_as_they_stand_on_a_connection(rt: HostRuntime) -> Result<(), Fail> {
-    let alloc = rt.alloc();
-    let mut rules = Vec::new(alloc);
-    rules.push(Rule {
-        name: units(alloc, b"P")?,
+// The size that the request for that session is said to have, and its bytes.
+fn collect_request(alloc: Global) -> Result<(Option<usize>, Vec<u8>), AllocError> {
+    let rules = [Rule {
+        name: Units::new([80].to_vec(alloc)?),
         keywords: 4,
         level: 3,
-    })?;
+    }];
     let asked = Asked {
         megabytes: 1,
-        rules: rules.as_slice(),
+        rules: &rules,
     };
-    let size = ipc_body::collect_size(&asked);
-    assert_eq!(rt; size, Some(57));
-    if size.is_none() {
-        return Ok(());
-    }
     let mut out = Vec::new(alloc);
-    put_collect(&mut out, &asked)?;
-    assert_eq!(rt; out.as_slice(), COLLECT.as_slice());
-    let mut stop = Vec::new(alloc);
-    put_stop(&mut stop, 7)?;
-    assert_eq!(rt;
-        stop.as_slice(),
-        b"DOTNET_IPC_V1\0\x1c\0\x02\x01\0\0\x07\0\0\0\0\0\0\0".as_slice()
-    );
-    let mut info = Vec::new(alloc);
-    put_info(&mut info)?;
-    assert_eq!(rt;
-        info.as_slice(),
-        b"DOTNET_IPC_V1\0\x14\0\x04\0\0\0".as_slice()
-    );
-    Ok(())
+    let size = collect_size(&asked);
+    if size.is_some() {
+        put_collect(&mut out, &asked)?;
+    }
+    Ok((size, out))
 }
 
 #[test]
-fn a_request_for_a_session_is_read(rt: HostRuntime) -> Result<(), Fail> {
-    let alloc = rt.alloc();
-    match read_request(alloc, 2, 3, &COLLECT[20..]) {
-        Ok(Request::Collect { config }) => {
-            assert_eq!(rt;
-                (config.chunks, config.stackwalk, config.rundown),
-                (16, true, false)
-            );
-            let rule = Rule {
-                name: units(alloc, b"P")?,
-                keywords: 4,
-                level: 3,
-            };
-            assert!(rt; config.rules.as_slice().len() == 1 && config.rules.as_slice()[0] == rule);
-        }
-        _ => assert!(rt; false),
-    }
-    let longer = read_request(alloc, 2, 1, &[7, 0, 0, 0, 0, 0, 0, 0, 0]);
-    assert!(rt; longer == Err(RequestFault::BadEncoding));
-    let other = read_request(alloc, 9, 3, &COLLECT[20..]);
-    assert!(rt; other == Err(RequestFault::UnknownCommand));
+fn a_request_for_a_session_is_put_as_it_stands_on_a_connection(
+    rt: HostRuntime,
+) -> Result<(), Fail> {
+    let (size, bytes) = collect_request(rt.alloc())?;
+    assert_eq!(rt; (size, bytes.as_slice()), (Some(57), COLLECT.as_slice()));
     Ok(())
+}
+
+// The requests for the end of the session 7, and for what a process says of itself.
+fn short_requests(alloc: Global) -> Result<Vec<u8>, AllocError> {
+    let mut out = Vec::new(alloc);
+    put_stop(&mut out, 7)?;
+    put_info(&mut out)?;
+    Ok(out)
+}
+
+#[test]
+fn short_requests_are_put_as_they_stand_on_a_connection(rt: HostRuntime) -> Result<(), Fail> {
+    let bytes = short_requests(rt.alloc())?;
+    let want =
+        b"DOTNET_IPC_V1\0\x1c\0\x02\x01\0\0\x07\0\0\0\0\0\0\0DOTNET_IPC_V1\0\x14\0\x04\0\0\0";
+    assert_eq!(rt; bytes.as_slice(), want.as_slice());
+    Ok(())
+}
+
+// The chunks of a session, whether it has stacks and a rundown, and the keywords and the level of its only rule.
+type Session = (u32, bool, bool, u64, u32);
+
+// The session that a request is for, if it has one rule and this is of the provider P.
+fn session_in(request: &Request) -> Option<Session> {
+    let Request::Collect { config } = request else {
+        return None;
+    };
+    let [rule] = config.rules.as_slice() else {
+        return None;
+    };
+    if rule.name.as_slice() != [80].as_slice() {
+        return None;
+    }
+    Some((
+        config.chunks,
+        config.stackwalk,
+        config.rundown,
+        rule.keywords,
+        rule.level,
+    ))
+}
+
+fn session_of(
+    alloc: Global,
+    set: u8,
+    command: u8,
+    body: &[u8],
+) -> Result<Option<Session>, RequestFault> {
+    let request = read_request(alloc, set, command, body)?;
+    Ok(session_in(&request))
+}
+
+#[test]
+fn a_request_for_a_session_is_read(rt: HostRuntime) {
+    let table: [(u8, u8, &[u8], Result<Option<Session>, RequestFault>); 3] = [
+        (2, 3, &COLLECT[20..], Ok(Some((16, true, false, 4, 3)))),
+        (
+            2,
+            1,
+            &[7, 0, 0, 0, 0, 0, 0, 0, 0],
+            Err(RequestFault::BadEncoding),
+        ),
+        (9, 3, &COLLECT[20..], Err(RequestFault::UnknownCommand)),
+    ];
+    for (set, command, body, want) in table {
+        assert_eq!(rt; session_of(rt.alloc(), set, command, body), want);
+    }
+}
+
+// The parts of a program's reply, none for another reply.
+fn info_in(alloc: Global, bytes: &[u8]) -> Result<Vec<u64>, ReplyFault> {
+    match read_reply(alloc, bytes, true)? {
+        Reply::Info(info) => Ok(parts_of(alloc, &info)?),
+        _ => Ok(Vec::new(alloc)),
+    }
 }
 
 #[test]
 fn a_description_of_a_process_is_read(rt: HostRuntime) -> Result<(), Fail> {
-    let alloc = rt.alloc();
-    match read_reply(alloc, &INFO, true) {
-        Ok(Reply::Info(info)) => {
-            assert_eq!(rt; info.process_id, 1);
-            assert_eq!(rt;
-                info.cookie,
-                [0, 1, 2, 3, 4, 5, 6, 7, 8, 9, 10, 11, 12, 13, 14, 15]
-            );
-            assert!(rt; info.command_line.as_slice().is_empty());
-            assert!(rt; info.system == units(alloc, b"linux")?);
-            assert!(rt; info.arch == units(alloc, b"x64")?);
-        }
-        _ => assert!(rt; false),
-    }
-    let bad = |at: u64| Err(ReplyFault::Bad { at });
-    assert!(rt; read_reply(alloc, &INFO[..10], true) == bad(10));
-    assert!(rt; read_reply(alloc, &INFO[..50], true) == bad(50));
-    let mut open = INFO;
-    open[48] = 1;
-    assert!(rt; read_reply(alloc, &open, true) == bad(44));
+    let parts = info_in(rt.alloc(), &PROGRAM)?;
+    assert_eq!(rt; parts.as_slice(), PARTS.as_slice());
     Ok(())
+}
+
+const SESSION: [u8; 28] = *b"DOTNET_IPC_V1\0\x1c\0\xff\0\0\0\x01\0\0\0\0\0\0\0";
+
+const ERROR: [u8; 24] = *b"DOTNET_IPC_V1\0\x18\0\xff\xff\0\0\x05\x40\0\x80";
+
+// The kind of a reply, and its id or code.
+fn kind_of(reply: &Reply) -> (&'static str, u64) {
+    match reply {
+        Reply::Session { id } => ("session", *id),
+        Reply::Info(info) => ("info", info.process_id),
+        Reply::Error { code } => ("error", u64::from(*code)),
+    }
+}
+
+fn reply_in(
+    alloc: Global,
+    bytes: &[u8],
+    wants_info: bool,
+) -> Result<(&'static str, u64), ReplyFault> {
+    let reply = read_reply(alloc, bytes, wants_info)?;
+    Ok(kind_of(&reply))
 }
 
 #[test]
 fn a_session_and_an_error_are_read_as_such(rt: HostRuntime) {
-    let alloc = rt.alloc();
-    let session = *b"DOTNET_IPC_V1\0\x1c\0\xff\0\0\0\x01\0\0\0\0\0\0\0";
-    assert!(rt; read_reply(alloc, &session, false) == Ok(Reply::Session { id: 1 }));
-    let error = *b"DOTNET_IPC_V1\0\x18\0\xff\xff\0\0\x05\x40\0\x80";
-    assert!(rt; read_reply(alloc, &error, true) == Ok(Reply::Error { code: 0x80004005 }));
-    let mut wrong = session;
+    let session = reply_in(rt.alloc(), &SESSION, false);
+    let error = reply_in(rt.alloc(), &ERROR, true);
+    assert_eq!(rt;
+        [session, error],
+        [Ok(("session", 1)), Ok(("error", 0x8000_4005))]
+    );
+}
+
+// A description that is cut in its header and in its texts, and one whose command line has no end. Then a session with the
+// wrong command, and one that has the wrong size before it.
+#[test]
+fn a_reply_is_bad_at_its_first_wrong_field(rt: HostRuntime) {
+    let mut open = PROGRAM;
+    open[48] = 1;
+    let mut wrong = SESSION;
     wrong[17] = 1;
-    assert!(rt; read_reply(alloc, &wrong, false) == Err(ReplyFault::Bad { at: 17 }));
-    wrong[14] = 27;
-    assert!(rt; read_reply(alloc, &wrong, false) == Err(ReplyFault::Bad { at: 14 }));
+    let mut short = wrong;
+    short[14] = 27;
+    let table: [(&[u8], bool, u64); 5] = [
+        (&PROGRAM[..10], true, 10),
+        (&PROGRAM[..50], true, 50),
+        (&open, true, 44),
+        (&wrong, false, 17),
+        (&short, false, 14),
+    ];
+    for (bytes, wants_info, at) in table {
+        let read = reply_in(rt.alloc(), bytes, wants_info);
+        assert_eq!(rt; read, Err(ReplyFault::Bad { at }));
+    }
 }

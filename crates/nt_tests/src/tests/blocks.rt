@@ -7,10 +7,16 @@ use nt_object::BlockKind;
 use std::alloc::{AllocError, Global};
 use std::test::Fail;
 
+// The body of a point at the stamp 200, at which thread 1 has this number.
+fn point_body(alloc: Global, number: u32) -> Result<Vec<u8>, AllocError> {
+    let mut body = Vec::new(alloc);
+    put_point(&mut body, 200, &[(1, number)])?;
+    Ok(body)
+}
+
 #[test]
 fn a_point_has_its_stamp_and_its_threads(rt: HostRuntime) -> Result<(), Fail> {
-    let mut body = Vec::new(rt.alloc());
-    put_point(&mut body, 200, &[(1, 7)])?;
+    let body = point_body(rt.alloc(), 7)?;
     let expected = [
         0xc8, 0, 0, 0, 0, 0, 0, 0, 1, 0, 0, 0, 1, 0, 0, 0, 0, 0, 0, 0, 7, 0, 0, 0,
     ];
@@ -18,32 +24,27 @@ fn a_point_has_its_stamp_and_its_threads(rt: HostRuntime) -> Result<(), Fail> {
     Ok(())
 }
 
-#[test]
-fn a_first_event_takes_seven_bytes_behind_the_header(rt: HostRuntime) -> Result<(), Fail> {
-    let mut block = BlobBlock::new(rt.alloc(), BlockKind::Event);
+// The body of one event without a payload.
+fn event_body(alloc: Global) -> Result<Vec<u8>, AllocError> {
     let mut head = HeadState::zero();
     head.metadata = 1;
     head.number = 1;
     head.capture = 1;
     head.thread = 1;
     head.stamp = 100;
+    let mut block = BlobBlock::new(alloc, BlockKind::Event);
     block.add(&head, b"")?;
-    let body = block.body(rt.alloc())?;
+    block.body(alloc)
+}
+
+#[test]
+fn a_first_event_takes_seven_bytes_behind_the_header(rt: HostRuntime) -> Result<(), Fail> {
+    let body = event_body(rt.alloc())?;
     let expected = [
         0x14, 0, 1, 0, 0x64, 0, 0, 0, 0, 0, 0, 0, 0x64, 0, 0, 0, 0, 0, 0, 0, 7, 1, 0, 1, 0, 1, 0x64,
     ];
     assert_eq!(rt; body.as_slice(), expected.as_slice());
     Ok(())
-}
-
-// A body with these blobs, without their stamps.
-fn with_header(alloc: Global, blobs: &[u8]) -> Result<Vec<u8>, AllocError> {
-    let header = [
-        0x14, 0, 1, 0, 0, 0, 0, 0, 0, 0, 0, 0, 0, 0, 0, 0, 0, 0, 0, 0,
-    ];
-    let mut body = Vec::from_slice(alloc, &header)?;
-    body.extend_from_slice(blobs)?;
-    Ok(body)
 }
 
 // Takes a short body that stands at the offset 100.
@@ -59,23 +60,54 @@ fn take_short(
     take_body(alloc, kind, body, 100, items)
 }
 
-// Whether the body is refused so, and the items stay as they were.
-fn is_refused(
-    alloc: Global,
-    kind: BlockKind,
-    body: &[u8],
-    fault: BodyFault,
-) -> Result<bool, AllocError> {
+// The place of an item, its number, id or stamp, and how many bytes or threads it has.
+fn numbers_of(item: &Item) -> (u64, u64, usize) {
+    match &item.kind {
+        ItemKind::Stack { id, bytes } => (item.at, u64::from(*id), bytes.as_slice().len()),
+        ItemKind::Event {
+            number,
+            payload,
+            ..
+        } => (item.at, u64::from(*number), payload.as_slice().len()),
+        ItemKind::Point { stamp, threads } => (item.at, *stamp, threads.as_slice().len()),
+        _ => (item.at, 0, 0),
+    }
+}
+
+fn bytes_of(item: &Item) -> &[u8] {
+    match &item.kind {
+        ItemKind::Stack { id: _, bytes } => bytes.as_slice(),
+        ItemKind::Event { payload, .. } => payload.as_slice(),
+        _ => &[],
+    }
+}
+
+// What is told of items: their numbers, and the bytes of all.
+#[derive(Drop)]
+struct Told {
+    numbers: Vec<(u64, u64, usize)>,
+    bytes: Vec<u8>,
+}
+
+fn tell(alloc: Global, items: &[Item]) -> Result<Told, AllocError> {
+    let mut told = Told {
+        numbers: Vec::new(alloc),
+        bytes: Vec::new(alloc),
+    };
+    for item in items {
+        told.numbers.push(numbers_of(item))?;
+        told.bytes.extend_from_slice(bytes_of(item))?;
+    }
+    Ok(told)
+}
+
+// What is told of the items of these bodies.
+fn told_of(alloc: Global, bodies: &[(BlockKind, &[u8])]) -> Result<Told, BodyFault> {
     let mut items = Vec::new(alloc);
-    items.push(Item {
-        at: 1,
-        kind: ItemKind::Stack {
-            id: 7,
-            bytes: Bytes::new(Vec::new(alloc)),
-        },
-    })?;
-    let taken = take_short(alloc, kind, body, &mut items);
-    Ok(taken == Err(fault) && items.len() == 1 && items[0].at == 1)
+    for (kind, body) in bodies {
+        take_short(alloc, *kind, body, &mut items)?;
+    }
+    Ok(tell(alloc, &items)?)
 }
 
 #[test]
@@ -84,105 +116,153 @@ fn equal_stacks_have_ids_of_their_own(rt: HostRuntime) -> Result<(), Fail> {
         1, 0, 0, 0, 2, 0, 0, 0, 8, 0, 0, 0, 1, 2, 3, 4, 5, 6, 7, 8, 8, 0, 0, 0, 1, 2, 3, 4, 5, 6,
         7, 8,
     ];
-    let mut items = Vec::new(rt.alloc());
-    take_body(rt.alloc(), BlockKind::Stack, &body, 100, &mut items)?;
-    let mut expected = Vec::new(rt.alloc());
-    for (id, at) in [(1, 108), (2, 120)] {
-        let bytes = Bytes::new(Vec::from_slice(rt.alloc(), &[1, 2, 3, 4, 5, 6, 7, 8])?);
-        expected.push(Item {
-            at,
-            kind: ItemKind::Stack { id, bytes },
-        })?;
-    }
-    assert_eq!(rt; items.as_slice(), expected.as_slice());
+    let told = told_of(rt.alloc(), &[(BlockKind::Stack, &body)])?;
+    assert_eq!(rt;
+        (told.numbers.as_slice(), told.bytes.as_slice()),
+        (
+            [(108, 1, 8), (120, 2, 8)].as_slice(),
+            [1, 2, 3, 4, 5, 6, 7, 8, 1, 2, 3, 4, 5, 6, 7, 8].as_slice()
+        )
+    );
     Ok(())
 }
 
-#[test]
-fn blobs_and_points_are_taken_back(rt: HostRuntime) -> Result<(), Fail> {
-    let mut block = BlobBlock::new(rt.alloc(), BlockKind::Event);
+// The body of an event with the payload `ab` and one with the payload `c`, if that fits.
+fn events_body(alloc: Global) -> Result<Vec<u8>, AllocError> {
     let mut head = HeadState::zero();
     head.metadata = 1;
     head.number = 1;
     head.size = 2;
+    let mut block = BlobBlock::new(alloc, BlockKind::Event);
     block.add(&head, b"ab")?;
     head.number = 2;
     head.size = 1;
-    if !block.fits(HEAD_BYTES + 1) {
-        return Err("no room".into());
+    if block.fits(HEAD_BYTES + 1) {
+        block.add(&head, b"c")?;
     }
-    block.add(&head, b"c")?;
-    let body = block.body(rt.alloc())?;
-    let mut items = Vec::new(rt.alloc());
-    take_short(rt.alloc(), BlockKind::Event, &body, &mut items)?;
-    let mut point = Vec::new(rt.alloc());
-    put_point(&mut point, 200, &[(1, 2)])?;
-    take_short(rt.alloc(), BlockKind::Point, &point, &mut items)?;
-    assert_eq!(rt; items.len(), 3);
-    let mut told = Vec::new(rt.alloc());
-    for item in &items {
-        match &item.kind {
-            ItemKind::Event {
-                number,
-                payload,
-                ..
-            } => {
-                told.push((item.at, *number, payload.as_slice().len()))?;
-            }
-            ItemKind::Point { stamp: _, threads } => {
-                told.push((item.at, 200, threads.as_slice().len()))?;
-            }
-            _ => {}
-        }
-    }
-    let expected = [(120, 1, 2), (126, 2, 1), (100, 200, 1)];
-    assert_eq!(rt; told.as_slice(), &expected[..]);
+    block.body(alloc)
+}
+
+// What is told of those events and of a point behind them.
+fn told_of_events_and_a_point(alloc: Global) -> Result<Told, BodyFault> {
+    let events = events_body(alloc)?;
+    let point = point_body(alloc, 2)?;
+    told_of(
+        alloc,
+        &[(BlockKind::Event, &events), (BlockKind::Point, &point)],
+    )
+}
+
+#[test]
+fn blobs_and_points_are_taken_back(rt: HostRuntime) -> Result<(), Fail> {
+    let told = told_of_events_and_a_point(rt.alloc())?;
+    assert_eq!(rt;
+        (told.numbers.as_slice(), told.bytes.as_slice()),
+        (
+            [(120, 1, 2), (126, 2, 1), (100, 200, 1)].as_slice(),
+            b"abc".as_slice()
+        )
+    );
     Ok(())
 }
 
+// One item, at the place 1.
+fn one_item(alloc: Global) -> Result<Vec<Item>, AllocError> {
+    let mut items = Vec::new(alloc);
+    let bytes = Bytes::new(Vec::new(alloc));
+    items.push(Item {
+        at: 1,
+        kind: ItemKind::Stack { id: 7, bytes },
+    })?;
+    Ok(items)
+}
+
+// The place of the only item.
+fn only_place(items: &[Item]) -> Option<u64> {
+    match items {
+        [item] => Some(item.at),
+        _ => None,
+    }
+}
+
+// Why a body is refused, and where the only item stands after it, if it was the only one before.
+fn refusal(
+    alloc: Global,
+    kind: BlockKind,
+    body: &[u8],
+) -> Result<(Option<BodyFault>, Option<u64>), AllocError> {
+    let mut items = one_item(alloc)?;
+    let fault = take_short(alloc, kind, body, &mut items).err();
+    Ok((fault, only_place(&items)))
+}
+
+// A body whose header has this size and these flags and no stamps, with these blobs.
+fn body_of(alloc: Global, size: u8, flags: u8, blobs: &[u8]) -> Result<Vec<u8>, AllocError> {
+    let mut body = Vec::from_slice(alloc, &[size, 0, flags])?;
+    body.resize(20, 0)?;
+    body.extend_from_slice(blobs)?;
+    Ok(body)
+}
+
+// Why such a body is refused.
+fn blob_refusal(
+    alloc: Global,
+    kind: BlockKind,
+    header: (u8, u8),
+    blobs: &[u8],
+) -> Result<(Option<BodyFault>, Option<u64>), AllocError> {
+    let body = body_of(alloc, header.0, header.1, blobs)?;
+    refusal(alloc, kind, &body)
+}
+
+// Sizes of the header that are too small and too great, and flags without compression. Then a cut header, a varuint that is
+// too wide, the metadata id 0, a payload past the end, and a second blob that is cut. Last a payload that defines nothing.
 #[test]
 fn bodies_of_blobs_are_refused_at_their_places(rt: HostRuntime) -> Result<(), Fail> {
     let event = BlockKind::Event;
-    let cut = [0x14, 0, 1];
-    let fault = BodyFault::BadBlock { at: 0 };
-    assert!(rt; is_refused(rt.alloc(), event, &cut, fault)?);
-    let table = [
-        (0, 0x13, fault),
-        (0, 0x15, fault),
-        (2, 2, BodyFault::Uncompressed { at: 2 }),
+    let table: [(BlockKind, (u8, u8), &[u8], BodyFault); 9] = [
+        (event, (0x13, 1), &[], BodyFault::BadBlock { at: 0 }),
+        (event, (0x15, 1), &[], BodyFault::BadBlock { at: 0 }),
+        (event, (0x14, 2), &[], BodyFault::Uncompressed { at: 2 }),
+        (event, (0x14, 1), &[1], BodyFault::BadHead { at: 20 }),
+        (
+            event,
+            (0x14, 1),
+            &[1, 0xff, 0xff, 0xff, 0xff, 0x1f, 0],
+            BodyFault::BadHead { at: 20 },
+        ),
+        (event, (0x14, 1), &[0, 0], BodyFault::BadHead { at: 20 }),
+        (
+            event,
+            (0x14, 1),
+            &[0x81, 1, 0, 5],
+            BodyFault::BadHead { at: 20 },
+        ),
+        (
+            event,
+            (0x14, 1),
+            &[1, 1, 0, 1],
+            BodyFault::BadHead { at: 23 },
+        ),
+        (
+            BlockKind::Metadata,
+            (0x14, 1),
+            &[0x80, 0, 0],
+            BodyFault::BadMeta { at: 23 },
+        ),
     ];
-    for (place, byte, fault) in table {
-        let mut body = with_header(rt.alloc(), b"")?;
-        if place < body.len() {
-            body[place] = byte;
-        }
-        assert!(rt;
-            is_refused(rt.alloc(), event, &body, fault)?,
-            "{byte} at {place}"
-        );
+    for (kind, header, blobs, fault) in table {
+        let refused = blob_refusal(rt.alloc(), kind, header, blobs)?;
+        assert_eq!(rt; refused, (Some(fault), Some(1)), "{blobs:?}");
     }
-    // A cut header, a varuint that is too wide, the metadata id 0, a payload past the end, and a second blob that is cut.
-    let blobs: [(&[u8], usize); 5] = [
-        (&[1], 20),
-        (&[1, 0xff, 0xff, 0xff, 0xff, 0x1f, 0], 20),
-        (&[0, 0], 20),
-        (&[0x81, 1, 0, 5], 20),
-        (&[1, 1, 0, 1], 23),
-    ];
-    for (bytes, at) in blobs {
-        let body = with_header(rt.alloc(), bytes)?;
-        let fault = BodyFault::BadHead { at };
-        assert!(rt; is_refused(rt.alloc(), event, &body, fault)?, "at {at}");
-    }
-    let body = with_header(rt.alloc(), &[0x80, 0, 0])?;
-    let fault = BodyFault::BadMeta { at: 23 };
-    assert!(rt; is_refused(rt.alloc(), BlockKind::Metadata, &body, fault)?);
     Ok(())
 }
 
+// A cut header of blobs; then stacks and threads that are cut, too many, or not the whole body.
 #[test]
-fn stacks_and_threads_end_with_their_body(rt: HostRuntime) -> Result<(), Fail> {
-    let bodies: [(BlockKind, &[u8]); 8] = [
+fn headers_and_stacks_and_threads_end_with_their_body(rt: HostRuntime) -> Result<(), Fail> {
+    let bodies: [(BlockKind, &[u8]); 9] = [
+        (BlockKind::Event, &[0x14, 0, 1]),
         (BlockKind::Stack, &[1, 0, 0, 0, 0, 0, 0]),
         (BlockKind::Stack, &[0, 0, 0, 0x80, 0, 0, 0, 0]),
         (BlockKind::Stack, &[1, 0, 0, 0, 0, 0, 0, 0x80]),
@@ -195,10 +275,9 @@ fn stacks_and_threads_end_with_their_body(rt: HostRuntime) -> Result<(), Fail> {
         (BlockKind::Point, &[1, 0, 0, 0, 0, 0, 0, 0, 1, 0, 0, 0, 1]),
         (BlockKind::Point, &[1, 0, 0, 0, 0, 0, 0, 0, 0, 0, 0, 0, 1]),
     ];
+    let want = (Some(BodyFault::BadBlock { at: 0 }), Some(1));
     for (kind, body) in bodies {
-        let fault = BodyFault::BadBlock { at: 0 };
-        let len = body.len();
-        assert!(rt; is_refused(rt.alloc(), kind, body, fault)?, "{len} bytes");
+        assert_eq!(rt; refusal(rt.alloc(), kind, body)?, want, "{body:?}");
     }
     Ok(())
 }

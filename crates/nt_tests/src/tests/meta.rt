@@ -1,78 +1,105 @@
-use ep_defs::{EventDef, FieldDef, FieldList, Units, units_of};
+use ep_defs::{EventDef, FieldDef, FieldList, Units};
 use nt_meta::{TakenMeta, put_meta, take_meta};
 use std::alloc::{AllocError, Global};
 use std::test::Fail;
 
 // An object a with a number b and an object c, which has a text d; and a number e.
-const NESTED: [u8; 96] = [
+const NESTED: [u8; 84] = [
     0x07, 0, 0, 0, 0x50, 0, 0, 0, 0x01, 0, 0, 0, 0x45, 0, 0, 0, 0x01, 0, 0, 0, 0, 0, 0, 0, 0, 0, 0,
     0, 0x04, 0, 0, 0, 0x02, 0, 0, 0, 0x01, 0, 0, 0, 0x02, 0, 0, 0, 0x09, 0, 0, 0, 0x62, 0, 0, 0,
     0x01, 0, 0, 0, 0x01, 0, 0, 0, 0x12, 0, 0, 0, 0x64, 0, 0, 0, 0x63, 0, 0, 0, 0x61, 0, 0, 0, 0x0b,
-    0, 0, 0, 0x65, 0, 0, 0, 0, 0, 0, 0, 0, 0, 0, 0, 0, 0, 0, 0,
+    0, 0, 0, 0x65, 0, 0, 0,
 ];
 
-// How many bytes of it the payload has.
-const NESTED_BYTES: usize = 84;
+// The depth of each of its fields, the type code and the name's only unit.
+const FIELDS: [(u32, u8, u16); 5] = [
+    (0, 1, 0x61),
+    (1, 9, 0x62),
+    (1, 1, 0x63),
+    (2, 18, 0x64),
+    (0, 11, 0x65),
+];
 
-fn field(alloc: Global, depth: u32, code: u8, name: &[u8]) -> Result<FieldDef, AllocError> {
-    let mut bytes = Vec::new(alloc);
-    for byte in name {
-        bytes.push(*byte)?;
-        bytes.push(0)?;
+fn letter(alloc: Global, unit: u16) -> Result<Units, AllocError> {
+    Ok(Units::new([unit].to_vec(alloc)?))
+}
+
+fn fields(alloc: Global) -> Result<FieldList, AllocError> {
+    let mut fields = Vec::new(alloc);
+    for (depth, code, unit) in FIELDS {
+        let name = letter(alloc, unit)?;
+        fields.push(FieldDef { depth, code, name })?;
     }
-    let even = bytes.len() / 2 * 2;
-    let name = units_of(alloc, &bytes[..even])?;
-    Ok(FieldDef { depth, code, name })
+    Ok(FieldList::new(fields))
 }
 
 fn nested(alloc: Global) -> Result<EventDef, AllocError> {
-    let mut fields = Vec::new(alloc);
-    fields.push(field(alloc, 0, 1, b"a")?)?;
-    fields.push(field(alloc, 1, 9, b"b")?)?;
-    fields.push(field(alloc, 1, 1, b"c")?)?;
-    fields.push(field(alloc, 2, 18, b"d")?)?;
-    fields.push(field(alloc, 0, 11, b"e")?)?;
+    let provider = letter(alloc, 0x50)?;
+    let name = letter(alloc, 0x45)?;
     Ok(EventDef {
-        provider: units_of(alloc, b"P\0")?,
+        provider,
         id: 1,
         version: 0,
         level: 4,
         keywords: 1,
-        name: units_of(alloc, b"E\0")?,
-        fields: FieldList::new(fields),
+        name,
+        fields: fields(alloc)?,
     })
 }
 
-// Whether the bytes define this event under the id 7.
-fn defines(alloc: Global, bytes: &[u8], def: &EventDef) -> Result<bool, AllocError> {
-    match take_meta(alloc, bytes)? {
-        TakenMeta::Meta { id, def: taken } => Ok(id == 7 && taken == *def),
-        TakenMeta::BadMeta { at: _ } => Ok(false),
+// The payload that defines it under the id 7, and nothing if it cannot be written.
+fn payload(alloc: Global) -> Result<Vec<u8>, AllocError> {
+    let def = nested(alloc)?;
+    let mut out = Vec::new(alloc);
+    if def.is_valid() {
+        put_meta(&mut out, 7, &def)?;
     }
+    Ok(out)
+}
+
+fn is_meta(taken: &TakenMeta, id: u32, def: &EventDef) -> bool {
+    match taken {
+        TakenMeta::Meta {
+            id: other,
+            def: taken,
+        } => *other == id && taken == def,
+        TakenMeta::BadMeta { at: _ } => false,
+    }
+}
+
+fn is_bad(taken: &TakenMeta) -> bool {
+    match taken {
+        TakenMeta::Meta { id: _, def: _ } => false,
+        TakenMeta::BadMeta { at } => *at == 0,
+    }
+}
+
+// Whether the bytes define the event under the id 7.
+fn defines(alloc: Global, bytes: &[u8]) -> Result<bool, AllocError> {
+    let def = nested(alloc)?;
+    let taken = take_meta(alloc, bytes)?;
+    Ok(is_meta(&taken, 7, &def))
 }
 
 fn is_refused(alloc: Global, bytes: &[u8]) -> Result<bool, AllocError> {
-    match take_meta(alloc, bytes)? {
-        TakenMeta::Meta { id: _, def: _ } => Ok(false),
-        TakenMeta::BadMeta { at } => Ok(at == 0),
-    }
+    let taken = take_meta(alloc, bytes)?;
+    Ok(is_bad(&taken))
 }
 
-// The payload with another byte at a place.
-fn changed(alloc: Global, place: usize, byte: u8) -> Result<Vec<u8>, AllocError> {
-    let mut bytes = Vec::from_slice(alloc, &NESTED[..NESTED_BYTES])?;
+// Whether the bytes are refused with another byte at a place.
+fn is_refused_with(alloc: Global, place: usize, byte: u8) -> Result<bool, AllocError> {
+    let mut bytes = NESTED;
     if place < bytes.len() {
         bytes[place] = byte;
     }
-    Ok(bytes)
+    is_refused(alloc, &bytes)
 }
 
 // Objects that stand inside each other, this many in all, the innermost without fields.
 fn objects(alloc: Global, count: u32) -> Result<Vec<u8>, AllocError> {
     let mut bytes = Vec::from_slice(alloc, &NESTED[..32])?;
     for _ in 0..count {
-        bytes.extend_from_slice(&[1, 0, 0, 0])?;
-        bytes.extend_from_slice(&[1, 0, 0, 0])?;
+        bytes.extend_from_slice(&[1, 0, 0, 0, 1, 0, 0, 0])?;
     }
     bytes.extend_from_slice(&[0, 0, 0, 0])?;
     for _ in 0..count {
@@ -81,45 +108,57 @@ fn objects(alloc: Global, count: u32) -> Result<Vec<u8>, AllocError> {
     Ok(bytes)
 }
 
+fn are_refused(alloc: Global, count: u32) -> Result<bool, AllocError> {
+    let bytes = objects(alloc, count)?;
+    is_refused(alloc, &bytes)
+}
+
 #[test]
 fn nested_fields_stand_before_the_name_of_their_object(rt: HostRuntime) -> Result<(), Fail> {
-    let def = nested(rt.alloc())?;
-    if !def.is_valid() {
-        return Err("a valid definition".into());
+    let bytes = payload(rt.alloc())?;
+    assert_eq!(rt; bytes.as_slice(), NESTED.as_slice());
+    Ok(())
+}
+
+// The payload, and the payload with twelve zeros behind it.
+#[test]
+fn bytes_after_the_fields_are_passed_over(rt: HostRuntime) -> Result<(), Fail> {
+    let mut longer = [0; 96];
+    longer[..84].copy_from_slice(&NESTED);
+    let payloads: [&[u8]; 2] = [&NESTED, &longer];
+    for bytes in payloads {
+        assert!(rt; defines(rt.alloc(), bytes)?, "{bytes:?}");
     }
-    let mut out = Vec::new(rt.alloc());
-    put_meta(&mut out, 7, &def)?;
-    assert_eq!(rt; out.as_slice(), &NESTED[..NESTED_BYTES]);
-    assert!(rt; defines(rt.alloc(), &NESTED[..NESTED_BYTES], &def)?);
-    assert!(rt;
-        defines(rt.alloc(), &NESTED, &def)?,
-        "bytes after the fields are passed over"
-    );
     Ok(())
 }
 
 #[test]
-fn what_may_not_stand_in_a_payload_is_refused(rt: HostRuntime) -> Result<(), Fail> {
-    for len in 0..NESTED_BYTES {
+fn a_payload_that_is_cut_is_refused(rt: HostRuntime) -> Result<(), Fail> {
+    for len in 0..84 {
         assert!(rt;
             is_refused(rt.alloc(), &NESTED[..len])?,
             "cut after {len} bytes"
         );
     }
-    // The id 0 and the id 2^31 + 7, the type codes 0, 2 and 19, and one above 255.
-    let refused = [(0, 0), (3, 128), (36, 0), (36, 2), (36, 19), (37, 1)];
-    for (place, byte) in refused {
-        let bytes = changed(rt.alloc(), place, byte)?;
-        assert!(rt; is_refused(rt.alloc(), &bytes)?, "{byte} at {place}");
+    Ok(())
+}
+
+// The id 0 and the id 2^31 + 7, the type codes 0, 2 and 19, and one above 255.
+#[test]
+fn what_may_not_stand_in_a_payload_is_refused(rt: HostRuntime) -> Result<(), Fail> {
+    for (place, byte) in [(0, 0), (3, 128), (36, 0), (36, 2), (36, 19), (37, 1)] {
+        assert!(rt;
+            is_refused_with(rt.alloc(), place, byte)?,
+            "{byte} at {place}"
+        );
     }
     Ok(())
 }
 
 #[test]
 fn fields_stand_inside_of_32_objects_at_most(rt: HostRuntime) -> Result<(), Fail> {
-    let within = objects(rt.alloc(), 33)?;
-    assert!(rt; !is_refused(rt.alloc(), &within)?);
-    let beyond = objects(rt.alloc(), 34)?;
-    assert!(rt; is_refused(rt.alloc(), &beyond)?);
+    for (count, want) in [(33, false), (34, true)] {
+        assert_eq!(rt; are_refused(rt.alloc(), count)?, want, "{count} objects");
+    }
     Ok(())
 }

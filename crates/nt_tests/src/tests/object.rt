@@ -1,44 +1,65 @@
 use ep_defs::standard_info;
 use nt_object::{BlockKind, ObjectHead, ObjectKind, padding, put_block, put_start, take_head};
-use std::alloc::AllocError;
+use std::alloc::{AllocError, Global};
+use std::test::Fail;
 
-#[test]
-fn a_stream_starts_with_102_bytes(rt: HostRuntime) -> Result<(), AllocError> {
-    let mut out = Vec::new(rt.alloc());
+// The start of a stream of process 1 on one processor: 32 bytes, and the Trace object.
+const START: [u8; 102] =
+    *b"Nettrace\x14\0\0\0!FastSerialization.1\x05\x05\x01\x04\0\0\0\x04\0\0\0\x05\0\0\0Trace\x06\xb2\x07\x01\0\x04\0\x01\0\0\0\0\0\0\0\0\0\0\0\0\0\0\0\0\0\0\xca\x9a\x3b\0\0\0\0\x08\0\0\0\x01\0\0\0\x01\0\0\0\0\0\0\0\x06";
+
+// A point's block with the body 9 behind the start, where it takes three zeros.
+const POINT: [u8; 32] =
+    *b"\x05\x05\x01\x02\0\0\0\x02\0\0\0\x07\0\0\0SPBlock\x06\x01\0\0\0\0\0\0\x09\x06";
+
+fn start(alloc: Global) -> Result<Vec<u8>, AllocError> {
+    let mut out = Vec::new(alloc);
     put_start(&mut out, &standard_info(1, 1))?;
-    let want =
-        b"Nettrace\x14\0\0\0!FastSerialization.1\x05\x05\x01\x04\0\0\0\x04\0\0\0\x05\0\0\0Trace\x06\xb2\x07\x01\0\x04\0\x01\0\0\0\0\0\0\0\0\0\0\0\0\0\0\0\0\0\0\xca\x9a\x3b\0\0\0\0\x08\0\0\0\x01\0\0\0\x01\0\0\0\0\0\0\0\x06";
-    assert_eq!(rt; out.as_slice(), &want[..]);
-    let trace = ObjectHead::Head {
-        kind: ObjectKind::Trace,
-        used: 21,
-    };
-    assert_eq!(rt; take_head(&want[32..]), trace);
-    Ok(())
+    Ok(out)
 }
 
-#[test]
-fn a_block_is_padded_at_its_offset(rt: HostRuntime) -> Result<(), AllocError> {
-    let mut out = Vec::new(rt.alloc());
+fn point_block(alloc: Global) -> Result<Vec<u8>, AllocError> {
+    let mut out = Vec::new(alloc);
     put_block(&mut out, 102, BlockKind::Point, &[9])?;
-    let want = b"\x05\x05\x01\x02\0\0\0\x02\0\0\0\x07\0\0\0SPBlock\x06\x01\0\0\0\0\0\0\x09\x06";
-    assert_eq!(rt; out.as_slice(), &want[..]);
-    let point = ObjectKind::Block(BlockKind::Point);
-    assert_eq!(rt;
-        take_head(want),
-        ObjectHead::Head {
-            kind: point,
-            used: 23
-        }
-    );
-    assert_eq!(rt; padding(128), 0);
-    assert_eq!(rt; padding(129), 3);
+    Ok(out)
+}
+
+#[test]
+fn a_stream_starts_with_102_bytes(rt: HostRuntime) -> Result<(), Fail> {
+    let bytes = start(rt.alloc())?;
+    assert_eq!(rt; bytes.as_slice(), START.as_slice());
     Ok(())
 }
 
 #[test]
-fn heads_are_refused_in_the_order_of_their_parts(rt: HostRuntime) {
-    let table: [(&[u8], ObjectHead); 9] = [
+fn a_block_is_padded_at_its_offset(rt: HostRuntime) -> Result<(), Fail> {
+    let bytes = point_block(rt.alloc())?;
+    assert_eq!(rt; bytes.as_slice(), POINT.as_slice());
+    Ok(())
+}
+
+#[test]
+fn padding_leads_to_the_next_offset_that_4_divides(rt: HostRuntime) {
+    assert_eq!(rt; [padding(128), padding(129)], [0, 3]);
+}
+
+// The heads of the Trace object and of a point, and then heads in the order of the parts that are cut or wrong.
+#[test]
+fn heads_are_told_in_the_order_of_their_parts(rt: HostRuntime) {
+    let table: [(&[u8], ObjectHead); 11] = [
+        (
+            &START[32..],
+            ObjectHead::Head {
+                kind: ObjectKind::Trace,
+                used: 21,
+            },
+        ),
+        (
+            &POINT,
+            ObjectHead::Head {
+                kind: ObjectKind::Block(BlockKind::Point),
+                used: 23,
+            },
+        ),
         (b"", ObjectHead::Short),
         (b"\x01", ObjectHead::BadObject { at: 0 }),
         (b"\x05\x05\x01", ObjectHead::Short),

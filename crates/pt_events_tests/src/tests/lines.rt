@@ -1,5 +1,5 @@
 //! The lines of items that were worked out by hand.
-use ep_defs::{EventDef, FieldDef, ItemKind, Items};
+use ep_defs::{EventDef, FieldDef, ItemKind, Items, Units};
 use pt_events::{Form, Listing};
 use std::alloc::{AllocError, Global};
 use std::test::Fail;
@@ -7,28 +7,37 @@ use std::test::Fail;
 // A field of this depth, code and name.
 type Field = (u32, u8, &'static [u16]);
 
-fn meta(alloc: Global, fields: &[Field]) -> Result<ItemKind, AllocError> {
+fn field_defs(alloc: Global, fields: &[Field]) -> Result<Items<FieldDef>, AllocError> {
     let mut defs = Vec::new(alloc);
     for (depth, code, name) in fields {
-        let name = name.to_vec(alloc)?;
+        let name = Items::new(name.to_vec(alloc)?);
         defs.push(FieldDef {
             depth: *depth,
             code: *code,
-            name: Items::new(name),
+            name,
         })?;
     }
-    let provider = [80u16].to_vec(alloc)?;
-    let name = [69u16].to_vec(alloc)?;
+    Ok(Items::new(defs))
+}
+
+fn letter(alloc: Global, unit: u16) -> Result<Units, AllocError> {
+    Ok(Items::new([unit].to_vec(alloc)?))
+}
+
+fn meta(alloc: Global, fields: &[Field]) -> Result<ItemKind, AllocError> {
+    let provider = letter(alloc, 80)?;
+    let name = letter(alloc, 69)?;
+    let fields = field_defs(alloc, fields)?;
     Ok(ItemKind::Meta {
         id: 1,
         def: EventDef {
-            provider: Items::new(provider),
+            provider,
             id: 1,
             version: 0,
             level: 4,
             keywords: 1,
-            name: Items::new(name),
-            fields: Items::new(defs),
+            name,
+            fields,
         },
     })
 }
@@ -40,7 +49,7 @@ fn event(
     number: u32,
     payload: &[u8],
 ) -> Result<ItemKind, AllocError> {
-    let payload = payload.to_vec(alloc)?;
+    let payload = Items::new(payload.to_vec(alloc)?);
     Ok(ItemKind::Event {
         metadata: 1,
         number,
@@ -51,44 +60,71 @@ fn event(
         stamp,
         activity: [0; 16],
         related: [0; 16],
-        payload: Items::new(payload),
+        payload,
     })
 }
 
-fn point(alloc: Global, stamp: u64, threads: &[(u64, u32)]) -> Result<ItemKind, AllocError> {
-    let threads = threads.to_vec(alloc)?;
-    Ok(ItemKind::Point {
-        stamp,
-        threads: Items::new(threads),
-    })
+// Appends the lines of an item, and tells whether it stands where it may.
+fn list(listing: &mut Listing, kind: ItemKind, out: &mut Vec<u8>) -> bool {
+    listing.item(Form::Lines, &kind, out).is_ok()
 }
 
-// The lines of these items, up to the first that is refused.
-fn lines_of(alloc: Global, kinds: &[ItemKind]) -> Result<Vec<u8>, AllocError> {
-    let mut listing = Listing::new(alloc);
-    let mut out = Vec::new(alloc);
-    for kind in kinds {
-        if listing.item(Form::Lines, kind, &mut out).is_err() {
-            break;
-        }
-    }
-    Ok(out)
+// Appends the lines of a definition with these fields and of an event with this payload.
+fn list_event(
+    alloc: Global,
+    listing: &mut Listing,
+    fields: &[Field],
+    payload: &[u8],
+    out: &mut Vec<u8>,
+) -> Result<bool, AllocError> {
+    let is_defined = list(listing, meta(alloc, fields)?, out);
+    let is_listed = list(listing, event(alloc, 100, 1, 1, payload)?, out);
+    Ok(is_defined && is_listed)
 }
 
-// What stands behind the names in the line of an event with these fields and this payload.
+// What stands in the line of an event before its fields.
+const NAMES: &[u8] = b"event        100          1          1 P E";
+
+// What stands behind the names in the line of an event with these fields and this payload, nothing if it is refused.
 fn shown(alloc: Global, fields: &[Field], payload: &[u8]) -> Result<Vec<u8>, AllocError> {
-    let kinds = [meta(alloc, fields)?, event(alloc, 100, 1, 1, payload)?];
-    let mut out = lines_of(alloc, &kinds)?;
-    let start = b"event        100          1          1 P E".len();
-    out.drain(..start.min(out.len()));
-    Ok(out)
+    let mut listing = Listing::new(alloc);
+    let mut line = Vec::new(alloc);
+    if !list_event(alloc, &mut listing, fields, payload, &mut line)? {
+        line.clear();
+    }
+    let start = NAMES.len().min(line.len());
+    line[start..].to_vec(alloc)
+}
+
+// Whether this stands there.
+fn is_shown(
+    alloc: Global,
+    fields: &[Field],
+    payload: &[u8],
+    want: &str,
+) -> Result<bool, AllocError> {
+    let text = shown(alloc, fields, payload)?;
+    Ok(text.as_slice() == want.as_bytes())
 }
 
 const NAME: &[u16] = &[110];
 
+// A type code, a payload, and what stands behind the names where the only field, n, has this code.
+type Case = (u8, &'static [u8], &'static str);
+
+// What the first case wants that is not shown.
+fn first_missing(alloc: Global, cases: &[Case]) -> Result<Option<&'static str>, AllocError> {
+    for (code, payload, want) in cases {
+        if !is_shown(alloc, &[(0, *code, NAME)], payload, want)? {
+            return Ok(Some(*want));
+        }
+    }
+    Ok(None)
+}
+
 #[test]
 fn a_number_stands_in_decimal_with_its_sign(rt: HostRuntime) -> Result<(), Fail> {
-    let cases: [(u8, &[u8], &str); 20] = [
+    let cases: [Case; 20] = [
         (5, &[0x80], " n=-128\n"),
         (5, &[0x7f], " n=127\n"),
         (6, &[0], " n=0\n"),
@@ -122,16 +158,13 @@ fn a_number_stands_in_decimal_with_its_sign(rt: HostRuntime) -> Result<(), Fail>
         (3, &[2, 0, 0, 0], " payload=02000000\n"),
         (3, &[1, 0, 0], " payload=010000\n"),
     ];
-    for (code, payload, want) in cases {
-        let text = shown(rt.alloc(), &[(0, code, NAME)], payload)?;
-        assert_eq!(rt; text.as_slice(), want.as_bytes());
-    }
+    assert_eq!(rt; first_missing(rt.alloc(), &cases)?, None);
     Ok(())
 }
 
 #[test]
 fn a_float_stands_as_a_number_that_reads_back(rt: HostRuntime) -> Result<(), Fail> {
-    let cases: [(u8, &[u8], &str); 12] = [
+    let cases: [Case; 12] = [
         (13, &[0, 0, 0xc0, 0x3f], " n=1.5\n"),
         (13, &[0xcd, 0xcc, 0xcc, 0x3d], " n=0.1\n"),
         (13, &[0, 0, 0x80, 0x7f], " n=inf\n"),
@@ -149,10 +182,7 @@ fn a_float_stands_as_a_number_that_reads_back(rt: HostRuntime) -> Result<(), Fai
         (14, &[0, 0, 0, 0, 0, 0, 0xf8, 0x7f], " n=NaN\n"),
         (14, &[0, 0, 0, 0, 0, 0, 0xf0], " payload=000000000000f0\n"),
     ];
-    for (code, payload, want) in cases {
-        let text = shown(rt.alloc(), &[(0, code, NAME)], payload)?;
-        assert_eq!(rt; text.as_slice(), want.as_bytes());
-    }
+    assert_eq!(rt; first_missing(rt.alloc(), &cases)?, None);
     Ok(())
 }
 
@@ -163,16 +193,13 @@ const COUNTED: &[u8] = &[0, 1, 2, 3, 4, 5, 6, 7, 8, 9, 10, 11, 12, 13, 14, 15];
 
 #[test]
 fn long_values_have_their_usual_forms(rt: HostRuntime) -> Result<(), Fail> {
-    let cases: [(u8, &[u8], &str); 4] = [
+    let cases: [Case; 4] = [
         (15, COUNTED, " n=000102030405060708090a0b0c0d0e0f\n"),
         (16, DATE, " n=2024-02-29T23:59:58.007\n"),
         (17, COUNTED, " n=03020100-0504-0706-0809-0a0b0c0d0e0f\n"),
         (17, &[1, 2, 3], " payload=010203\n"),
     ];
-    for (code, payload, want) in cases {
-        let text = shown(rt.alloc(), &[(0, code, NAME)], payload)?;
-        assert_eq!(rt; text.as_slice(), want.as_bytes());
-    }
+    assert_eq!(rt; first_missing(rt.alloc(), &cases)?, None);
     Ok(())
 }
 
@@ -180,7 +207,7 @@ fn long_values_have_their_usual_forms(rt: HostRuntime) -> Result<(), Fail> {
 // greatest units that stand as they are; and one without an end.
 #[test]
 fn texts_of_strangers_are_escaped(rt: HostRuntime) -> Result<(), Fail> {
-    let cases: [(u8, &[u8], &str); 6] = [
+    let cases: [Case; 6] = [
         (4, &[65, 0], " n=\"A\"\n"),
         (4, &[34, 0], " n=\"\\u0022\"\n"),
         (18, &[0, 0], " n=\"\"\n"),
@@ -192,72 +219,100 @@ fn texts_of_strangers_are_escaped(rt: HostRuntime) -> Result<(), Fail> {
         (18, &[97, 0], " payload=6100\n"),
         (18, &[97, 0, 0], " payload=610000\n"),
     ];
-    for (code, payload, want) in cases {
-        let text = shown(rt.alloc(), &[(0, code, NAME)], payload)?;
-        assert_eq!(rt; text.as_slice(), want.as_bytes());
-    }
-    Ok(())
-}
-
-// The name has a letter, an equals sign, a space and a backslash.
-#[test]
-fn names_of_fields_are_escaped(rt: HostRuntime) -> Result<(), Fail> {
-    let text = shown(rt.alloc(), &[(0, 6, &[97, 61, 32, 92])], &[7])?;
-    assert_eq!(rt; text.as_slice(), b" a\\u003d\\u0020\\u005c=7\n".as_slice());
+    assert_eq!(rt; first_missing(rt.alloc(), &cases)?, None);
     Ok(())
 }
 
 // An object a with a number b and an object c, which has a number d; a number e; and an empty object f.
+const OBJECTS: &[Field] = &[
+    (0, 1, &[97]),
+    (1, 6, &[98]),
+    (1, 1, &[99]),
+    (2, 6, &[100]),
+    (0, 6, &[101]),
+    (0, 1, &[102]),
+];
+
+// A name with a letter, an equals sign, a space and a backslash; then the objects.
 #[test]
-fn fields_inside_objects_stand_between_braces(rt: HostRuntime) -> Result<(), Fail> {
-    let fields: [Field; 6] = [
-        (0, 1, &[97]),
-        (1, 6, &[98]),
-        (1, 1, &[99]),
-        (2, 6, &[100]),
-        (0, 6, &[101]),
-        (0, 1, &[102]),
+fn names_are_escaped_and_objects_stand_between_braces(rt: HostRuntime) -> Result<(), Fail> {
+    let cases: [(&[Field], &[u8], &str); 2] = [
+        (
+            &[(0, 6, &[97, 61, 32, 92])],
+            &[7],
+            " a\\u003d\\u0020\\u005c=7\n",
+        ),
+        (OBJECTS, &[1, 2, 3], " a={ b=1 c={ d=2 } } e=3 f={ }\n"),
     ];
-    let text = shown(rt.alloc(), &fields, &[1, 2, 3])?;
-    assert_eq!(rt;
-        text.as_slice(),
-        b" a={ b=1 c={ d=2 } } e=3 f={ }\n".as_slice()
-    );
+    for (fields, payload, want) in cases {
+        assert!(rt; is_shown(rt.alloc(), fields, payload, want)?, "{want}");
+    }
     Ok(())
 }
 
+const PAIR: &[Field] = &[(0, 6, &[97]), (0, 8, &[98])];
+
+// A byte and a number of two bytes; no fields; and a field of an unknown type.
 #[test]
 fn a_payload_that_does_not_fit_stands_whole(rt: HostRuntime) -> Result<(), Fail> {
-    let fields: [Field; 2] = [(0, 6, &[97]), (0, 8, &[98])];
-    let cases: [(&[u8], &str); 4] = [
-        (&[1, 2, 3], " a=1 b=770\n"),
-        (&[1, 2], " payload=0102\n"),
-        (&[1, 2, 3, 4], " payload=01020304\n"),
-        (&[], " payload=\n"),
+    let cases: [(&[Field], &[u8], &str); 6] = [
+        (PAIR, &[1, 2, 3], " a=1 b=770\n"),
+        (PAIR, &[1, 2], " payload=0102\n"),
+        (PAIR, &[1, 2, 3, 4], " payload=01020304\n"),
+        (PAIR, &[], " payload=\n"),
+        (&[], &[], "\n"),
+        (&[(0, 19, NAME)], &[1], " payload=01\n"),
     ];
-    for (payload, want) in cases {
-        let text = shown(rt.alloc(), &fields, payload)?;
-        assert_eq!(rt; text.as_slice(), want.as_bytes());
+    for (fields, payload, want) in cases {
+        assert!(rt; is_shown(rt.alloc(), fields, payload, want)?, "{want}");
     }
-    let none = shown(rt.alloc(), &[], &[])?;
-    assert_eq!(rt; none.as_slice(), b"\n".as_slice());
-    let unknown = shown(rt.alloc(), &[(0, 19, NAME)], &[1])?;
-    assert_eq!(rt; unknown.as_slice(), b" payload=01\n".as_slice());
     Ok(())
+}
+
+// An item: the definition of P E under the id 1, without fields; an event of it with its stamp, its capture thread and its
+// number; or a point with its stamp and its threads.
+#[derive(Clone, Copy)]
+enum Given {
+    Meta,
+    Event(u64, u64, u32),
+    Point(u64, [(u64, u32); 3]),
+}
+
+fn item(alloc: Global, given: Given) -> Result<ItemKind, AllocError> {
+    match given {
+        Given::Meta => meta(alloc, &[]),
+        Given::Event(stamp, capture, number) => event(alloc, stamp, capture, number, b""),
+        Given::Point(stamp, threads) => Ok(ItemKind::Point {
+            stamp,
+            threads: Items::new(threads.to_vec(alloc)?),
+        }),
+    }
+}
+
+// The lines of these items, up to the first that is refused.
+fn lines_of(alloc: Global, items: &[Given]) -> Result<Vec<u8>, AllocError> {
+    let mut listing = Listing::new(alloc);
+    let mut out = Vec::new(alloc);
+    for given in items {
+        if !list(&mut listing, item(alloc, *given)?, &mut out) {
+            break;
+        }
+    }
+    Ok(out)
 }
 
 // Thread 1 leaves out 2 and 3, and then 5 to 7 up to the point; thread 2 leaves out 1 to 4 there, and nothing after it.
 #[test]
 fn what_is_lost_stands_where_it_is_lost(rt: HostRuntime) -> Result<(), Fail> {
-    let kinds = [
-        meta(rt.alloc(), &[])?,
-        event(rt.alloc(), 10, 1, 1, b"")?,
-        event(rt.alloc(), 20, 1, 4, b"")?,
-        point(rt.alloc(), 30, &[(1, 7), (2, 4), (1, 8)])?,
-        event(rt.alloc(), 40, 2, 5, b"")?,
-        event(rt.alloc(), 50, 1, 8, b"")?,
+    let items = [
+        Given::Meta,
+        Given::Event(10, 1, 1),
+        Given::Event(20, 1, 4),
+        Given::Point(30, [(1, 7), (2, 4), (1, 8)]),
+        Given::Event(40, 2, 5),
+        Given::Event(50, 1, 8),
     ];
-    let text = lines_of(rt.alloc(), &kinds)?;
+    let text = lines_of(rt.alloc(), &items)?;
     let want = "event         10          1          1 P E
 lost          1          2
 event         20          1          4 P E
@@ -276,13 +331,13 @@ event         50          1          8 P E
 // The second definition has the first one's id.
 #[test]
 fn an_item_that_is_refused_has_no_line(rt: HostRuntime) -> Result<(), Fail> {
-    let kinds = [
-        meta(rt.alloc(), &[])?,
-        event(rt.alloc(), 10, 1, 1, b"")?,
-        meta(rt.alloc(), &[])?,
-        event(rt.alloc(), 20, 1, 2, b"")?,
+    let items = [
+        Given::Meta,
+        Given::Event(10, 1, 1),
+        Given::Meta,
+        Given::Event(20, 1, 2),
     ];
-    let text = lines_of(rt.alloc(), &kinds)?;
+    let text = lines_of(rt.alloc(), &items)?;
     assert_eq!(rt;
         text.as_slice(),
         b"event         10          1          1 P E\n".as_slice()

@@ -8,7 +8,7 @@ use std::thread;
 const LOOKS: u32 = 10_000_000;
 
 /// What a gate learns of.
-#[derive(Clone, Copy, Debug, PartialEq, Eq)]
+#[derive(Clone, Copy, PartialEq, Eq)]
 pub(super) enum Event {
     /// A thread of the run came to a moment.
     At(Moment),
@@ -17,7 +17,7 @@ pub(super) enum Event {
 }
 
 /// Where somebody waits.
-#[derive(Clone, Copy, Debug)]
+#[derive(Clone, Copy)]
 enum Place {
     /// A thread of the run, at a moment.
     At(Moment),
@@ -27,7 +27,7 @@ enum Place {
 
 /// Whoever comes to a place waits there until something has happened so often. A sweep stands for each of its session that
 /// took as much at least.
-#[derive(Clone, Copy, Debug)]
+#[derive(Clone, Copy)]
 pub(super) struct Hold {
     place: Place,
     awaited: Event,

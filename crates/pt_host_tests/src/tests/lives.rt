@@ -1,43 +1,42 @@
-//! Asked whose rows serve one thread after another.
-use super::gates::{Hold, answered, begun, opened, swept, until, wrote};
-use super::peers::{Peer, Request, deaf, sound};
-use super::scene::{Asked, lives, run};
-use std::test::Fail;
+//! Runs whose rows serve one thread after another.
+use super::gates::{answered, begun, opened, swept, until, wrote};
+use super::peers::{Request, deaf, sound};
+use super::scene::{Case, come, lives};
+use std::alloc::AllocError;
 
 // A session is open on each of a row's threads, from its first write to its last.
 #[test]
-fn threads_come_and_go(rt: HostRuntime) -> Result<(), Fail> {
+fn threads_come_and_go(rt: HostRuntime) -> Result<(), AllocError> {
     let most = sound(Request::Most);
-    let cases: [(Asked, &[Peer], &str); 4] = [
-        (lives(2, 80, 1, 3), &[], "rows [5-6 80]"),
+    let cases: [Case<'_>; 4] = [
+        (lives(2, 80, 1, 3), &[], &[], "rows [5-6 80]"),
         (
             lives(2, 80, 1, 3),
             &[most],
+            &[],
             "rows [5-6 80]\nsession 1 of 1: program [1-6 0..80 40+0]",
         ),
         (
             lives(2, 0, 1, 3),
             &[most],
+            &[],
             "rows [5-6 0]\nsession 1 of 1: program [1-6 0..0 0+0]",
         ),
         (
             lives(256, 8, 1, 2),
             &[most],
+            &[],
             "rows [257-512 8]\nsession 1 of 1: program [1-512 0..8 4+0]",
         ),
     ];
-    for (asked, peers, want) in &cases {
-        let told = run(&rt, rt.alloc(), *asked, peers, &[])?;
-        assert_eq!(rt; told.text(), *want);
-    }
-    Ok(())
+    come(&rt, rt.alloc(), &cases)
 }
 
 #[test]
-fn sessions_come_and_end_between_two_threads(rt: HostRuntime) -> Result<(), Fail> {
+fn sessions_come_and_end_between_two_threads(rt: HostRuntime) -> Result<(), AllocError> {
     let most = sound(Request::Most);
     let jobs = sound(Request::Jobs);
-    let cases: [(Asked, &[Peer], &[Hold], &str); 3] = [
+    let cases: [Case<'_>; 3] = [
         // The second session comes once the second threads have made one write each.
         (
             lives(2, 80, 1, 3),
@@ -74,9 +73,5 @@ fn sessions_come_and_end_between_two_threads(rt: HostRuntime) -> Result<(), Fail
             "rows [3-4 80]\nsession 1 of 1: link\nsession 2 of 2: program [1-4 0..80 10+0]",
         ),
     ];
-    for (asked, peers, holds, want) in &cases {
-        let told = run(&rt, rt.alloc(), *asked, peers, holds)?;
-        assert!(rt; told.says(want), "{}", told.text());
-    }
-    Ok(())
+    come(&rt, rt.alloc(), &cases)
 }

@@ -30,7 +30,7 @@ const INFO: [u8; 20] = *b"DOTNET_IPC_V1\0\x14\0\x04\0\0\0";
 const STOP: [u8; 28] = *b"DOTNET_IPC_V1\0\x1c\0\x02\x01\0\0\x01\0\0\0\0\0\0\0";
 
 /// What a peer asks for.
-#[derive(Clone, Copy, Debug)]
+#[derive(Clone, Copy)]
 pub(super) enum Request {
     Most,
     Jobs,
@@ -41,7 +41,7 @@ pub(super) enum Request {
 }
 
 /// A peer, and what fails of its link.
-#[derive(Clone, Copy, Debug)]
+#[derive(Clone, Copy)]
 pub(super) struct Peer {
     request: Request,
     /// The number of the read that fails, or 0.

@@ -1,21 +1,25 @@
 //! What the runs of the tests are asked by, and what they come to.
+ghost use Rattle.std.specs.Prelude.{IsTrue};
+ghost use Rattle.ep_defs.specs.Session.{is_valid_facts};
+
 use super::gates::{Hold, Holds};
 use super::peers::{Peer, links_of};
-use super::text::text_of;
-use super::watched::WatchedDock;
+use super::text::put_end;
+use super::watched::{WatchedDock, WatchedLink};
 use ep_defs::limits::{SESSIONS, THREADS, WRITES};
 use ep_defs::{Facts, Items, Marks, standard_info};
 use pt_host::run_live;
 use pt_io::{MemDock, StepClock};
 use pt_load::Plan;
-use pt_roles::{LIVES, LiveOptions};
+use pt_roles::{LIVES, LiveEnd, LiveOptions, LiveSession};
 use std::alloc::{AllocError, Global};
+use std::process::Abort;
 use std::sync::Wait;
 use std::thread::Threads;
 use std::time::Clock as Timer;
 
 /// What is asked of a run. It is brought into its bounds.
-#[derive(Clone, Copy, Debug)]
+#[derive(Clone, Copy)]
 pub(super) struct Asked {
     pub(super) threads: u32,
     pub(super) writes: u32,
@@ -46,30 +50,47 @@ pub(super) fn lives(threads: u32, writes: u32, wait: u32, lives: u32) -> Asked {
     }
 }
 
-/// What a run came to, and what the link of each session took.
-#[derive(Debug, PartialEq, Eq, Drop)]
+/// A run, to whose dock these peers come, and whose threads wait where they are held; and what it comes to, as a text in
+/// which a star stands for whatever is there.
+pub(super) type Case<'a> = (Asked, &'a [Peer], &'a [Hold], &'a str);
+
+/// What a run came to.
+#[derive(Drop)]
 pub(super) struct Told {
-    text: String,
-    pub(super) taken: Vec<Vec<u8>>,
-    /// How many writes of all threads each session took, and how many were refused.
-    pub(super) totals: Vec<(u64, u64)>,
+    pub(super) text: String,
+    /// What the link of the first session took.
+    pub(super) taken: Vec<u8>,
+    /// How many writes of all threads the last session took, and how many were refused.
+    pub(super) total: (u64, u64),
+    /// Whether each session was open on each thread from its first write on, for as many as it makes at most.
+    pub(super) is_within: bool,
 }
 
 impl Told {
-    pub(super) fn text(&self) -> &str {
-        self.text.as_str()
-    }
-
     /// Whether its text is this one. A star stands for whatever is there.
-    pub(super) fn says(&self, text: &str) -> bool {
-        match text.split_once('*') {
-            Some((first, last)) => self.text().starts_with(first) && self.text().ends_with(last),
-            None => self.text() == text,
+    pub(super) fn says(&self, wanted: &str) -> bool {
+        let text = self.text.as_str();
+        match wanted.split_once('*') {
+            Some((first, last)) => text.starts_with(first) && text.ends_with(last),
+            None => text == wanted,
         }
     }
 }
 
-/// Asked the sample program, to whose dock these peers come, and whose threads wait where they are held.
+/// Each of these runs comes to what it is to come to.
+pub(super) fn come<R: Threads + Wait + Timer + Sync + Abort>(
+    rt: &R,
+    alloc: Global,
+    cases: &[Case<'_>],
+) -> Result<(), AllocError> {
+    for (asked, peers, holds, wanted) in cases {
+        let told = run(rt, alloc, *asked, peers, holds)?;
+        assert!(rt; told.says(wanted), "{}", told.text);
+    }
+    Ok(())
+}
+
+/// The sample program, to whose dock these peers come, and whose threads wait where they are held.
 pub(super) fn run<R: Threads + Wait + Timer + Sync>(
     rt: &R,
     alloc: Global,
@@ -89,6 +110,48 @@ fn run_before<R: Threads + Wait + Timer + Sync>(
     peers: &[Peer],
     gate: &Holds,
 ) -> Result<Told, AllocError> {
+    let mut dock = dock_of(alloc, asked, peers, gate)?;
+    let facts = facts_of(alloc);
+    let end = carried_out(rt, alloc, asked, &facts, &mut dock, gate)?;
+    told_of(alloc, asked, &end, !gate.have_met())
+}
+
+fn dock_of<'g>(
+    alloc: Global,
+    asked: Asked,
+    peers: &[Peer],
+    gate: &'g Holds,
+) -> Result<WatchedDock<'g>, AllocError> {
+    let links = links_of(alloc, peers)?;
+    let fails = [asked.failing_turn].to_vec(alloc)?;
+    Ok(WatchedDock::new(MemDock::new(links, 0, fails), gate))
+}
+
+// What the program says of itself.
+fn facts_of(alloc: Global) -> Facts
+    ensures { IsTrue (is_valid_facts result) }
+{
+    Facts {
+        process_id: 7,
+        cookie: [1; 16],
+        command_line: Items::new(Vec::new(alloc)),
+        system: Items::new(Vec::new(alloc)),
+        arch: Items::new(Vec::new(alloc)),
+        info: standard_info(1, 1),
+    }
+}
+
+// The call alone.
+fn carried_out<'g, R: Threads + Wait + Timer + Sync>(
+    rt: &R,
+    alloc: Global,
+    asked: Asked,
+    facts: &Facts,
+    dock: &mut WatchedDock<'g>,
+    gate: &Holds,
+) -> Result<LiveEnd<WatchedLink<'g>>, AllocError>
+    requires { IsTrue (is_valid_facts facts.now) }
+{
     let plan = Plan {
         seed: 0,
         threads: asked.threads.max(1).min(THREADS),
@@ -100,40 +163,56 @@ fn run_before<R: Threads + Wait + Timer + Sync>(
         streamers: asked.streamers.max(1).min(most),
         lives: asked.lives.max(1).min(LIVES),
     };
-    let facts = Facts {
-        process_id: 7,
-        cookie: [1; 16],
-        command_line: Items::new(Vec::new(alloc)),
-        system: Items::new(Vec::new(alloc)),
-        arch: Items::new(Vec::new(alloc)),
-        info: standard_info(1, 1),
-    };
-    let fails = [asked.failing_turn].to_vec(alloc)?;
-    let mut dock = WatchedDock::new(MemDock::new(links_of(alloc, peers)?, 0, fails), gate);
     let clock = StepClock::new(100);
-    let end = run_live(rt, alloc, &plan, &options, &facts, &mut dock, &clock, gate)?;
-    let mut taken = Vec::new(alloc);
-    let mut totals = Vec::new(alloc);
-    for session in &end.sessions {
-        taken.push(session.link.taken().to_vec(alloc)?)?;
-        totals.push(total_of(session.marks.as_slice()))?;
-    }
-    let mut text = text_of(alloc, &end)?;
-    if !gate.have_met() {
-        text.push_str("\nsomebody waited in vain")?;
-    }
+    run_live(rt, alloc, &plan, &options, facts, dock, &clock, gate)
+}
+
+fn told_of(
+    alloc: Global,
+    asked: Asked,
+    end: &LiveEnd<WatchedLink<'_>>,
+    in_vain: bool,
+) -> Result<Told, AllocError> {
+    let mut text = String::new(alloc);
+    put_end(&mut text, end, in_vain)?;
     Ok(Told {
         text,
-        taken,
-        totals,
+        taken: first_taken(&end.sessions).to_vec(alloc)?,
+        total: last_total(&end.sessions),
+        is_within: are_within(&end.sessions, asked.writes),
     })
 }
 
-fn total_of(marks: &[Marks]) -> (u64, u64) {
+fn first_taken<'s>(sessions: &'s [LiveSession<WatchedLink<'_>>]) -> &'s [u8] {
+    match sessions.first() {
+        Some(session) => session.link.taken(),
+        None => &[],
+    }
+}
+
+fn last_total(sessions: &[LiveSession<WatchedLink<'_>>]) -> (u64, u64) {
     let mut total = (0u64, 0u64);
-    for mark in marks {
-        total.0 = total.0.saturating_add(u64::from(mark.taken));
-        total.1 = total.1.saturating_add(u64::from(mark.refused));
+    if let Some(session) = sessions.last() {
+        for mark in session.marks.as_slice() {
+            total.0 = total.0.saturating_add(u64::from(mark.taken));
+            total.1 = total.1.saturating_add(u64::from(mark.refused));
+        }
     }
     total
+}
+
+fn are_within(sessions: &[LiveSession<WatchedLink<'_>>], writes: u32) -> bool {
+    let mut all = true;
+    for session in sessions {
+        all = is_within(session.marks.as_slice(), writes) & all;
+    }
+    all
+}
+
+fn is_within(marks: &[Marks], writes: u32) -> bool {
+    let mut all = true;
+    for mark in marks {
+        all = (mark.from == 0) & (mark.to <= writes) & all;
+    }
+    all
 }

@@ -1,21 +1,21 @@
-//! Asked whose session is stopped.
-use super::gates::{Hold, answered, begun, late, late_as, swept, until, wrote};
-use super::peers::{Peer, Request, sound};
-use super::scene::{Asked, run, runs};
-use std::test::Fail;
+//! Runs whose session is stopped.
+use super::gates::{answered, begun, late, late_as, swept, until, wrote};
+use super::peers::{Request, sound};
+use super::scene::{Case, come, run, runs};
+use std::alloc::AllocError;
 
+// A session that is stopped within its threads' writes was open on each from the first write on.
 #[test]
-fn a_session_is_stopped_while_it_goes_on(rt: HostRuntime) -> Result<(), Fail> {
+fn a_session_is_stopped_while_its_threads_write(rt: HostRuntime) -> Result<(), AllocError> {
     let most = sound(Request::Most);
     let jobs = sound(Request::Jobs);
     let stop = sound(Request::Stop);
-    let cases: [(Asked, &[Peer], &[Hold], &str); 4] = [
-        // Within its threads' writes.
+    let cases: [Case<'_>; 2] = [
         (
-            runs(2, 16, 1),
+            runs(2, 10, 1),
             &[most, stop],
             &[until(wrote(1, 5), answered(2))],
-            "rows [1-2 16]\nsession 1 of 1: stopped by 2 [1-*\nconnection 2: stops 1 28 bytes",
+            "rows [1-2 10]\nsession 1 of 1: stopped by 2 [1-*\nconnection 2: stops 1 28 bytes",
         ),
         // The other session goes on.
         (
@@ -23,6 +23,29 @@ fn a_session_is_stopped_while_it_goes_on(rt: HostRuntime) -> Result<(), Fail> {
             &[most, jobs, stop],
             &[until(wrote(1, 5), answered(3))],
             "rows [1-2 16]\nsession 1 of 1: stopped by 3 [1-*\nsession 2 of 2: program [1-2 0..16 2+0]\nconnection 3: stops 1 28 bytes",
+        ),
+    ];
+    for (asked, peers, holds, wanted) in cases {
+        let told = run(&rt, rt.alloc(), asked, peers, holds)?;
+        assert!(rt; told.says(wanted) & told.is_within, "{}", told.text);
+    }
+    Ok(())
+}
+
+#[test]
+fn a_session_is_stopped_before_and_behind_its_threads_writes(
+    rt: HostRuntime,
+) -> Result<(), AllocError> {
+    let most = sound(Request::Most);
+    let jobs = sound(Request::Jobs);
+    let stop = sound(Request::Stop);
+    let cases: [Case<'_>; 3] = [
+        // Before any write. It counts among those that are waited for, though it has ended.
+        (
+            runs(2, 16, 2),
+            &[most, stop, jobs],
+            &[late_as(3, 1)],
+            "rows [1-2 16]\nsession 1 of 1: stopped by 2 [1-2 0..0 0+0]\nsession 2 of 3: program [1-2 0..16 2+0]\nconnection 2: stops 1 28 bytes",
         ),
         // Behind the last write, before its role knows of the program's end.
         (
@@ -44,9 +67,5 @@ fn a_session_is_stopped_while_it_goes_on(rt: HostRuntime) -> Result<(), Fail> {
             "rows [1-2 16]\nsession 1 of 1: program [1-2 0..16 8+0]\nconnection 2: error 80004005 24 bytes",
         ),
     ];
-    for (asked, peers, holds, want) in &cases {
-        let told = run(&rt, rt.alloc(), *asked, peers, holds)?;
-        assert!(rt; told.says(want), "{}", told.text());
-    }
-    Ok(())
+    come(&rt, rt.alloc(), &cases)
 }

@@ -2,96 +2,146 @@
 use super::watched::WatchedLink;
 use ep_defs::Marks;
 use ep_stream::Fate;
-use pt_roles::LiveEnd;
-use pt_server::ConnAnswer;
-use std::alloc::{AllocError, Global};
+use pt_roles::{LiveEnd, LiveSession};
+use pt_server::{ConnAnswer, ConnEnd};
+use std::alloc::AllocError;
+
+/// What is said of a thread.
+#[derive(Clone, Copy, PartialEq, Eq)]
+enum Said {
+    /// How many writes it made.
+    Writes(u32),
+    /// From which write on a session was open on it, up to which one, how many it took and how many were refused.
+    Marks {
+        from: u32,
+        to: u32,
+        taken: u32,
+        refused: u32,
+    },
+}
+
+/// Threads that follow one another and of which the same is said.
+#[derive(Clone, Copy)]
+struct Group {
+    first: u64,
+    last: u64,
+    said: Said,
+}
 
 /// A line for the rows, for each session and for each other connection. Threads that follow one another and of which the
 /// same is said stand together. Of a session that failed it says nothing of its threads, which rests on when it failed.
-pub(super) fn text_of(alloc: Global, end: &LiveEnd<WatchedLink<'_>>) -> Result<String, AllocError> {
-    let mut text = String::from_str(alloc, "rows")?;
-    let mut rows = Vec::new(alloc);
-    for (thread, writes) in &end.rows {
-        rows.push((*thread, format!(in alloc; "{writes}")?))?;
-    }
-    put_threads(&mut text, &rows)?;
+pub(super) fn put_end(
+    text: &mut String,
+    end: &LiveEnd<WatchedLink<'_>>,
+    in_vain: bool,
+) -> Result<(), AllocError> {
+    put_rows(text, &end.rows)?;
     for session in &end.sessions {
-        let (id, conn) = (session.id, session.conn);
-        let fate = fate_text(alloc, session.fate)?;
-        write!(text, "\nsession {id} of {conn}: {fate}")?;
-        if matches!(session.fate, Fate::Requested { .. } | Fate::ProgramEnd) {
-            let marks = marks_text(alloc, session.marks.as_slice())?;
-            put_threads(&mut text, &marks)?;
-        }
+        put_session(text, session)?;
     }
     for conn in &end.conns {
-        let number = conn.conn;
-        let answer = answer_text(alloc, conn.answer)?;
-        let bytes = conn.link.taken().len();
-        write!(text, "\nconnection {number}: {answer} {bytes} bytes")?;
+        put_conn(text, conn)?;
     }
     if end.dock_failed {
         text.push_str("\nthe dock failed")?;
     }
-    Ok(text)
-}
-
-// Of each thread: from which write on, up to which one, how many were taken and how many refused.
-fn marks_text(alloc: Global, marks: &[Marks]) -> Result<Vec<(u64, String)>, AllocError> {
-    let mut told = Vec::new(alloc);
-    for mark in marks {
-        let Marks {
-            thread,
-            from,
-            to,
-            taken,
-            refused,
-        } = *mark;
-        told.push((thread, format!(in alloc; "{from}..{to} {taken}+{refused}")?))?;
-    }
-    Ok(told)
-}
-
-fn put_threads(text: &mut String, told: &[(u64, String)]) -> Result<(), AllocError> {
-    let mut group: Option<(u64, u64, &str)> = None;
-    for (thread, said) in told {
-        group = match group {
-            Some((first, last, same)) if last.wrapping_add(1) == *thread && same == said.as_str() =>
-                { Some((first, *thread, same)) }
-            Some(ended) => {
-                put_group(text, ended)?;
-                Some((*thread, *thread, said.as_str()))
-            }
-            None => Some((*thread, *thread, said.as_str())),
-        };
-    }
-    if let Some(ended) = group {
-        put_group(text, ended)?;
+    if in_vain {
+        text.push_str("\nsomebody waited in vain")?;
     }
     Ok(())
 }
 
-fn put_group(text: &mut String, group: (u64, u64, &str)) -> Result<(), AllocError> {
-    let (first, last, said) = group;
-    write!(text, " [{first}-{last} {said}]")
-}
-
-fn fate_text(alloc: Global, fate: Fate) -> Result<String, AllocError> {
-    match fate {
-        Fate::Requested { conn } => format!(in alloc; "stopped by {conn}"),
-        Fate::ProgramEnd => String::from_str(alloc, "program"),
-        Fate::LinkFault => String::from_str(alloc, "link"),
-        Fate::TooLong => String::from_str(alloc, "long"),
-        Fate::OutOfMemory => String::from_str(alloc, "memory"),
+fn put_rows(text: &mut String, rows: &[(u64, u32)]) -> Result<(), AllocError> {
+    text.push_str("rows")?;
+    let mut group = None;
+    for (thread, writes) in rows {
+        group = Some(put_thread(text, group, *thread, Said::Writes(*writes))?);
     }
+    put_group(text, group)
 }
 
-fn answer_text(alloc: Global, answer: ConnAnswer) -> Result<String, AllocError> {
+fn put_session(
+    text: &mut String,
+    session: &LiveSession<WatchedLink<'_>>,
+) -> Result<(), AllocError> {
+    let (id, conn, fate) = (session.id, session.conn, session.fate);
+    write!(text, "\nsession {id} of {conn}: ")?;
+    match fate {
+        Fate::Requested { conn } => write!(text, "stopped by {conn}")?,
+        Fate::ProgramEnd => text.push_str("program")?,
+        Fate::LinkFault => return text.push_str("link"),
+        Fate::TooLong => return text.push_str("long"),
+        Fate::OutOfMemory => return text.push_str("memory"),
+    }
+    put_marks(text, session.marks.as_slice())
+}
+
+fn put_marks(text: &mut String, marks: &[Marks]) -> Result<(), AllocError> {
+    let mut group = None;
+    for mark in marks {
+        let said = Said::Marks {
+            from: mark.from,
+            to: mark.to,
+            taken: mark.taken,
+            refused: mark.refused,
+        };
+        group = Some(put_thread(text, group, mark.thread, said)?);
+    }
+    put_group(text, group)
+}
+
+fn put_conn(text: &mut String, end: &ConnEnd<WatchedLink<'_>>) -> Result<(), AllocError> {
+    let (conn, answer) = (end.conn, end.answer);
+    write!(text, "\nconnection {conn}: ")?;
     match answer {
-        ConnAnswer::Error { code } => format!(in alloc; "error {code:x}"),
-        ConnAnswer::Info => String::from_str(alloc, "info"),
-        ConnAnswer::Stopped { session } => format!(in alloc; "stops {session}"),
-        ConnAnswer::ReadFault => String::from_str(alloc, "read fault"),
-        ConnAnswer::WriteFault => String::from_str(alloc, "write fault"),
+        ConnAnswer::Error { code } => write!(text, "error {code:x}")?,
+        ConnAnswer::Info => text.push_str("info")?,
+        ConnAnswer::Stopped { session } => write!(text, "stops {session}")?,
+        ConnAnswer::ReadFault => text.push_str("read fault")?,
+        ConnAnswer::WriteFault => text.push_str("write fault")?,
+    }
+    let bytes = end.link.taken().len();
+    write!(text, " {bytes} bytes")
+}
+
+// The group with this thread, to which it belongs or behind which it begins another.
+fn put_thread(
+    text: &mut String,
+    group: Option<Group>,
+    thread: u64,
+    said: Said,
+) -> Result<Group, AllocError> {
+    let mut first = thread;
+    match group {
+        Some(same) if same.last.wrapping_add(1) == thread && same.said == said => {
+            first = same.first;
+        }
+        ended => put_group(text, ended)?,
+    }
+    Ok(Group {
+        first,
+        last: thread,
+        said,
+    })
+}
+
+fn put_group(text: &mut String, group: Option<Group>) -> Result<(), AllocError> {
+    let Some(Group { first, last, said }) = group else {
+        return Ok(());
+    };
+    write!(text, " [{first}-{last} ")?;
+    put_said(text, said)?;
+    text.push_str("]")
+}
+
+fn put_said(text: &mut String, said: Said) -> Result<(), AllocError> {
+    match said {
+        Said::Writes(writes) => write!(text, "{writes}"),
+        Said::Marks {
+            from,
+            to,
+            taken,
+            refused,
+        } => write!(text, "{from}..{to} {taken}+{refused}"),
     }
 }

@@ -1,47 +1,28 @@
 //! Words of `trace`, good and bad.
+use super::texts::words_of;
 use ep_defs::Config;
 use pt_cli::asked_of;
-use pt_load::Plan;
-use std::alloc::Global;
+use std::alloc::{AllocError, Global};
 use std::test::Fail;
 
-// Words with the plan and the chunks that they ask for, for a session of the text `P:1:4`.
-const GOOD: [(&str, Plan, u32); 4] = [
-    (
-        "trace 2 8 P:1:4",
-        Plan {
-            seed: 0,
-            threads: 2,
-            writes: 8,
-        },
-        4_096,
-    ),
+/// The seed, the threads and the writes of a plan; the chunks of a session, how many rules it has, whether it gets stacks,
+/// and whether it gets a rundown.
+type Numbers = (u64, u32, u32, u32, usize, bool, bool);
+
+// Words that ask for a plan and a session.
+const GOOD: [(&str, Numbers); 4] = [
+    ("trace 2 8 P:1:4", (0, 2, 8, 4_096, 1, true, false)),
     (
         "trace 1 0 P:1:4 --mb 1 --seed=7",
-        Plan {
-            seed: 7,
-            threads: 1,
-            writes: 0,
-        },
-        16,
+        (7, 1, 0, 16, 1, true, false),
     ),
     (
         "trace --seed 18446744073709551615 256 --mb=1024 4000000000 P:1:4",
-        Plan {
-            seed: u64::MAX,
-            threads: 256,
-            writes: 4_000_000_000,
-        },
-        16_384,
+        (u64::MAX, 256, 4_000_000_000, 16_384, 1, true, false),
     ),
     (
         "trace 001 1 P:1:4 --mb 4294967295",
-        Plan {
-            seed: 0,
-            threads: 1,
-            writes: 1,
-        },
-        16_384,
+        (0, 1, 1, 16_384, 1, true, false),
     ),
 ];
 
@@ -66,41 +47,42 @@ const OTHERS: [&str; 17] = [
     "gen 1 1",
 ];
 
-fn owned(alloc: Global, words: &str) -> Result<Vec<String>, Fail> {
-    let mut owned = Vec::new(alloc);
-    for word in words.split(' ') {
-        owned.push(String::from_str(alloc, word)?)?;
-    }
-    Ok(owned)
+// The numbers that the words ask for.
+fn numbers(alloc: Global, words: &str) -> Result<Option<Numbers>, AllocError> {
+    let words = words_of(alloc, words)?;
+    let Some(asked) = asked_of(alloc, &words)? else {
+        return Ok(None);
+    };
+    let plan = asked.plan;
+    let Config {
+        rules,
+        chunks,
+        stackwalk,
+        rundown,
+    } = asked.config;
+    Ok(Some((
+        plan.seed,
+        plan.threads,
+        plan.writes,
+        chunks,
+        rules.as_slice().len(),
+        stackwalk,
+        rundown,
+    )))
 }
 
 #[test]
 fn words_ask_for_a_plan_and_a_session(rt: HostRuntime) -> Result<(), Fail> {
-    let alloc = rt.alloc();
-    for (words, plan, chunks) in GOOD {
-        let words = owned(alloc, words)?;
-        let Some(asked) = asked_of(alloc, &words)? else {
-            return Err("good words are refused")?;
-        };
-        assert_eq!(rt; asked.plan, plan);
-        let Config {
-            rules,
-            chunks: budget,
-            stackwalk,
-            rundown,
-        } = asked.config;
-        assert_eq!(rt; (budget, stackwalk, rundown), (chunks, true, false));
-        assert_eq!(rt; rules.as_slice().len(), 1);
+    for (words, wanted) in GOOD {
+        assert_eq!(rt; numbers(rt.alloc(), words)?, Some(wanted));
     }
     Ok(())
 }
 
 #[test]
 fn other_words_are_refused(rt: HostRuntime) -> Result<(), Fail> {
-    let alloc = rt.alloc();
     for words in OTHERS {
-        let words = owned(alloc, words)?;
-        assert!(rt; asked_of(alloc, &words)?.is_none());
+        assert_eq!(rt; numbers(rt.alloc(), words)?, None);
     }
     Ok(())
 }

@@ -1,8 +1,10 @@
 use super::SocketDock;
+use crate::socket::SocketLink;
 use pt_io::{Arrival, Dock, Link, Sink, Source};
 use std::io::{Read, Write};
 use std::os::unix::fs::PermissionsExt;
-use std::os::unix::net::UnixStream;
+use std::os::unix::net::{UnixListener, UnixStream};
+use std::thread::Threads;
 use std::{env, fs, io, process, thread};
 
 // A path for a socket of this name, which no other test and no other run of the tests has.
@@ -12,58 +14,106 @@ fn path_of(rt: HostRuntime, name: &str) -> io::Result<String> {
     Ok(format!(in rt.alloc(); "{}/dock-{process}-{name}", folder.display())?)
 }
 
-// Connects three times. Each time it sends a byte, and wants the next one back.
-fn three_peers(rt: HostRuntime, path: &str) -> io::Result<bool> {
-    let mut answered = true;
-    for byte in 0..3 {
-        let mut stream = UnixStream::connect(&rt, path)?;
-        stream.write_all(&[byte])?;
-        let mut answer = [0];
-        stream.read_exact(&mut answer)?;
-        answered &= answer == [byte + 1];
-    }
-    Ok(answered)
+// Connects and sends a byte. Says whether the next one comes back.
+fn one_peer(rt: HostRuntime, path: &str, byte: u8) -> io::Result<bool> {
+    let mut stream = UnixStream::connect(&rt, path)?;
+    stream.write_all(&[byte])?;
+    let mut answer = [0];
+    stream.read_exact(&mut answer)?;
+    Ok(answer == [byte.wrapping_add(1)])
 }
 
-// Answers the next peer, with the byte after the one that it sends.
+// Three peers, one after another.
+fn three_peers(rt: HostRuntime, path: &str) -> io::Result<[bool; 3]> {
+    Ok([
+        one_peer(rt, path, 0)?,
+        one_peer(rt, path, 1)?,
+        one_peer(rt, path, 2)?,
+    ])
+}
+
+// Answers a peer with the byte after the one that it sends.
+fn is_answered(link: &mut SocketLink<HostRuntime>) -> bool {
+    let mut byte = [0];
+    let is_read = link.read(&mut byte) == Ok(1);
+    let is_written = link.write(&[byte[0].wrapping_add(1)]) == Ok(());
+    link.shut();
+    is_read && is_written
+}
+
+// Answers the next peer.
 fn is_served(dock: &mut SocketDock<HostRuntime>) -> bool {
     for _turn in 0..1_000 {
         if let Ok(Arrival::Link(mut link)) = dock.next() {
-            let mut byte = [0];
-            let is_read = link.read(&mut byte) == Ok(1);
-            let is_written = link.write(&[byte[0].wrapping_add(1)]).is_ok();
-            link.shut();
-            return is_read && is_written;
+            return is_answered(&mut link);
         }
     }
     false
 }
 
+fn is_quiet(dock: &mut SocketDock<HostRuntime>) -> bool {
+    matches!(dock.next(), Ok(Arrival::Quiet))
+}
+
+// Whether two turns of a dock at this path fail: it does not try again.
+fn turns_fail(rt: HostRuntime, path: Option<String>) -> [bool; 2] {
+    let mut dock = SocketDock::new(rt, path);
+    [dock.next().is_err(), dock.next().is_err()]
+}
+
+// Three peers come from a thread. Whether each is served, and got its answer.
+fn meet(
+    threads: &impl Threads,
+    rt: HostRuntime,
+    dock: &mut SocketDock<HostRuntime>,
+    path: String,
+) -> io::Result<[[bool; 3]; 2]> {
+    let peers = thread::spawn(threads, move || three_peers(rt, &path))?;
+    let served = [is_served(dock), is_served(dock), is_served(dock)];
+    Ok([served, peers.join(threads)?])
+}
+
 #[test]
 fn three_peers_come_and_are_answered(rt: HostRuntime) -> io::Result<()> {
     let path = path_of(rt, "peers")?;
-    let theirs = path.clone()?;
-    let mut dock = SocketDock::new(rt, Some(path));
+    let mut dock = SocketDock::new(rt, Some(path.clone()?));
     // Nobody can come before it listens.
-    assert!(rt; matches!(dock.next(), Ok(Arrival::Quiet)));
-    let peers = thread::spawn(&rt, move || three_peers(rt, &theirs))?;
-    for _peer in 0..3 {
-        assert!(rt; is_served(&mut dock));
-    }
-    assert!(rt; peers.join(&rt)?);
+    let quiet = is_quiet(&mut dock);
+    assert_eq!(rt;
+        (quiet, meet(&rt, rt, &mut dock, path)?),
+        (true, [[true; 3]; 2])
+    );
     Ok(())
+}
+
+#[test]
+fn a_socket_that_listens_is_not_pushed_away(rt: HostRuntime) -> io::Result<()> {
+    let path = path_of(rt, "live")?;
+    let mut dock = SocketDock::new(rt, Some(path.clone()?));
+    let _quiet = is_quiet(&mut dock);
+    let other = turns_fail(rt, Some(path.clone()?));
+    assert_eq!(rt;
+        (other, meet(&rt, rt, &mut dock, path)?),
+        ([true; 2], [[true; 3]; 2])
+    );
+    Ok(())
+}
+
+// Whether the file is there before a dock at this path listens, its mode while it does, and whether it is there once the
+// dock has gone.
+fn file_of(rt: HostRuntime, path: &str) -> io::Result<(bool, u32, bool)> {
+    let mut dock = SocketDock::new(rt, Some(String::from_str(rt.alloc(), path)?));
+    let before = fs::exists(&rt, path)?;
+    let _quiet = is_quiet(&mut dock);
+    let mode = fs::metadata(&rt, path)?.permissions().mode();
+    drop(dock);
+    Ok((before, mode & 0o777, fs::exists(&rt, path)?))
 }
 
 #[test]
 fn the_file_is_its_owners_and_goes_with_the_dock(rt: HostRuntime) -> io::Result<()> {
     let path = path_of(rt, "file")?;
-    let mut dock = SocketDock::new(rt, Some(path.clone()?));
-    assert!(rt; !fs::exists(&rt, &path)?);
-    let _quiet = dock.next();
-    let mode = fs::metadata(&rt, &path)?.permissions().mode();
-    assert_eq!(rt; mode & 0o777, 0o600);
-    drop(dock);
-    assert!(rt; !fs::exists(&rt, &path)?);
+    assert_eq!(rt; file_of(rt, path.as_str())?, (false, 0o600, false));
     Ok(())
 }
 
@@ -71,37 +121,30 @@ fn the_file_is_its_owners_and_goes_with_the_dock(rt: HostRuntime) -> io::Result<
 fn a_path_that_is_taken_fails_and_stays(rt: HostRuntime) -> io::Result<()> {
     let path = path_of(rt, "taken")?;
     fs::write(&rt, &path, "mine")?;
-    let mut dock = SocketDock::new(rt, Some(path.clone()?));
-    assert!(rt; dock.next().is_err());
-    // It does not try again.
-    assert!(rt; dock.next().is_err());
-    drop(dock);
-    assert_eq!(rt; fs::read_to_string(&rt, &path)?.as_str(), "mine");
+    let turns = turns_fail(rt, Some(path.clone()?));
+    assert_eq!(rt;
+        (turns, fs::read_to_string(&rt, &path)?.as_str()),
+        ([true; 2], "mine")
+    );
+    fs::remove_file(&rt, &path)
+}
+
+// Whoever listened there has gone, and has left the file.
+#[test]
+fn a_socket_that_was_left_fails_and_stays(rt: HostRuntime) -> io::Result<()> {
+    let path = path_of(rt, "left")?;
+    drop(UnixListener::bind(&rt, &path)?);
+    let turns = turns_fail(rt, Some(path.clone()?));
+    assert_eq!(rt; (turns, fs::exists(&rt, &path)?), ([true; 2], true));
     fs::remove_file(&rt, &path)
 }
 
 #[test]
-fn a_socket_that_listens_is_not_pushed_away(rt: HostRuntime) -> io::Result<()> {
-    let path = path_of(rt, "live")?;
-    let theirs = path.clone()?;
-    let mut dock = SocketDock::new(rt, Some(path.clone()?));
-    let _quiet = dock.next();
-    let mut other = SocketDock::new(rt, Some(path));
-    assert!(rt; other.next().is_err());
-    drop(other);
-    let peers = thread::spawn(&rt, move || three_peers(rt, &theirs))?;
-    for _peer in 0..3 {
-        assert!(rt; is_served(&mut dock));
-    }
-    assert!(rt; peers.join(&rt)?);
-    Ok(())
-}
-
-#[test]
 fn a_dock_without_a_path_or_with_a_long_one_fails(rt: HostRuntime) -> io::Result<()> {
-    let mut nowhere = SocketDock::new(rt, None);
-    assert!(rt; nowhere.next().is_err());
-    let mut long = SocketDock::new(rt, Some("a".repeat(rt.alloc(), 200)?));
-    assert!(rt; long.next().is_err());
+    let long = "a".repeat(rt.alloc(), 200)?;
+    assert_eq!(rt;
+        [turns_fail(rt, None), turns_fail(rt, Some(long))],
+        [[true; 2]; 2]
+    );
     Ok(())
 }

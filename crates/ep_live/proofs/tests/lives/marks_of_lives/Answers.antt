@@ -1,8 +1,0 @@
-use Rattle.std.proofs.Common.{◌<◌, length, rules}
-use Rattle.ep_live.proofs.Testing.{program-of}
-use Rattle.ep_live.proofs.tests.lives.marks_of_lives.Goals as goal
-
-pub run-first-requires-clause-program : goal.run-first-requires-clause-program
-run-first-requires-clause-program g c κs within =
-    let some : 0 < length c.in_ok-events.events.items = search rules in
-    program-of 200 c.in_ok-events.events.items _ some c.write-write.ensures.event c.write-write.ensures.fits

@@ -1,5 +1,0 @@
-use Rattle.ep_live.specs.Tests.{IsThread}
-use Rattle.ep_live.proofs.tests.opening.Writing.write_all.Given as goal
-
-abbrev pub invariant-loop : goal.invariant-loop
-invariant-loop g l = IsThread 0 l.thread

@@ -1,5 +1,0 @@
-use Rattle.ep_live.specs.Tests.{AreOpen}
-use Rattle.ep_live.proofs.tests.take_often.Given as goal
-
-abbrev pub invariant-loop : goal.invariant-loop
-invariant-loop g l = AreOpen l.first l.second l.rows

@@ -1,0 +1,3 @@
+mod locks;
+mod shelf;
+mod ties;

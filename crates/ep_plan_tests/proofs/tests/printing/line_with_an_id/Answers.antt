@@ -1,0 +1,12 @@
+use Rattle.std.proofs.Common.{refl, subst, sym}
+use Rattle.std.specs.Prelude.{IsTrue}
+use Rattle.std.specs.Fmt.{digits}
+use Rattle.ep_model.specs.declared.step.Step.{Step}
+use Rattle.hex.specs.Hex.{encode_with}
+use Rattle.ep_plan.specs.Words.{number_text, hex_text, id_text, frames_text, payload_text}
+use Rattle.ep_plan.specs.Printing.{can_print}
+use Rattle.ep_plan_tests.proofs.tests.printing.line_with_an_id.Goals as goal
+
+pub print_step-requires : goal.print_step-requires
+unfolding can_print number_text hex_text id_text frames_text payload_text digits encode_with
+print_step-requires c = subst (λ (s : Step). IsTrue (can_print s)) (sym c.in_ok-begin.ensures) refl

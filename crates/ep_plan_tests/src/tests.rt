@@ -1,0 +1,4 @@
+//! Lines that are read, lines that are printed, and texts of a start.
+mod auto;
+mod printing;
+mod reading;

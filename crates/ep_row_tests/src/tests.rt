@@ -1,0 +1,5 @@
+mod chunks;
+mod listeners;
+mod pools;
+mod rows;
+mod slots;

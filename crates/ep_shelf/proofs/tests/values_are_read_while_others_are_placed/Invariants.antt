@@ -1,5 +1,0 @@
-use Rattle.ep_shelf.proofs.tests.values_are_read_while_others_are_placed.Given as goal
-
--- the shelf that was just made
-abbrev pub ghosts-read_while_placed : goal.ghosts-read_while_placed
-ghosts-read_while_placed g a = record { shelf = a.shelf }

@@ -1,0 +1,5 @@
+//! Sessions that are open nowhere, and sessions over rows.
+mod rows;
+mod scene;
+mod starts;
+mod streams;

@@ -1,5 +1,0 @@
-use Rattle.ep_tie.proofs.tests.halves_agree_after_four_threads.Given as goal
-
--- the set that was just made
-abbrev pub ghosts-raised_by_four : goal.ghosts-raised_by_four
-ghosts-raised_by_four g a = record { ties = a.blank.ties }

@@ -1,0 +1,210 @@
+//! Whole streams, against bytes and offsets that were worked out by hand.
+ghost use Rattle.std.specs.Prelude.{◌≡◌, ◌<◌, ◌≤◌, [], ◌∷◌, length, IsTrue, IfOk};
+ghost use Rattle.ep_defs.specs.Event.{is_valid_event};
+
+use ep_defs::{EventDef, Items, Units, standard_info};
+use nt_write::{EventOut, Fault, TraceWriter};
+use pt_io::MemSink;
+use std::alloc::{AllocError, Global};
+
+const START: &[u8] =
+    b"Nettrace\x14\0\0\0!FastSerialization.1\x05\x05\x01\x04\0\0\0\x04\0\0\0\x05\0\0\0Trace\x06\xb2\x07\x01\0\x04\0\x01\0\0\0\0\0\0\0\0\0\0\0\0\0\0\0\0\0\0\xca\x9a\x3b\0\0\0\0\x08\0\0\0\x01\0\0\0\x01\0\0\0\0\0\0\0\x06";
+
+const DEFINITION: &[u8] =
+    b"\x05\x05\x01\x02\0\0\0\x02\0\0\0\x0d\0\0\0MetadataBlock\x06\x3b\0\0\0\0\x14\0\x01\0\0\0\0\0\0\0\0\0\0\0\0\0\0\0\0\0\xc0\0\x24\x01\0\0\0P\0\0\0\x01\0\0\0E\0\0\0\x01\0\0\0\0\0\0\0\0\0\0\0\x04\0\0\0\0\0\0\0\x06";
+
+const EVENT: &[u8] =
+    b"\x05\x05\x01\x02\0\0\0\x02\0\0\0\x0a\0\0\0EventBlock\x06\x1b\0\0\0\0\0\x14\0\x01\0\x64\0\0\0\0\0\0\0\x64\0\0\0\0\0\0\0\x07\x01\0\x01\0\x01\x64\x06";
+
+// The point at offset 256, whose thread has come to 1.
+const POINT: &[u8] =
+    b"\x05\x05\x01\x02\0\0\0\x02\0\0\0\x07\0\0\0SPBlock\x06\x18\0\0\0\0\xc8\0\0\0\0\0\0\0\x01\0\0\0\x01\0\0\0\0\0\0\0\x01\0\0\0\x06";
+
+const END: &[u8] = b"\x01";
+
+fn text(alloc: Global, unit: u16) -> Result<Units, AllocError>
+    ensures { IfOk result (λ text. text ≡ unit ∷ []) }
+{
+    Ok(Items::new(Vec::from_array(alloc, [unit])?))
+}
+
+// Provider P, event 1 named E, keyword 1, level 4.
+fn definition(alloc: Global) -> Result<EventDef, AllocError>
+    ensures { IfOk result (λ def. IsTrue (is_valid_event def)) }
+{
+    let provider = text(alloc, 0x50)?;
+    let name = text(alloc, 0x45)?;
+    Ok(EventDef {
+        provider,
+        id: 1,
+        version: 0,
+        level: 4,
+        keywords: 1,
+        name,
+        fields: Items::new(Vec::new(alloc)),
+    })
+}
+
+// A call at a stamp: an event of thread 1 with its number, this many bytes of payload, and this many frames of this byte;
+// or a point that names the last number.
+#[derive(Clone, Copy, Debug)]
+enum Call {
+    Event(u32, u64, usize, usize, u8),
+    Point(u32, u64),
+}
+
+// An event without payload and with one frame.
+fn framed(number: u32, stamp: u64) -> Call {
+    Call::Event(number, stamp, 0, 1, 16)
+}
+
+fn tell(
+    alloc: Global,
+    writer: &mut TraceWriter<MemSink>,
+    def: &EventDef,
+    call: &Call,
+) -> Result<Result<(), Fault>, AllocError>
+    requires { IsTrue (is_valid_event def.now) }
+{
+    match *call {
+        Call::Point(number, stamp) => Ok(writer.point(alloc, stamp, &[(1, number)])),
+        Call::Event(number, stamp, size, depth, byte) => {
+            if number == 0 || size > 60_000 || depth > 100 {
+                return Err(AllocError);
+            }
+            let payload = vec![in alloc; 7u8; size]?;
+            let frames = vec![in alloc; byte; 8 * depth]?;
+            let out = EventOut {
+                event: 1,
+                thread: 1,
+                number,
+                stamp,
+                activity: [0; 16],
+                related: [0; 16],
+                frames: frames.as_slice(),
+                payload: payload.as_slice(),
+            };
+            Ok(writer.event(alloc, def, &out))
+        }
+    }
+}
+
+// What a sink took of these calls that fails at this write, the first being 1, and what the end answered.
+fn written(
+    alloc: Global,
+    calls: &[Call],
+    fails: u64,
+) -> Result<(MemSink, Result<(), Fault>), AllocError> {
+    let def = definition(alloc)?;
+    let sink = MemSink::new(Vec::from_array(alloc, [fails])?);
+    let mut writer = match TraceWriter::begin(alloc, sink, &standard_info(1, 1)) {
+        Ok(writer) => writer,
+        Err((sink, fault)) => return Ok((sink, Err(fault))),
+    };
+    for call in calls {
+        let _ = tell(alloc, &mut writer, &def, call)?;
+    }
+    Ok(writer.end(alloc))
+}
+
+// How many bytes are written of these calls, what the end answered, and whether each piece stands at its offset.
+fn holds(
+    alloc: Global,
+    calls: &[Call],
+    pieces: &[(usize, &[u8])],
+) -> Result<(usize, Result<(), Fault>, bool), AllocError> {
+    let (sink, ended) = written(alloc, calls, 0)?;
+    let bytes = sink.taken();
+    let mut all = true;
+    for (at, piece) in pieces {
+        all &= bytes.get(*at..).is_some_and(|rest| rest.starts_with(piece));
+    }
+    Ok((bytes.len(), ended, all))
+}
+
+#[test]
+fn one_event_takes_310_bytes(rt: HostRuntime) -> Result<(), AllocError> {
+    let calls = [Call::Event(1, 100, 0, 0, 0), Call::Point(1, 200)];
+    let pieces = [
+        (0, START),
+        (102, DEFINITION),
+        (196, EVENT),
+        (256, POINT),
+        (309, END),
+    ];
+    assert_eq!(rt; holds(rt.alloc(), &calls, &pieces)?, (310, Ok(()), true));
+    Ok(())
+}
+
+#[test]
+fn a_stack_is_written_again_after_a_point(rt: HostRuntime) -> Result<(), AllocError> {
+    let calls = [
+        framed(1, 1),
+        framed(2, 2),
+        Call::Point(2, 3),
+        framed(3, 4),
+        Call::Point(3, 5),
+    ];
+    let stack: &[u8] = b"\x01\0\0\0\x01\0\0\0\x08\0\0\0\x10\x10\x10\x10\x10\x10\x10\x10\x06";
+    let before: &[u8] = b"\x0f\x01\0\x01\0\x01\x01\x01\0\x01\x06";
+    let after: &[u8] = b"\x0f\x01\x02\x01\0\x01\x01\x04\x06";
+    let pieces = [(228, stack), (300, before), (396, stack), (468, after)];
+    assert_eq!(rt; holds(rt.alloc(), &calls, &pieces)?, (530, Ok(()), true));
+    Ok(())
+}
+
+// How many bytes a sink took of an event and a point that fails at this write, whether they begin the whole stream, and what
+// the end answered.
+fn failing(
+    alloc: Global,
+    whole: &MemSink,
+    fails: u64,
+) -> Result<(usize, bool, Result<(), Fault>), AllocError> {
+    let (sink, ended) = written(alloc, &[framed(1, 100), Call::Point(1, 200)], fails)?;
+    let begins = whole.taken().starts_with(sink.taken());
+    Ok((sink.taken().len(), begins, ended))
+}
+
+#[test]
+fn a_write_that_fails_leaves_what_was_taken_before(rt: HostRuntime) -> Result<(), AllocError> {
+    let (whole, _) = written(rt.alloc(), &[framed(1, 100), Call::Point(1, 200)], 0)?;
+    let failed = Err(Fault::WriteFault);
+    for (call, size, ended) in [
+        (0, 362, Ok(())),
+        (1, 0, failed),
+        (2, 102, failed),
+        (3, 196, failed),
+        (4, 249, failed),
+        (5, 309, failed),
+        (6, 361, failed),
+    ] {
+        assert_eq!(rt; failing(rt.alloc(), &whole, call)?, (size, true, ended));
+    }
+    Ok(())
+}
+
+#[test]
+fn a_body_takes_102400_bytes_at_most(rt: HostRuntime) -> Result<(), AllocError> {
+    let first = Call::Event(1, 1, 60_000, 0, 0);
+    let deep = Call::Event(1, 1, 60_000, 100, 1);
+    for (calls, size) in [
+        ([first, Call::Event(2, 2, 42_282, 0, 0)], 102_547),
+        ([first, Call::Event(2, 2, 42_283, 0, 0)], 102_607),
+        ([deep, Call::Event(2, 2, 60_000, 100, 1)], 121_169),
+    ] {
+        assert_eq!(rt; holds(rt.alloc(), &calls, &[])?, (size, Ok(()), true));
+    }
+    Ok(())
+}
+
+#[test]
+fn a_body_of_stacks_is_full_by_its_own_size(rt: HostRuntime) -> Result<(), AllocError> {
+    let mut calls = Vec::new(rt.alloc());
+    for i in 1..=128u8 {
+        calls.push(Call::Event(u32::from(i), u64::from(i), 0, 100, i))?;
+    }
+    let last: &[u8] = b"\x80\0\0\0\x01\0\0\0\x20\x03\0\0\x80\x80";
+    let held = holds(rt.alloc(), &calls, &[(102_816, last)])?;
+    assert_eq!(rt; held, (103_692, Ok(()), true));
+    Ok(())
+}

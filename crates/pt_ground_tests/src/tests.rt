@@ -1,0 +1,7 @@
+//! A module for each crate that has its tests here.
+mod events;
+mod load;
+mod numbers;
+mod outside;
+mod printing;
+mod words;

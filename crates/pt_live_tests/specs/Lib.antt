@@ -1,0 +1,2 @@
+-- what the tests say
+pub mod Tests

@@ -1,0 +1,7 @@
+mod generated;
+mod items;
+mod pieces;
+mod reports;
+mod runs;
+mod schedules;
+mod streams;

@@ -1,3 +1,0 @@
-//! Reports of items, and of whole streams.
-mod items;
-mod streams;

@@ -1,3 +1,0 @@
-//! The words of a run, and its lines.
-mod lines;
-mod words;

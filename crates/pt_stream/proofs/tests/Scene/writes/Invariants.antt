@@ -1,6 +1,0 @@
-use Rattle.pt_stream.specs.Tests.{IsThread}
-use Rattle.pt_stream.proofs.tests.Scene.writes.Given as goal
-
--- its thread is there
-abbrev pub invariant-loop-turn : goal.invariant-loop-turn
-invariant-loop-turn g l = IsThread l.number l.half
