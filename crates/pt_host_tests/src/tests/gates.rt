@@ -12,6 +12,8 @@ const LOOKS: u32 = 10_000_000;
 pub(super) enum Event {
     /// A thread of the run came to a moment.
     At(Moment),
+    /// The dock came to its turn with this number, from 1.
+    Turn(u64),
     /// The link of the connection with this number was shut.
     Shut { conn: u32 },
 }
@@ -66,7 +68,18 @@ pub(super) fn late_as(turn: u64, conn: u32) -> Hold {
     }
 }
 
-/// The same until it has come so often from then on.
+/// Whoever comes to the moment waits until the dock has come to its turn with this number. The server asks the dock no more
+/// once all threads have ended.
+pub(super) fn until_turn(at: Moment, turn: u64) -> Hold {
+    Hold {
+        place: Place::At(at),
+        awaited: Event::Turn(turn),
+        times: 1,
+        anew: false,
+    }
+}
+
+/// The same hold until it has come so often from then on.
 pub(super) fn often(hold: Hold, times: u64) -> Hold {
     Hold {
         times,
@@ -141,6 +154,7 @@ impl Holds {
 
     /// The dock comes to its turn with this number.
     pub(super) fn turn(&self, number: u64) {
+        self.tell(Event::Turn(number));
         for held in &self.held {
             if matches!(held.hold.place, Place::Turn(turn) if turn == number) {
                 self.wait(held);

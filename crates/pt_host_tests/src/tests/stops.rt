@@ -1,5 +1,5 @@
 //! Runs whose session is stopped.
-use super::gates::{answered, begun, late, late_as, swept, until, wrote};
+use super::gates::{answered, begun, late, late_as, swept, until, until_turn, wrote};
 use super::peers::{Request, sound};
 use super::scene::{Case, come, run, runs};
 use std::alloc::AllocError;
@@ -52,6 +52,7 @@ fn a_session_is_stopped_before_and_behind_its_threads_writes(
             runs(2, 16, 1),
             &[most, stop],
             &[
+                until_turn(begun(1, 0), 2),
                 until(begun(1, 0), swept(1, 0)),
                 late(2, wrote(1, 15)),
                 late(2, wrote(2, 15)),
@@ -63,7 +64,7 @@ fn a_session_is_stopped_before_and_behind_its_threads_writes(
         (
             runs(2, 16, 1),
             &[most, stop],
-            &[late_as(2, 1)],
+            &[until_turn(begun(1, 0), 2), late_as(2, 1)],
             "rows [1-2 16]\nsession 1 of 1: program [1-2 0..16 8+0]\nconnection 2: error 80004005 24 bytes",
         ),
     ];
