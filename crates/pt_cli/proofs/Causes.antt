@@ -66,6 +66,7 @@ plain-causes source sink (Some (command.Events form)) input_old input_new old ne
 plain-causes source sink (Some (command.Gen asked)) input_old input_new old new end comes alone =
     unread-causes source sink input_old input_new old new end (alone refl) (gen-unread end comes.ends) comes.write_fault comes.all_written
 plain-causes source sink (Some (command.Trace asked)) input_old input_new old new end comes alone = line-causes source sink input_old input_new old new end (alone refl) comes
+plain-causes source sink (Some (command.Watch asked)) input_old input_new old new end comes alone = line-causes source sink input_old input_new old new end (alone refl) comes
 plain-causes source sink (Some (command.Run asked)) input_old input_new old new end comes alone = line-causes source sink input_old input_new old new end (alone refl) comes
 plain-causes source sink (Some (command.Client asked)) input_old input_new old new end comes alone = line-causes source sink input_old input_new old new end (alone refl) comes
 plain-causes source sink None input_old input_new old new end comes alone = line-causes source sink input_old input_new old new end (alone refl) comes
@@ -78,6 +79,7 @@ plain-words source sink (Some command.Report) input_old input_new old new end is
 plain-words source sink (Some (command.Events form)) input_old input_new old new end is comes = absurd (cc)
 plain-words source sink (Some (command.Gen asked)) input_old input_new old new end is comes = absurd (cc)
 plain-words source sink (Some (command.Trace asked)) input_old input_new old new end is comes = comes
+plain-words source sink (Some (command.Watch asked)) input_old input_new old new end is comes = comes
 plain-words source sink (Some (command.Run asked)) input_old input_new old new end is comes = comes
 plain-words source sink (Some (command.Client asked)) input_old input_new old new end is comes = comes
 plain-words source sink None input_old input_new old new end is comes = comes
@@ -143,6 +145,10 @@ comes-faults source sink dock caller reads takes gave took facts (Some (command.
 comes-faults source sink dock caller reads takes gave took facts (Some (command.Gen asked)) a end comes alone =
     let read = gen-unread end comes.ends in
     reading-faults source sink (Some (command.Gen asked)) a.input_old a.input_new a.output_old a.output_new end (λ is. absurd (read is))
+    (unread-causes source sink a.input_old a.input_new a.output_old a.output_new end (alone refl) read comes.write_fault comes.all_written)
+comes-faults source sink dock caller reads takes gave took facts (Some (command.Watch asked)) a end comes alone =
+    let read = gen-unread end comes.ends in
+    reading-faults source sink (Some (command.Watch asked)) a.input_old a.input_new a.output_old a.output_new end (λ is. absurd (read is))
     (unread-causes source sink a.input_old a.input_new a.output_old a.output_new end (alone refl) read comes.write_fault comes.all_written)
 comes-faults source sink dock caller reads takes gave took facts (Some (command.Trace asked)) a end comes alone =
     let read = trace-unread end comes.ends in

@@ -59,6 +59,7 @@ plain-nothing source sink (Some (command.Gen asked)) input output =
       ends = inr (inr refl);
     }
 plain-nothing source sink (Some (command.Trace asked)) input output = inr (refl, refl)
+plain-nothing source sink (Some (command.Watch asked)) input output = inr (refl, refl)
 plain-nothing source sink (Some (command.Run asked)) input output = inr (refl, refl)
 plain-nothing source sink (Some (command.Client asked)) input output = inr (refl, refl)
 plain-nothing source sink None input output = inr (refl, refl)

@@ -7,7 +7,7 @@ use Rattle.pt_io.specs.declared.sink.Sink.{Ghosts as Sink}
 use Rattle.pt_command.specs.declared.end.End.{End}
 use Rattle.pt_live.specs.declared.trace.TraceEnd.{TraceEnd}
 use Rattle.pt_live.specs.Trace.{Traced}
-use Rattle.pt_cli.specs.declared.trace_words.Asked.{Asked}
+use Rattle.pt_asked.specs.declared.words.Asked.{Asked}
 use Rattle.pt_cli.specs.Traced.{IsEndOf, TracesTo}
 
 pub traces-to : {O : Type 0} (sink : Sink O) (asked : Asked) (old new : O) (run : TraceEnd) (fate : Fate) (end : End) → run.fate ≡ fate → IsEndOf fate end

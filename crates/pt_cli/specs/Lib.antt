@@ -1,6 +1,5 @@
 -- to be believed
 pub mod Words
-pub mod TraceWords
 pub mod Errors
 pub mod Ends
 pub mod Traced

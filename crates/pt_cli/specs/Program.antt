@@ -15,6 +15,7 @@ use Rattle.pt_gen.specs.Command.{Generates}
 use Rattle.pt_replay.specs.Command.{Replays}
 use Rattle.pt_report.specs.Command.{Reports}
 use Rattle.pt_run.specs.Command.{RunsTo}
+use Rattle.pt_watch.specs.Command.{Watches}
 use Rattle.pt_roles.specs.declared.live_end.LiveEnd.{LiveEnd}
 use Rattle.pt_io.specs.declared.dock.Dock.{Ghosts as Dock}
 use Rattle.pt_io.specs.Sides.{ReadSide, WriteSide}
@@ -23,7 +24,7 @@ use Rattle.pt_cli.specs.declared.words.Command.{Command}
 use Rattle.pt_cli.specs.declared.words.Command.TheVariants as command
 use Rattle.pt_cli.specs.Errors.{words_error}
 use Rattle.pt_cli.specs.Traced.{TracesTo}
-use Rattle.pt_cli.specs.Words.{reads_input, calls_peer, runs_server, runs_threads}
+use Rattle.pt_cli.specs.Words.{reads_input, calls_peer, runs_server, runs_threads, writes_early}
 
 -- What a command comes to that waits for nobody. All others are refused there, as words are that ask for nothing.
 abbrev pub PlainComesTo : {I O : Type 0} → Source I → Sink O → Option Command → I → I → O → O → End → Type 0
@@ -32,6 +33,12 @@ PlainComesTo source sink (Some command.Report) input_old input_new old new end =
 PlainComesTo source sink (Some (command.Events form)) input_old input_new old new end = Lists source sink form input_old input_new old new end
 PlainComesTo source sink (Some (command.Gen asked)) input_old input_new old new end = Generates sink asked old new end
 PlainComesTo source sink asked input_old input_new old new end = SaysLine sink old new words_error ends.Words end
+
+-- What a command comes to that runs no server and calls no peer. All others are refused there, as words are that ask for nothing.
+abbrev pub AloneComesTo : {I O : Type 0} → Source I → Sink O → Option Command → I → I → O → O → List (ℕ × ℕ) → Option SeatState → List Marks → End → Type 0
+AloneComesTo source sink (Some (command.Trace asked)) input_old input_new old new rows seat marks end = TracesTo sink asked old new rows seat marks end
+AloneComesTo source sink (Some (command.Watch asked)) input_old input_new old new rows seat marks end = Watches sink asked old new rows seat marks end
+AloneComesTo source sink asked input_old input_new old new rows seat marks end = PlainComesTo source sink asked input_old input_new old new end
 
 -- What the objects around the program are before it and after it, and what it answers beside its end.
 pub record Around (I O D K L : Type 0) : Type 0 where
@@ -53,20 +60,21 @@ pub record Around (I O D K L : Type 0) : Type 0 where
 abbrev pub ComesTo : {I O D K L : Type 0} → Source I → Sink O → Dock D L → Caller K L → Source L → Sink L → (L → ReadSide) → (L → WriteSide) → Facts → Option Command
     → Around I O D K L → End → Type 0
 ComesTo source sink dock caller reads takes gave took facts (Some (command.Trace asked)) a end = TracesTo sink asked a.output_old a.output_new a.rows a.seat a.marks end
+ComesTo source sink dock caller reads takes gave took facts (Some (command.Watch asked)) a end = Watches sink asked a.output_old a.output_new a.rows a.seat a.marks end
 ComesTo source sink dock caller reads takes gave took facts (Some (command.Run asked)) a end =
     RunsTo sink dock takes gave took asked facts a.output_old a.output_new a.dock_old a.dock_new a.live end
 ComesTo source sink dock caller reads takes gave took facts (Some (command.Client asked)) a end =
     Asks sink caller reads takes asked a.output_old a.output_new a.caller_old a.caller_new a.peer end
 ComesTo source sink dock caller reads takes gave took facts asked a end = PlainComesTo source sink asked a.input_old a.input_new a.output_old a.output_new end
 
--- A fault of the input or the output comes only from the object that was handed in, in this call, and is answered. But a run
--- of threads that finds no memory says so, whether or not the end of its stream could be written.
+-- A fault of the input or the output comes only from the object that was handed in, in this call, and is answered. But a trace
+-- that finds no memory says so, whether or not the end of its stream could be written.
 pub record HasFaults {I O : Type 0} (source : Source I) (sink : Sink O) (asked : Option Command) (input_old input_new : I) (output_old output_new : O) (end : End) : Type 0 where
   pub reads : end ≡ ends.ReadFault → reads_input asked ≡ true
   pub read_fault : end ≡ ends.ReadFault → HasRisen (source.read_faults input_old) (source.read_faults input_new)
   pub all_read : end ≢ ends.ReadFault → source.read_faults input_new ≡ source.read_faults input_old
   pub write_fault : end ≡ ends.WriteFault → HasRisen (sink.write_faults output_old) (sink.write_faults output_new)
-  pub all_written : (runs_threads asked ≡ false) ⊎ (end ≢ ends.OutOfMemory) → end ≢ ends.WriteFault → sink.write_faults output_new ≡ sink.write_faults output_old
+  pub all_written : (writes_early asked ≡ false) ⊎ (end ≢ ends.OutOfMemory) → end ≢ ends.WriteFault → sink.write_faults output_new ≡ sink.write_faults output_old
 
 -- What a command has no use for is left alone.
 pub record LeavesAlone {I D K L : Type 0} (asked : Option Command) (input_old input_new : I) (dock_old dock_new : D) (caller_old caller_new : K) (peer : Option L)

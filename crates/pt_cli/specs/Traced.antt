@@ -11,7 +11,7 @@ use Rattle.pt_io.specs.Faults.{HasRisen}
 use Rattle.pt_command.specs.declared.end.End.{End}
 use Rattle.pt_command.specs.declared.end.End.TheVariants as ends
 use Rattle.pt_live.specs.Trace.{rows_of, AreWhole, HasSpent, IsLong, TookSome, TookTrace, TookUnwritten}
-use Rattle.pt_cli.specs.declared.trace_words.Asked.{Asked}
+use Rattle.pt_asked.specs.declared.words.Asked.{Asked}
 
 -- How the command ends where the session over the run ended so. Nobody asks for the end of that session.
 abbrev pub IsEndOf : Fate → End → Type 0

@@ -9,7 +9,7 @@ use Rattle.pt_gen.specs.Words as gen
 use Rattle.pt_client.specs.Answers as client
 use Rattle.pt_client.specs.Words.{command_in}
 use Rattle.pt_run.specs.Words as run
-use Rattle.pt_cli.specs.TraceWords as trace
+use Rattle.pt_asked.specs.Words as sample
 use Rattle.pt_cli.specs.declared.words.Command.{Command}
 use Rattle.pt_cli.specs.declared.words.Command.TheVariants as command
 
@@ -47,7 +47,8 @@ meant words =
     ∷ (if is_report words then Some command.Report else None)
     ∷ option_map (λ form. command.Events form) (form_in words)
     ∷ option_map (λ asked. command.Gen asked) (gen.asked_in words)
-    ∷ option_map (λ asked. command.Trace asked) (trace.asked_in words)
+    ∷ option_map (λ asked. command.Trace asked) (sample.asked_in (codes "trace") words)
+    ∷ option_map (λ asked. command.Watch asked) (sample.asked_in (codes "watch") words)
     ∷ option_map (λ asked. command.Run asked) (run.asked_in words)
     ∷ option_map (λ asked. command.Client asked) (command_in words)
     ∷ [])
@@ -60,7 +61,8 @@ Fits (command.Replay session) = Unit {0}
 Fits command.Report = Unit {0}
 Fits (command.Events form) = Unit {0}
 Fits (command.Gen asked) = asked.writes ≤ MOST_WRITES
-Fits (command.Trace asked) = trace.Fits asked
+Fits (command.Trace asked) = sample.Fits asked
+Fits (command.Watch asked) = sample.Fits asked
 Fits (command.Run asked) = run.Fits asked
 Fits (command.Client asked) = client.Fits asked
 
@@ -94,4 +96,10 @@ runs_server asked = false
 -- It runs threads under a session of its own.
 abbrev pub runs_threads : Option Command → Bool
 runs_threads (Some (command.Trace asked)) = true
+runs_threads (Some (command.Watch asked)) = true
 runs_threads asked = false
+
+-- It writes its answer as it runs.
+abbrev pub writes_early : Option Command → Bool
+writes_early (Some (command.Trace asked)) = true
+writes_early asked = false

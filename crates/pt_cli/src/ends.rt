@@ -19,13 +19,13 @@ pub struct Finished<L> {
     pub at: u64,
     /// The link that the caller gave to a client's command, none where it gave none.
     pub peer: Option<L>,
-    /// Each thread of the sample program that `trace` ran, from 1, and how many writes it has made; none for all other
-    /// commands.
-    pub rows: Vec<(u64, u32)>,
-    /// A seat, with all shares, of the pool of the session of `trace`; none where its stream could not be begun, and for all
+    /// Each thread of the sample program that `trace` or `watch` ran, from 1, and how many writes it has made; none for all
     /// other commands.
+    pub rows: Vec<(u64, u32)>,
+    /// A seat, with all shares, of the pool of the session of `trace` or `watch`; none where its stream could not be begun or
+    /// there was no memory for the run, and for all other commands.
     pub seat: Option<PoolSeat>,
-    /// What the session of `trace` had of each thread, ascending by thread; none for all other commands.
+    /// What the session of `trace` or `watch` had of each thread, ascending by thread; none for all other commands.
     pub marks: MarkList,
     /// What is left of the run of `run`; none for all other commands, and where there was no memory for it to begin.
     pub live: Option<LiveEnd<L>>,

@@ -13,19 +13,21 @@ ghost use Rattle.pt_replay.specs.Command.{Replays};
 ghost use Rattle.pt_report.specs.Command.{Reports};
 ghost use Rattle.pt_run.specs.Command.{RunsTo};
 ghost use Rattle.pt_run.specs.declared.words.Asked.{Asked as RunAsked};
-ghost use Rattle.pt_cli.specs.declared.trace_words.Asked.{Asked as TraceAsked};
+ghost use Rattle.pt_asked.specs.declared.words.Asked.{Asked as SessionAsked};
+ghost use Rattle.pt_watch.specs.Command.{Watches};
 ghost use Rattle.pt_cli.specs.declared.words.Command.TheVariants as commands;
 ghost use Rattle.pt_cli.specs.Ends.{EndsSo};
 ghost use Rattle.pt_cli.specs.Errors.{words_error};
-ghost use Rattle.pt_cli.specs.Program.{ComesTo, HasFaults, LeavesAlone, PlainComesTo};
+ghost use Rattle.pt_cli.specs.Program.{AloneComesTo, ComesTo, HasFaults, LeavesAlone, PlainComesTo};
 ghost use Rattle.pt_cli.specs.Traced.{TracesTo};
-ghost use Rattle.pt_cli.specs.Words.{meant, reads_input, Fits};
+ghost use Rattle.pt_cli.specs.Words.{meant, reads_input, runs_threads, Fits};
 ghost use Rattle.ep_defs.specs.Session.{is_valid_facts};
 ghost use Rattle.pt_run.specs.Words.{Fits as RunFits};
 
 use crate::ends::{Finished, ended_with};
 use crate::traced::traced;
 use crate::waitless::without_waiting;
+use crate::watched::watched;
 use crate::words::{Command, command_of};
 use ep_defs::{Facts, Items};
 use pt_client::{Called, client};
@@ -60,7 +62,9 @@ use std::time;
 ///
 /// With `trace THREADS WRITES TEXT [--seed S] [--mb MB]` it runs the sample program with its threads and a session that the
 /// start-up text TEXT asks for, and writes the session's stream as it comes. Stamps are what `clock` says; the threads pass
-/// `gate` at their moments. Both may wait for their threads and locks; no other command waits.
+/// `gate` at their moments. With `watch` and the same words it hands the session's events to a callback that counts them, and
+/// writes in one write how many of each thread were heard and refused, and how often each event was heard. These three may
+/// wait for their threads and locks; no other command waits.
 pub fn tracepipe<
     R: Threads + Wait + time::Clock + Sync,
     L: Link + Drop,
@@ -94,9 +98,12 @@ pub fn tracepipe<
         (Lists I.Source O.Sink form input.old input.new output.old output.new) }
     ensures generated { (asked : GenAsked) → meant (map string_bytes words.now) ≡ Some (commands.Gen asked)
         → EndsSo result.status result.code result.at (Generates O.Sink asked output.old output.new) }
-    ensures traced { (asked : TraceAsked) → meant (map string_bytes words.now) ≡ Some (commands.Trace asked)
+    ensures traced { (asked : SessionAsked) → meant (map string_bytes words.now) ≡ Some (commands.Trace asked)
         → EndsSo result.status result.code result.at
         (TracesTo O.Sink asked output.old output.new result.rows.items result.seat result.marks) }
+    ensures watched { (asked : SessionAsked) → meant (map string_bytes words.now) ≡ Some (commands.Watch asked)
+        → EndsSo result.status result.code result.at
+        (Watches O.Sink asked output.old output.new result.rows.items result.seat result.marks) }
     ensures ran { (asked : RunAsked) → meant (map string_bytes words.now) ≡ Some (commands.Run asked)
         → EndsSo result.status result.code result.at
         (RunsTo O.Sink D.Dock L.Sink L.read_side L.write_side asked facts.now
@@ -163,9 +170,35 @@ fn carry_out<
         result.peer result.live result.rows.items result.seat result.marks }
 {
     match command {
-        Some(Command::Trace(asked)) => traced(rt, alloc, asked, output, clock, gate),
         Some(Command::Run(asked)) => ran(rt, alloc, asked, facts, output, dock, clock, gate),
         Some(Command::Client(command)) => asked(alloc, &command, output, caller),
+        command => alone(rt, alloc, command, input, output, clock, gate),
+    }
+}
+
+// Does what runs no server and calls no peer.
+fn alone<L, R: Threads + Wait + time::Clock + Sync, I: Source, O: Sink, C: Clock, G: Gate>(
+    rt: &R,
+    alloc: Global,
+    command: Option<Command<'_>>,
+    input: &mut I,
+    output: &mut O,
+    clock: &C,
+    gate: &G,
+) -> Finished<L>
+    requires { IfSome command Fits }
+    ensures comes { EndsSo result.status result.code result.at
+        (AloneComesTo I.Source O.Sink command.entry input.old input.new output.old output.new
+        result.rows.items result.seat result.marks) }
+    ensures unread { reads_input command.entry ≡ false → input.new ≡ input.old }
+    ensures nobody { result.peer ≡ None }
+    ensures unserved { result.live ≡ None }
+    ensures untraced { runs_threads command.entry ≡ false
+        → (result.rows.items ≡ []) × (result.seat ≡ None) × (result.marks ≡ []) }
+{
+    match command {
+        Some(Command::Trace(asked)) => traced(rt, alloc, asked, output, clock, gate),
+        Some(Command::Watch(asked)) => watched(rt, alloc, asked, output, clock, gate),
         command => told(alloc, &command, input, output),
     }
 }

@@ -2,13 +2,13 @@
 ghost use Rattle.std.specs.Prelude.{◌≡◌, ◌≢◌, ℕ, None};
 ghost use Rattle.ep_stream.specs.declared.session.Fate.TheVariants as fates;
 ghost use Rattle.pt_cli.specs.Ends.{EndsSo};
-ghost use Rattle.pt_cli.specs.TraceWords.{Fits};
+ghost use Rattle.pt_asked.specs.Words.{Fits};
 ghost use Rattle.pt_cli.specs.Traced.{IsEndOf, TracesTo};
 
 use crate::ends::{Finished, ended_with};
-use crate::trace_words::Asked;
 use ep_defs::standard_info;
 use ep_stream::Fate;
+use pt_asked::Asked;
 use pt_command::End;
 use pt_io::{Clock, Gate, Sink};
 use pt_live::{TraceEnd, run_trace};

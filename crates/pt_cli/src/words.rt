@@ -3,8 +3,8 @@ ghost use Rattle.std.specs.Prelude.{◌≡◌, map, IfOk, IfSome};
 ghost use Rattle.std.specs.String.{string_bytes};
 ghost use Rattle.pt_cli.specs.Words.{meant, replay_in, is_report, session_number, Fits};
 
-use crate::trace_words::{Asked, asked_of};
 use ep_plan::number;
+use pt_asked::{Asked, asked_of};
 use pt_events::{Form, form_of};
 use pt_words::session_text;
 use std::alloc::{AllocError, Global};
@@ -22,6 +22,8 @@ pub enum Command<'a> {
     Gen(pt_gen::Asked),
     /// For a trace of the sample program.
     Trace(Asked),
+    /// For a listener over the sample program.
+    Watch(Asked),
     /// For a run of the sample program with its diagnostic server.
     Run(pt_run::Asked),
     /// For something of a peer.
@@ -48,8 +50,11 @@ pub(crate) fn command_of<'a>(
     if let Some(asked) = pt_gen::asked_of(alloc, words)? {
         return Ok(Some(Command::Gen(asked)));
     }
-    if let Some(asked) = asked_of(alloc, words)? {
+    if let Some(asked) = asked_of(alloc, "trace", words)? {
         return Ok(Some(Command::Trace(asked)));
+    }
+    if let Some(asked) = asked_of(alloc, "watch", words)? {
+        return Ok(Some(Command::Watch(asked)));
     }
     if let Some(asked) = pt_run::asked_of(alloc, words)? {
         return Ok(Some(Command::Run(asked)));

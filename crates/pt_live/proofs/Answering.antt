@@ -1,5 +1,5 @@
 -- What a run answers, by what its session was at its end.
-use Rattle.std.proofs.Common.{◌≡◌, ◌≢◌, ◌∙◌, ℕ, ◌≤◌, ◌++◌, ◌⊎◌, inl, inr, true, false, List, [], ◌∷◌, None, Some, length, refl, sym, ap, subst, arith}
+use Rattle.std.proofs.Common.{◌≡◌, ◌≢◌, ◌∙◌, ℕ, ◌≤◌, ◌++◌, ◌⊎◌, inl, inr, true, false, List, [], ◌∷◌, None, length, refl, sym, ap, subst, arith}
 use Rattle.std.specs.Prelude.{Bool, IsTrue, Result, Ok, Err, IfOk, OnErr}
 use Rattle.std.specs.List.{range_with_len}
 use Rattle.std.proofs.lemmas.List.{append-nil}
@@ -21,10 +21,12 @@ use Rattle.ep_live_laws.specs.Tracing.{is_fault, TookTraced, TookTracedPart}
 use Rattle.pt_load.specs.Sample.{sample}
 use Rattle.pt_load.specs.declared.plan.Plan.{Plan}
 use Rattle.pt_live.specs.declared.trace.TraceEnd.{TraceEnd}
-use Rattle.pt_live.specs.Trace.{AreUnwritten, AreWhole, HasSpent, TookPart, TookSome, TookTrace, TookUnwritten, Traced, Traces, rows_of, writes_of}
+use Rattle.pt_writers.specs.Whole.{AreWhole}
+use Rattle.pt_writers.specs.Written.{rows_of, writes_of}
+use Rattle.pt_writers.proofs.Load.{count-writes}
+use Rattle.pt_live.specs.Trace.{AreUnwritten, HasSpent, TookPart, TookSome, TookTrace, TookUnwritten, Traced, Traces}
 use Rattle.pt_live.specs.state.Ended.{HasEndedAt}
 use Rattle.pt_live.specs.state.Run.{IsLentTo, RunState}
-use Rattle.pt_live.proofs.Load.{count-writes}
 use Rattle.pt_live.proofs.Long.{is-long}
 
 -- The stream of entries that trace the threads is found, and so is a part of it.
@@ -35,13 +37,13 @@ pub record Laws (plan : Plan) (config : Config) : Type 0 where
 -- ---- a session that was begun
 
 -- The program is the sample program.
-pub of-sample : {S : Type 0} (side : Sink S) (run : RunState) (events : List EventDef) (writes : ℕ → List Write) (opened to : ℕ) (handed : Fate) (marks : List Marks) (end : Fate) (sink : S)
-    → events ≡ sample → writes ≡ writes_of run.plan → HasEndedAt side run events writes opened to handed marks end sink → HasEndedAt side run sample (writes_of run.plan) opened to handed marks end sink
-of-sample side run events writes opened to handed marks end sink events_are writes_are e =
-    subst (λ (w : ℕ → List Write). HasEndedAt side run sample w opened to handed marks end sink) writes_are
-    (subst (λ (es : List EventDef). HasEndedAt side run es writes opened to handed marks end sink) events_are e)
+pub of-sample : {S : Type 0} (side : Sink S) (run : RunState) (plan : Plan) (events : List EventDef) (writes : ℕ → List Write) (opened to : ℕ) (handed : Fate) (marks : List Marks) (end : Fate) (sink : S)
+    → events ≡ sample → writes ≡ writes_of plan → HasEndedAt side run plan events writes opened to handed marks end sink → HasEndedAt side run plan sample (writes_of plan) opened to handed marks end sink
+of-sample side run plan events writes opened to handed marks end sink events_are writes_are e =
+    subst (λ (w : ℕ → List Write). HasEndedAt side run plan sample w opened to handed marks end sink) writes_are
+    (subst (λ (es : List EventDef). HasEndedAt side run plan es writes opened to handed marks end sink) events_are e)
 
-module _ {O L : Type 0} (side : Sink L) (output : Sink O) (out : L → O) (run : RunState) (old : O) (loan : ℕ) (lent : IsLentTo output run loan old)
+module _ {O L : Type 0} (side : Sink L) (output : Sink O) (out : L → O) (run : RunState) (plan : Plan) (old : O) (loan : ℕ) (lent : IsLentTo output run loan old)
     (tells_is : (l : L) → side.tells_taken l ≡ run.tells) (taken_is : (l : L) → side.taken l ≡ output.taken (out l)) (faults_are : (l : L) → side.write_faults l ≡ output.write_faults (out l)) where
   -- What was lent tells what it takes, where the output does.
   tells-so : (l : L) → IsTrue (output.tells_taken old) → IsTrue (side.tells_taken l)
@@ -51,9 +53,9 @@ module _ {O L : Type 0} (side : Sink L) (output : Sink O) (out : L → O) (run :
   stands-behind : (part : List ℕ) (l : L) → side.taken l ≡ run.before ++ part → output.taken (out l) ≡ output.taken old ++ part
   stands-behind part l took = sym (taken_is l) ∙ took ∙ ap (λ (bytes : List ℕ). bytes ++ part) (sym lent.before_is)
 
-  pub took-whole : (laws : Laws run.plan run.config) (marks : List Marks) (l : L)
-      → TookTraced side run.before run.info sample run.config (writes_of run.plan) marks l
-      → IsTrue (output.tells_taken old) → TookTrace run.info run.plan run.config marks (output.taken old) (output.taken (out l))
+  pub took-whole : (laws : Laws plan run.config) (marks : List Marks) (l : L)
+      → TookTraced side run.before run.info sample run.config (writes_of plan) marks l
+      → IsTrue (output.tells_taken old) → TookTrace run.info plan run.config marks (output.taken old) (output.taken (out l))
   took-whole laws marks l t told =
       let stream = t.stream (tells-so l told) in
       record {
@@ -62,9 +64,9 @@ module _ {O L : Type 0} (side : Sink L) (output : Sink O) (out : L → O) (run :
         took = stands-behind stream.0 l stream.2;
       }
 
-  pub took-part : (laws : Laws run.plan run.config) (marks : List Marks) (l : L)
-      → TookTracedPart side run.before run.info sample run.config (writes_of run.plan) marks l
-      → IsTrue (output.tells_taken old) → TookPart run.info run.plan run.config marks (output.taken old) (output.taken (out l))
+  pub took-part : (laws : Laws plan run.config) (marks : List Marks) (l : L)
+      → TookTracedPart side run.before run.info sample run.config (writes_of plan) marks l
+      → IsTrue (output.tells_taken old) → TookPart run.info plan run.config marks (output.taken old) (output.taken (out l))
   took-part laws marks l t told =
       let stream = t.stream (tells-so l told) in
       record {
@@ -73,10 +75,10 @@ module _ {O L : Type 0} (side : Sink L) (output : Sink O) (out : L → O) (run :
         took = stands-behind stream.1 l stream.4;
       }
 
-  module _ (laws : Laws run.plan run.config) where
+  module _ (laws : Laws plan run.config) where
     -- It was open on all threads.
-    pub traces-end : (end : TraceEnd) (opened : ℕ) (l : L) → run.plan.writes ≤ WRITES → end.rows.items ≡ rows_of run.plan → opened ≡ run.plan.threads
-        → HasEndedAt side run sample (writes_of run.plan) opened run.plan.writes fate.ProgramEnd end.marks end.fate l → HasSpent run.config end.marks end.seat → Traced output run.info run.plan run.config old (out l) end
+    pub traces-end : (end : TraceEnd) (opened : ℕ) (l : L) → plan.writes ≤ WRITES → end.rows.items ≡ rows_of plan → opened ≡ plan.threads
+        → HasEndedAt side run plan sample (writes_of plan) opened plan.writes fate.ProgramEnd end.marks end.fate l → HasSpent run.config end.marks end.seat → Traced output run.info plan run.config old (out l) end
     traces-end end opened l most rows all e spent =
         record {
           rows = rows;
@@ -89,16 +91,16 @@ module _ {O L : Type 0} (side : Sink L) (output : Sink O) (out : L → O) (run :
               subst (λ (n : ℕ). HasRisen n (output.write_faults (out l))) (sym lent.faults_are)
               (subst (HasRisen run.faults) (faults_are l) (e.well.link_fault is));
           wrote = λ not. sym (faults_are l) ∙ e.well.wrote not ∙ sym lent.faults_are;
-          too_long = λ is. is-long run.plan run.config end.marks whole (e.outcome.too_long not-long is);
+          too_long = λ is. is-long plan run.config end.marks whole (e.outcome.too_long not-long is);
         }
       where
-        few : (thread : ℕ) → length (writes_of run.plan thread) ≤ WRITES
-        few thread = let long = count-writes run.plan thread in omega (arith, long, most)
+        few : (thread : ℕ) → length (writes_of plan thread) ≤ WRITES
+        few thread = let long = count-writes plan thread in omega (arith, long, most)
 
         not-long : fate.ProgramEnd ≢ fate.TooLong
         not-long is = cc
 
-        whole : AreWhole run.plan run.config end.marks
+        whole : AreWhole plan run.config end.marks
         whole =
             record {
               threads = e.threads ∙ ap (λ (n : ℕ). range_with_len 1 n) all;
@@ -107,8 +109,8 @@ module _ {O L : Type 0} (side : Sink L) (output : Sink O) (out : L → O) (run :
             }
 
     -- It was closed before a thread made a write.
-    pub unwritten-end : (opened : ℕ) (marks : List Marks) (end : Fate) (l : L) → run.plan.writes ≤ WRITES → opened ≤ run.plan.threads → HasEndedAt side run sample (writes_of run.plan) opened 0 fate.OutOfMemory marks end l
-        → IsTrue (output.tells_taken old) → TookUnwritten run.info run.plan run.config (output.taken old) (output.taken (out l))
+    pub unwritten-end : (opened : ℕ) (marks : List Marks) (end : Fate) (l : L) → plan.writes ≤ WRITES → opened ≤ plan.threads → HasEndedAt side run plan sample (writes_of plan) opened 0 fate.OutOfMemory marks end l
+        → IsTrue (output.tells_taken old) → TookUnwritten run.info plan run.config (output.taken old) (output.taken (out l))
     unwritten-end opened marks end l most few e told =
         record {
           marks = marks;
@@ -116,11 +118,11 @@ module _ {O L : Type 0} (side : Sink L) (output : Sink O) (out : L → O) (run :
           took = by (is_fault end) refl;
         }
       where
-        few_writes : (thread : ℕ) → length (writes_of run.plan thread) ≤ WRITES
-        few_writes thread = let long = count-writes run.plan thread in omega (arith, long, most)
+        few_writes : (thread : ℕ) → length (writes_of plan thread) ≤ WRITES
+        few_writes thread = let long = count-writes plan thread in omega (arith, long, most)
 
         by : (b : Bool) → is_fault end ≡ b
-            → TookSome run.info run.plan run.config marks (output.taken old) (output.taken (out l)) ⊎ TookTrace run.info run.plan run.config marks (output.taken old) (output.taken (out l))
+            → TookSome run.info plan run.config marks (output.taken old) (output.taken (out l)) ⊎ TookTrace run.info plan run.config marks (output.taken old) (output.taken (out l))
         by true is = inl (inr (took-part laws marks l e.outcome.part told))
         by false is = inr (took-whole laws marks l (e.outcome.whole is few_writes) told)
 
@@ -138,9 +140,9 @@ front-empty : (bytes rest : List ℕ) → bytes ++ rest ≡ [] → bytes ≡ []
 front-empty [] rest e = refl
 front-empty (b ∷ bytes) rest e = cc
 
-module _ {O : Type 0} (run : RunState) (laws : Laws run.plan run.config) (output : Sink O) (loan : ℕ) (old new : O) (lent : IsLentTo output run loan old) where
+module _ {O : Type 0} (run : RunState) (plan : Plan) (laws : Laws plan run.config) (output : Sink O) (loan : ℕ) (old new : O) (lent : IsLentTo output run loan old) where
   -- The output took no stream, or a part of what begins one.
-  pub start-some : TookStart (λ _. run.tells) output.taken [] run.info old new → IsTrue (output.tells_taken old) → TookSome run.info run.plan run.config [] (output.taken old) (output.taken new)
+  pub start-some : TookStart (λ _. run.tells) output.taken [] run.info old new → IsTrue (output.tells_taken old) → TookSome run.info plan run.config [] (output.taken old) (output.taken new)
   start-some (inl part) told =
       let (bytes, (rest, begins), took) = part (subst IsTrue lent.tells_is told) in
       inl (took ∙ ap (λ (bs : List ℕ). output.taken old ++ bs) (front-empty bytes rest begins) ∙ append-nil (output.taken old))
@@ -154,18 +156,18 @@ module _ {O : Type 0} (run : RunState) (laws : Laws run.plan run.config) (output
         took = stream.4 ∙ ap (λ (bytes : List ℕ). bytes ++ stream.1) (begins tells_so ∙ append-nil (output.taken old));
       })
 
-  pub unwritten-start : TookStart (λ _. run.tells) output.taken [] run.info old new → IsTrue (output.tells_taken old) → TookUnwritten run.info run.plan run.config (output.taken old) (output.taken new)
-  unwritten-start start told = record { marks = []; unwritten = no-marks run.plan; took = inl (start-some start told) }
+  pub unwritten-start : TookStart (λ _. run.tells) output.taken [] run.info old new → IsTrue (output.tells_taken old) → TookUnwritten run.info plan run.config (output.taken old) (output.taken new)
+  unwritten-start start told = record { marks = []; unwritten = no-marks plan; took = inl (start-some start told) }
 
-  pub traces-none : (end : TraceEnd) → end.rows.items ≡ rows_of run.plan → end.marks ≡ [] → end.seat ≡ None → end.fate ≡ fate.LinkFault → HasRisen (output.write_faults old) (output.write_faults new)
-      → TookStart (λ _. run.tells) output.taken [] run.info old new → Traced output run.info run.plan run.config old new end
+  pub traces-none : (end : TraceEnd) → end.rows.items ≡ rows_of plan → end.marks ≡ [] → end.seat ≡ None → end.fate ≡ fate.LinkFault → HasRisen (output.write_faults old) (output.write_faults new)
+      → TookStart (λ _. run.tells) output.taken [] run.info old new → Traced output run.info plan run.config old new end
   traces-none end rows none no_seat link risen start =
       record {
         rows = rows;
         marks = inr (link, none);
         spent = subst (HasSpent run.config end.marks) (sym no_seat) none;
         whole = λ is. absurd (not-ended (sym link ∙ is));
-        part = λ is told. subst (λ (ms : List Marks). TookSome run.info run.plan run.config ms (output.taken old) (output.taken new)) (sym none) (start-some start told);
+        part = λ is told. subst (λ (ms : List Marks). TookSome run.info plan run.config ms (output.taken old) (output.taken new)) (sym none) (start-some start told);
         not_asked = λ conn is. not-asked conn (sym link ∙ is);
         link_fault = λ is. risen;
         wrote = λ not. absurd (not link);

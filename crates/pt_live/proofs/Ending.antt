@@ -1,6 +1,6 @@
 -- What a run's session is at its end, by what its stream says of it.
 use Rattle.std.proofs.Common.{◌≡◌, ◌≢◌, ◌∙◌, ◌⊎◌, inl, inr, ℕ, ◌≤◌, true, false, List, map, sym, ap, subst}
-use Rattle.std.specs.List.{range_with_len, sum_by, AllByRecursion}
+use Rattle.std.specs.List.{sum_by, AllByRecursion}
 use Rattle.ep_defs.specs.declared.event.EventDef.{EventDef}
 use Rattle.ep_defs.specs.declared.session.Config.{Config}
 use Rattle.ep_defs.specs.declared.session.Marks.{Marks}
@@ -16,7 +16,8 @@ use Rattle.ep_live_laws.specs.Tracing.{is_fault}
 use Rattle.pt_stream.specs.End.{HasEnded, Leaves}
 use Rattle.pt_stream.specs.Setting.{Setting, watch_of}
 use Rattle.pt_stream.specs.State.{EndsAt, StreamState}
-use Rattle.pt_live.specs.Trace.{IsSpent}
+use Rattle.pt_load.specs.declared.plan.Plan.{Plan}
+use Rattle.pt_writers.specs.Whole.{IsSpent}
 use Rattle.pt_live.specs.state.Ended.{HasEndedAt}
 use Rattle.pt_live.specs.state.Open.{IsOpenOn}
 use Rattle.pt_live.specs.state.Run.{RunState, setting_of}
@@ -67,31 +68,31 @@ memory-apart handed is other = apart (sym is ∙ other)
 
 -- ---- what it comes to
 
-module _ {S : Type 0} (side : Sink S) (run : RunState) (events : List EventDef) (writes : ℕ → List Write) where
+module _ {S : Type 0} (side : Sink S) (run : RunState) (plan : Plan) (events : List EventDef) (writes : ℕ → List Write) where
   -- The session as one of the run.
-  of-run : (rows : ℕ) (setting : Setting) (config : Config) (id : ℕ) (stream : StreamState) (handed : Fate) (end : SessionEnd S) → rows ≡ run.plan.threads → setting ≡ setting_of run → config ≡ run.config
+  of-run : (rows : ℕ) (setting : Setting) (config : Config) (id : ℕ) (stream : StreamState) (handed : Fate) (end : SessionEnd S) → rows ≡ plan.threads → setting ≡ setting_of run → config ≡ run.config
       → HasEnded side (watch_of rows events writes setting config id) rows setting.lives (setting.faults id) stream handed end
-      → HasEnded side (watch_of run.plan.threads events writes (setting_of run) run.config 1) rows 1 run.faults stream handed end
+      → HasEnded side (watch_of plan.threads events writes (setting_of run) run.config 1) rows 1 run.faults stream handed end
   of-run rows setting config id stream handed end rows_are setting_is config_is e =
       subst (λ (n : ℕ). HasEnded side (watch_of n events writes (setting_of run) run.config 1) rows 1 run.faults stream handed end) rows_are
       (subst (λ (c : Config). HasEnded side (watch_of rows events writes (setting_of run) c id) rows 1 run.faults stream handed end) config_is
       (subst (λ (s : Setting). HasEnded side (watch_of rows events writes s config id) rows s.lives (s.faults id) stream handed end) setting_is e))
 
   -- It was open on the first rows, each in its first life, and was closed there when each thread had made so many writes.
-  pub ended-at : (rows opened to : ℕ) (setting : Setting) (stream : StreamState) (handed : Fate) (end : SessionEnd S) → rows ≡ run.plan.threads → setting ≡ setting_of run → opened ≤ rows
+  pub ended-at : (rows opened to : ℕ) (setting : Setting) (stream : StreamState) (handed : Fate) (end : SessionEnd S) → rows ≡ plan.threads → setting ≡ setting_of run → opened ≤ rows
       → IsOpenOn run rows opened opened stream → AllByRecursion (EndsAt to) stream.marks → ((conn : ℕ) → handed ≢ fate.Requested conn)
       → HasEnded side (watch_of rows events writes setting stream.config stream.id) rows setting.lives (setting.faults stream.id) stream handed end
-      → HasEndedAt side run events writes opened to handed end.marks end.fate end.sink
+      → HasEndedAt side run plan events writes opened to handed end.marks end.fate end.sink
   ended-at rows opened to setting stream handed end rows_are setting_is few o ends not_asked has =
       let e = of-run rows setting stream.config stream.id stream handed end rows_are setting_is o.config_is has in
       let early = e.early o.early in
       let threads = threads-opened run rows opened stream (map (λ mark. mark.thread) stream.marks) o e.served early.first in
-      subst (λ (ms : List Marks). HasEndedAt side run events writes opened to handed ms end.fate end.sink) (sym e.marks_are)
+      subst (λ (ms : List Marks). HasEndedAt side run plan events writes opened to handed ms end.fate end.sink) (sym e.marks_are)
       (record {
         threads = threads;
         whole = whole-marks rows to stream.marks (few-threads rows opened (map (λ mark. mark.thread) stream.marks) few threads) early.from ends;
         outcome = subst
-            (λ (ts : List ℕ). IsOutcome side (watch_of run.plan.threads events writes (setting_of run) run.config 1) ts handed stream.marks end.fate end.sink)
+            (λ (ts : List ℕ). IsOutcome side (watch_of plan.threads events writes (setting_of run) run.config 1) ts handed stream.marks end.fate end.sink)
             threads
             e.outcome;
         well =

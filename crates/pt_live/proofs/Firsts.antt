@@ -1,5 +1,5 @@
 -- The threads of a session that was open on the first rows, each in its first life.
-use Rattle.std.proofs.Common.{◌≡◌, ◌∙◌, ℕ, zero, suc, ◌+◌, ◌-◌, ◌<◌, ◌≤◌, ⊎_elim, inl, inr, true, false, List, [], ◌∷◌, length, map, refl, sym, ap, subst, arith}
+use Rattle.std.proofs.Common.{◌≡◌, ◌∙◌, ℕ, zero, suc, ◌+◌, ◌-◌, ◌<◌, ◌≤◌, ⊎_elim, inl, inr, List, [], ◌∷◌, length, map, refl, sym, ap, subst, arith}
 use Rattle.std.specs.Prelude.{◌==◌}
 use Rattle.std.specs.List.{list_any, range_with_len, AllByRecursion}
 use Rattle.std.proofs.lemmas.Bool.{cases_lt, eq-eqb, eqb-true, or_cases, or_left, or_right}
@@ -11,7 +11,7 @@ use Rattle.pt_stream.specs.declared.place.Place.{Place}
 use Rattle.pt_stream.specs.End.{AreServed, IsFromFirst}
 use Rattle.pt_stream.specs.State.{EndsAt, IsDone, StreamState, place_at}
 use Rattle.pt_stream.proofs.Lives.{first-of}
-use Rattle.pt_live.specs.Trace.{IsWhole}
+use Rattle.pt_writers.specs.Whole.{IsWhole}
 use Rattle.pt_live.specs.state.Open.{IsOpenOn}
 use Rattle.pt_live.specs.state.Run.{RunState}
 

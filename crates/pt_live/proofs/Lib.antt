@@ -1,5 +1,3 @@
-pub mod Load
-pub mod Lists
 pub mod Opening
 pub mod Firsts
 pub mod Ending

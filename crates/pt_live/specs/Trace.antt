@@ -4,54 +4,24 @@ use Rattle.std.specs.List.{range_with_len, sum_by, AllByRecursion}
 use Rattle.ep_defs.specs.declared.session.Config.{Config}
 use Rattle.ep_defs.specs.declared.session.Marks.{Marks}
 use Rattle.ep_defs.specs.declared.session.TraceInfo.{TraceInfo}
-use Rattle.ep_defs.specs.declared.session.Write.{Write}
-use Rattle.ep_model.specs.History.{admitted_from}
 use Rattle.pt_io.specs.declared.sink.Sink.{Ghosts as Sink}
 use Rattle.pt_io.specs.Faults.{HasRisen}
 use Rattle.nt_write.specs.declared.limits.TheConstants.{FRAMED_EVENTS}
-use Rattle.ep_guarded.specs.Tied.{AreCounted}
 use Rattle.ep_pool.specs.Shared.{SeatState}
 use Rattle.ep_stream.specs.declared.session.Fate.{Fate}
 use Rattle.ep_stream.specs.declared.session.Fate.TheVariants as fate
 use Rattle.ep_live_laws.specs.Streams.{IsPartOf, IsTraceOf}
 use Rattle.ep_live_laws.specs.Tracing.{is_fault}
-use Rattle.pt_load.specs.Sample.{nth, sample}
+use Rattle.pt_load.specs.Sample.{sample}
 use Rattle.pt_load.specs.declared.plan.Plan.{Plan}
+pub use Rattle.pt_writers.specs.Whole.{AreWhole, IsSpent, IsWhole, admitted_of}
+pub use Rattle.pt_writers.specs.Written.{rows_of, threads_of, writes_of}
 use Rattle.pt_live.specs.declared.trace.TraceEnd.{TraceEnd}
 
--- ---- what the threads write
+-- ---- what the session had of the threads
 
--- The threads of a run.
-abbrev pub threads_of : Plan → List ℕ
-threads_of plan = range_with_len 1 plan.threads
-
--- All that a thread, from 1, writes in a run.
-abbrev pub writes_of : Plan → ℕ → List Write
-writes_of plan thread = map (nth plan thread) (range_with_len 0 plan.writes)
-
--- Each thread with the number of its writes.
-abbrev pub rows_of : Plan → List (ℕ × ℕ)
-rows_of plan = map (λ thread. (thread, plan.writes)) (threads_of plan)
-
--- How many of its writes a session gets that is open on the thread from its first write on.
-abbrev pub admitted_of : Plan → Config → ℕ → ℕ
-admitted_of plan config thread = length (admitted_from sample (Some config) 0 (writes_of plan thread))
-
--- ---- what the session had of them
-
--- The marks are those of a thread from its first write up to this one.
-pub record IsWhole (writes : ℕ) (mark : Marks) : Type 0 where
-  pub from : mark.from ≡ 0
-  pub to_is : mark.to ≡ writes
-
--- The session was open on each thread of the run from its first write to its last, and what it took of the thread and what
--- was refused is all that it gets of it.
-pub record AreWhole (plan : Plan) (config : Config) (marks : List Marks) : Type 0 where
-  pub threads : map (λ mark. mark.thread) marks ≡ threads_of plan
-  pub whole : AllByRecursion (IsWhole plan.writes) marks
-  pub counted : AllByRecursion (AreCounted sample (writes_of plan) config) marks
-
--- So it is, but where the output took no beginning of a stream: then the session was open on no thread.
+-- The marks are those of a session that was open on each thread to its end, but where the output took no beginning of a stream:
+-- then it was open on none.
 abbrev pub HasMarks : Plan → Config → Fate → List Marks → Type 0
 HasMarks plan config end marks = AreWhole plan config marks ⊎ ((end ≡ fate.LinkFault) × (marks ≡ []))
 
@@ -59,26 +29,18 @@ HasMarks plan config end marks = AreWhole plan config marks ⊎ ((end ≡ fate.L
 abbrev pub taken_of : List Marks → ℕ
 taken_of marks = sum_by (λ mark. mark.taken) marks
 
+-- How many of its writes a session gets that is open on the thread from its first write on.
+abbrev pub admitted_count : Plan → Config → ℕ → ℕ
+admitted_count plan config thread = length (admitted_of plan config thread)
+
 -- More events were taken than have ids for their stacks; and no more were taken than the session gets of the threads'
 -- writes, nor than these are.
 pub record IsLong (plan : Plan) (config : Config) (marks : List Marks) : Type 0 where
   pub taken : FRAMED_EVENTS < taken_of marks
-  pub admitted : taken_of marks ≤ sum_by (admitted_of plan config) (threads_of plan)
-  pub written : sum_by (admitted_of plan config) (threads_of plan) ≤ plan.threads * plan.writes
+  pub admitted : taken_of marks ≤ sum_by (admitted_count plan config) (threads_of plan)
+  pub written : sum_by (admitted_count plan config) (threads_of plan) ≤ plan.threads * plan.writes
 
 -- ---- why it had no more
-
--- How many events were refused of all threads.
-abbrev pub refused_of : List Marks → ℕ
-refused_of marks = sum_by (λ mark. mark.refused) marks
-
--- A seat that has all shares of a pool, to which each chunk has come back. The pool had the chunks of the session's budget, and
--- was found dry once for each event that was refused.
-pub record IsSpent (config : Config) (marks : List Marks) (seat : SeatState) : Type 0 where
-  pub alone : seat.share ≡ seat.seats
-  pub back : seat.taken ≡ seat.given
-  pub chunks : seat.total ≡ config.chunks
-  pub dry : seat.dry ≡ refused_of marks
 
 -- There is such a seat, but where the session was open on no thread.
 abbrev pub HasSpent : Config → List Marks → Option SeatState → Type 0

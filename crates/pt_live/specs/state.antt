@@ -1,4 +1,3 @@
 pub mod Run
-pub mod Writers
 pub mod Open
 pub mod Ended

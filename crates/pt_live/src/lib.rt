@@ -2,7 +2,7 @@
 //!
 //! Each thread of a run writes in a thread of its own where one can be made, while the calling thread streams: it opens
 //! its session on all rows, takes from them again and again until the threads have ended, and closes it. It stands on
-//! pt_load, for what the threads write, on ep_live, for the rows behind locks, on pt_stream, for the session over them, on
+//! pt_writers, for the threads, on ep_live, for the rows behind locks, on pt_stream, for the session over them, on
 //! ep_live_laws, for what its stream is found to be, and on pt_io, for the output, the clock and the gate. What it answers is
 //! defined in `specs/Trace`.
 //!
@@ -11,13 +11,11 @@
 //! What was chosen here, and why: docs/DECISIONS.md, "The program".
 #![tactic(auto)]
 
-mod kit;
 mod lent;
 mod run;
 mod session;
 mod streaming;
 mod threads;
 mod trace;
-mod writers;
 
 pub use trace::{TraceEnd, run_trace};

@@ -2,21 +2,22 @@
 ghost use Rattle.std.specs.Prelude.{◌≡◌, ℕ, ◌≤◌, ◌⊎◌, [], Some, IfOk, OnErr, vec_len};
 ghost use Rattle.ep_live.specs.Made.{AreStands};
 ghost use Rattle.ep_stream.specs.declared.session.Fate.TheVariants as fates;
-ghost use Rattle.pt_live.specs.Trace.{rows_of, HasSpent, IsSpent};
+ghost use Rattle.pt_writers.specs.Whole.{IsSpent};
+ghost use Rattle.pt_writers.specs.Written.{rows_of};
+ghost use Rattle.pt_live.specs.Trace.{HasSpent};
 ghost use Rattle.pt_live.specs.state.Ended.{HasEndedAt, HasEndedUnwritten};
 ghost use Rattle.pt_live.specs.state.Open.{IsOpenOn};
 
-use crate::kit::Kit;
-use crate::run::{Around, TraceRun};
+use crate::run::TraceRun;
 use crate::streaming::{SESSION, Streaming};
 use crate::threads::run_both;
 use crate::trace::TraceEnd;
-use crate::writers::{write_all, writers_of};
 use ep_guarded::Agreed;
 use ep_pool::PoolSeat;
 use ep_stream::{Fate, SessionEnd};
 use ep_tie::Right;
 use pt_io::{Clock, Gate, Moment, Sink};
+use pt_writers::{Around, Kit, write_all, writers_of};
 use std::alloc::{AllocError, Global};
 use std::sync::Wait;
 use std::thread::Threads;
@@ -37,7 +38,7 @@ pub(crate) fn untold<
 ) -> Vec<(u64, u32)>
     requires count { vec_len threads ≡ P.rows }
     requires threads { AreStands 0 threads.items }
-    ensures { result.items ≡ rows_of P.run.plan }
+    ensures { result.items ≡ rows_of P.plan }
 {
     let Kit {
         live,
@@ -70,11 +71,11 @@ pub(crate) fn streamed<
     requires is_open { IsOpenOn P.run P.rows 0 0 streaming.stream }
     requires stands { streaming.stream.stands ≡ Some 0 }
     requires marks { streaming.stream.marks ≡ [] }
-    ensures rows { IfOk result.1 (λ end. end.rows.items ≡ rows_of P.run.plan) }
-    ensures ended { IfOk result.1 (λ end. HasEndedAt S.Sink P.run P.events P.writes P.rows P.run.plan.writes
+    ensures rows { IfOk result.1 (λ end. end.rows.items ≡ rows_of P.plan) }
+    ensures ended { IfOk result.1 (λ end. HasEndedAt S.Sink P.run P.plan P.events P.writes P.rows P.plan.writes
         fates.ProgramEnd end.marks end.fate result.0) }
     ensures spent { IfOk result.1 (λ end. HasSpent P.run.config end.marks end.seat) }
-    ensures memory { OnErr result.1 (HasEndedUnwritten S.Sink P.run P.rows P.events P.writes result.0) }
+    ensures memory { OnErr result.1 (HasEndedUnwritten S.Sink P.run P.plan P.rows P.events P.writes result.0) }
 {
     let (streaming, opened) = streaming.open_all(alloc, around);
     if opened < around.plan.threads {
@@ -117,8 +118,8 @@ fn with_threads<
     kit: Kit<'w, 'g, P>,
 ) -> (Streaming<'w, 'g, P, S>, Vec<(u64, u32)>)
     requires stands { streaming.stream.stands ≡ Some 0 }
-    ensures same { result.0.stream ≡ record streaming.entry.stream { stands = Some P.run.plan.writes } }
-    ensures rows { result.1.items ≡ rows_of P.run.plan }
+    ensures same { result.0.stream ≡ record streaming.entry.stream { stands = Some P.plan.writes } }
+    ensures rows { result.1.items ≡ rows_of P.plan }
 {
     let Streaming { live, stream } = streaming;
     let Kit {
@@ -151,9 +152,9 @@ fn ended<P: TraceRun, R: Wait, S: Sink, C: Clock, G: Gate>(
     requires is_open { IsOpenOn P.run P.rows 0 opened streaming.stream }
     requires marks { streaming.stream.marks ≡ [] }
     requires why { (fate ≡ fates.OutOfMemory × (streaming.stream.stands ≡ Some 0))
-        ⊎ (fate ≡ fates.ProgramEnd × (opened ≡ P.rows) × (streaming.stream.stands ≡ Some P.run.plan.writes)) }
+        ⊎ (fate ≡ fates.ProgramEnd × (opened ≡ P.rows) × (streaming.stream.stands ≡ Some P.plan.writes)) }
     ensures ended { (to : ℕ) → streaming.entry.stream.stands ≡ Some to
-        → HasEndedAt S.Sink P.run P.events P.writes opened to fate result.0.marks result.0.fate result.0.sink }
+        → HasEndedAt S.Sink P.run P.plan P.events P.writes opened to fate result.0.marks result.0.fate result.0.sink }
     ensures spent { IsSpent P.run.config result.0.marks result.1 }
 {
     let streaming = streaming.close_all(alloc, around, opened);

@@ -3,12 +3,14 @@ ghost use Rattle.std.specs.Prelude.{◌≡◌, ℕ, ◌≤◌, Some};
 ghost use Rattle.std.specs.List.{AllByRecursion};
 ghost use Rattle.pt_stream.specs.State.{EndsAt};
 ghost use Rattle.pt_live.specs.state.Open.{IsOpenOn};
+ghost use Rattle.pt_live.specs.state.Run.{setting_of};
 
-use crate::run::{Around, TraceRun};
+use crate::run::TraceRun;
 use ep_live::Live;
 use pt_io::{Clock, Gate, Moment, Sink};
 use pt_load::laws::sample_events_are_valid;
 use pt_stream::Stream;
+use pt_writers::Around;
 use std::alloc::Global;
 use std::sync::Wait;
 use std::sync::atomic::{AtomicBool, Ordering};
@@ -26,6 +28,7 @@ const REST: u64 = 1;
 pub(crate) struct Streaming<'w, 'g, P: TraceRun, S: Sink> {
     pub(crate) live: &'w Live<'g, P>,
     pub(crate) stream: Stream<'g, P, S>,
+    ghost setting_is: { P.setting ≡ setting_of P.run },
 }
 
 impl<'w, 'g, P: TraceRun, S: Sink> Streaming<'w, 'g, P, S> {

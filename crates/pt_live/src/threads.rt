@@ -1,11 +1,11 @@
 //! The writers' threads, and the stream beside them.
 ghost use Rattle.std.specs.Prelude.{◌≡◌, vec_len};
-ghost use Rattle.pt_live.specs.state.Writers.{AreReady};
+ghost use Rattle.pt_writers.specs.state.Writers.{AreReady};
 
-use crate::run::{Around, TraceRun};
+use crate::run::TraceRun;
 use crate::streaming::Streaming;
-use crate::writers::{AtEnd, Writer, write_all};
 use pt_io::{Clock, Gate, Sink};
+use pt_writers::{Around, AtEnd, Writer, write_all};
 use std::alloc::Global;
 use std::sync::Wait;
 use std::sync::atomic::{AtomicBool, Ordering};
@@ -29,7 +29,7 @@ pub(crate) fn run_both<
     streaming: Streaming<'w, 'g, P, S>,
     writers: Vec<Writer<'w, 'g, P>>,
 ) -> (Streaming<'w, 'g, P, S>, AtEnd<'w, 'g, P>)
-    requires { (vec_len writers ≡ P.rows) × AreReady P.run.plan 0 writers.items }
+    requires { (vec_len writers ≡ P.rows) × AreReady P.plan 0 writers.items }
     ensures { result.0.stream ≡ streaming.entry.stream }
 {
     let ended = AtomicBool::new(false);
@@ -38,11 +38,11 @@ pub(crate) fn run_both<
         thread::scope_env(),
         around.rt,
         move |scope|
-            requires { (vec_len writers ≡ P.rows) × AreReady P.run.plan 0 writers.items }
+            requires { (vec_len writers ≡ P.rows) × AreReady P.plan 0 writers.items }
             ensures { result.0.stream ≡ streaming.entry.stream }
         {
             let work = move ||
-                requires { (vec_len writers ≡ P.rows) × AreReady P.run.plan 0 writers.items }
+                requires { (vec_len writers ≡ P.rows) × AreReady P.plan 0 writers.items }
             {
                 let done = write_all(around, writers);
                 have_ended.store(true, Ordering::SeqCst);

@@ -5,12 +5,12 @@ ghost use Rattle.ep_defs.specs.Session.{is_valid_config};
 ghost use Rattle.ep_guarded.specs.Granted.{IsGrantFor};
 ghost use Rattle.ep_live.specs.Made.{AreHandTies, AreStands};
 ghost use Rattle.pt_stream.specs.State.{first_seat};
-ghost use Rattle.pt_live.specs.Trace.{Traces, writes_of};
-ghost use Rattle.pt_live.specs.state.Run.{IsLentTo, IsRunOf, TracesOver, setting_of};
+ghost use Rattle.pt_writers.specs.Written.{IsRunOf, writes_of};
+ghost use Rattle.pt_live.specs.Trace.{Traces};
+ghost use Rattle.pt_live.specs.state.Run.{IsLentTo, TracesOver, setting_of};
 
-use crate::kit::Kit;
 use crate::lent::{Lent, RunOutput};
-use crate::run::{Around, TraceRun};
+use crate::run::TraceRun;
 use crate::session::{streamed, untold};
 use crate::streaming::{SESSION, Streaming};
 use ep_defs::{Config, EventDef, Items, MarkList, TraceInfo};
@@ -25,6 +25,7 @@ use pt_io::{Clock, Gate, Sink};
 use pt_load::laws::sample_events_are_valid;
 use pt_load::{Plan, sample_events};
 use pt_stream::{Accepted, NotStarted, Stream};
+use pt_writers::{Around, Kit};
 use std::alloc::{AllocError, Global};
 use std::marker::{Brand, PhantomData};
 use std::sync::Wait;
@@ -110,17 +111,17 @@ fn run_named<
     answer: &mut Result<TraceEnd, AllocError>,
 ) -> Lent<'o, O>
     requires run { IsRunOf parts.plan.now P.rows P.events P.writes }
-    requires writes { P.writes ≡ writes_of P.run.plan }
+    requires writes { P.writes ≡ writes_of P.plan }
     requires setting { P.setting ≡ setting_of P.run }
     requires lent { IsLentTo O.Sink P.run lent.output.ghost_name lent.output.now }
-    requires plan { parts.plan.now ≡ P.run.plan }
+    requires plan { parts.plan.now ≡ P.plan }
     requires asked { (info.now ≡ P.run.info) × (grant.now.config ≡ P.run.config) }
     requires ties { (parts.blank.ties ≡ P.ties) × (parts.blank.places ≡ P.rows + 128 * P.rows) }
     requires events { parts.events.items ≡ P.events }
     requires admitted { IsGrantFor P.events grant.now }
     requires seat { parts.seat ≡ first_seat grant.now.pool (P.rows + 1) }
     ensures same { result.output.ghost_name ≡ lent.entry.output.ghost_name }
-    ensures traces { TracesOver O.Sink P.run lent.entry.output.now result.output.now answer.new }
+    ensures traces { TracesOver O.Sink P.run P.plan lent.entry.output.now result.output.now answer.new }
 {
     sample_events_are_valid();
     let Parts {
@@ -206,13 +207,14 @@ fn run_over<
     info: &TraceInfo,
     lent: Lent<'o, O>,
 ) -> (Lent<'o, O>, Result<TraceEnd, AllocError>)
-    requires writes { P.writes ≡ writes_of P.run.plan }
+    requires writes { P.writes ≡ writes_of P.plan }
+    requires setting { P.setting ≡ setting_of P.run }
     requires lent { IsLentTo O.Sink P.run lent.output.ghost_name lent.output.now }
     requires asked { (info.now ≡ P.run.info) × (started.grant.now.config ≡ P.run.config) }
     requires admitted { IsGrantFor P.events started.grant.now }
     requires pool { started.pool ≡ first_seat started.grant.now.pool (P.rows + 1) }
     ensures same { result.0.output.ghost_name ≡ lent.entry.output.ghost_name }
-    ensures traces { TracesOver O.Sink P.run lent.entry.output.now result.0.output.now result.1 }
+    ensures traces { TracesOver O.Sink P.run P.plan lent.entry.output.now result.0.output.now result.1 }
 {
     a_traced_stream_is_found();
     a_part_is_found();

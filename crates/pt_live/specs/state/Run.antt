@@ -1,22 +1,17 @@
 -- What is fixed of a run from its beginning. All of it is this project's own.
-use Rattle.std.specs.Prelude.{◌≡◌, ℕ, ◌<◌, ◌≤◌, Bool, false, List, [], Result}
-use Rattle.ep_defs.specs.declared.session.Write.{Write}
-use Rattle.ep_defs.specs.declared.event.EventDef.{EventDef}
-use Rattle.ep_defs.specs.declared.limits.TheConstants.{THREADS, WRITES}
+use Rattle.std.specs.Prelude.{◌≡◌, ℕ, Bool, false, List, [], Result}
 use Rattle.ep_defs.specs.declared.session.Config.{Config}
 use Rattle.ep_defs.specs.declared.session.TraceInfo.{TraceInfo}
 use Rattle.ep_defs.specs.Session.{standard_info_of}
 use Rattle.pt_io.specs.declared.sink.Sink.{Ghosts as Sink}
 use Rattle.pt_stream.specs.Setting.{Setting}
-use Rattle.pt_load.specs.Sample.{sample}
 use Rattle.pt_load.specs.declared.plan.Plan.{Plan}
-use Rattle.pt_live.specs.Trace.{Traces, writes_of}
+use Rattle.pt_live.specs.Trace.{Traces}
 use Rattle.pt_live.specs.declared.trace.TraceEnd.{TraceEnd}
 
--- How much is written, what the stream says of the program, and what the session was asked for; and of the output by which
+-- What the stream says of the program, and what the session was asked for; and of the output by which
 -- reference it is lent, whether it tells what it takes, what it had taken, and how often a write to it had failed.
 pub record RunState : Type 0 where
-  pub plan : Plan
   pub info : TraceInfo
   pub config : Config
   pub loan : ℕ
@@ -24,11 +19,10 @@ pub record RunState : Type 0 where
   pub before : List ℕ
   pub faults : ℕ
 
--- A run of no thread.
+-- A run of which nothing is known.
 abbrev pub no_run : RunState
 no_run =
     record {
-      plan = record { seed = 0; threads = 0; writes = 0 };
       info = standard_info_of 0 0;
       config = record { rules = []; chunks = 0; stackwalk = false; rundown = false };
       loan = 0;
@@ -41,15 +35,6 @@ no_run =
 abbrev pub setting_of : RunState → Setting
 setting_of run = record { lives = 1; info = run.info; before = λ _. run.before; faults = λ _. run.faults }
 
--- The program is the sample program, as the plan says, in its bounds.
-pub record IsRunOf (plan : Plan) (rows : ℕ) (events : List EventDef) (writes : ℕ → List Write) : Type 0 where
-  pub rows_are : rows ≡ plan.threads
-  pub events_are : events ≡ sample
-  pub writes_are : (thread : ℕ) → writes thread ≡ writes_of plan thread
-  pub some : 0 < plan.threads
-  pub few : plan.threads ≤ THREADS
-  pub few_writes : plan.writes ≤ WRITES
-
 -- The output is the one that the run is lent, as it was.
 pub record IsLentTo {O : Type 0} (sink : Sink O) (run : RunState) (loan : ℕ) (output : O) : Type 0 where
   pub same : loan ≡ run.loan
@@ -58,5 +43,5 @@ pub record IsLentTo {O : Type 0} (sink : Sink O) (run : RunState) (loan : ℕ) (
   pub faults_are : sink.write_faults output ≡ run.faults
 
 -- What a run answers whose output was the first and is the second.
-abbrev pub TracesOver : {O E : Type 0} → Sink O → RunState → O → O → Result TraceEnd E → Type 0
-TracesOver sink run = Traces sink run.info run.plan run.config
+abbrev pub TracesOver : {O E : Type 0} → Sink O → RunState → Plan → O → O → Result TraceEnd E → Type 0
+TracesOver sink run plan = Traces sink run.info plan run.config

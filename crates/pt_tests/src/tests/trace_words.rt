@@ -1,7 +1,7 @@
 //! Words of `trace`, good and bad.
 use super::texts::words_of;
 use ep_defs::Config;
-use pt_cli::asked_of;
+use pt_asked::asked_of;
 use std::alloc::{AllocError, Global};
 use std::test::Fail;
 

@@ -22,6 +22,9 @@ returns-in-Ok-clause-generated g c = λ asked is. rw (c.in-Ok.ensures.meant ∙ 
 pub returns-in-Ok-clause-traced : goal.returns-in-Ok-clause-traced
 returns-in-Ok-clause-traced g c = λ asked is. rw (c.in-Ok.ensures.meant ∙ is) at c.carry_out.ensures.comes
 
+pub returns-in-Ok-clause-watched : goal.returns-in-Ok-clause-watched
+returns-in-Ok-clause-watched g c = λ asked is. rw (c.in-Ok.ensures.meant ∙ is) at c.carry_out.ensures.comes
+
 pub returns-in-Ok-clause-ran : goal.returns-in-Ok-clause-ran
 returns-in-Ok-clause-ran g c = λ asked is. rw (c.in-Ok.ensures.meant ∙ is) at c.carry_out.ensures.comes
 

@@ -1,13 +1,12 @@
-use Rattle.std.proofs.Common.{◌≡◌, ◌∙◌, ◌⊎◌, inl, inr, ℕ, ◌≤◌, List, length, sym, ap, subst, arith}
+use Rattle.std.proofs.Common.{◌∙◌, inl, inr, List, length, sym, ap, subst, arith}
 use Rattle.std.specs.List.{AllByRecursion}
 use Rattle.ep_defs.specs.declared.session.Marks.{Marks}
 use Rattle.ep_defs.specs.declared.session.Write.{Write}
-use Rattle.ep_stream.specs.declared.session.Fate.TheVariants as fates
 use Rattle.pt_load.specs.declared.plan.Plan.{Plan}
 use Rattle.pt_stream.specs.State.{EndsAt}
+use Rattle.pt_writers.proofs.Load.{count-writes}
 use Rattle.pt_live.proofs.Ending.{ended-at, faulty-memory, memory-apart, never-asked, own-end, spent-so}
 use Rattle.pt_live.proofs.Firsts.{all-done}
-use Rattle.pt_live.proofs.Load.{count-writes}
 use Rattle.pt_live.proofs.Opening.{closed-all, opened-each}
 use Rattle.pt_live.proofs.session.ended.Goals as goal
 
@@ -33,17 +32,17 @@ end-end-requires-clause-done g c is =
     elim c.requires.why [
       | inl why ↦ absurd (memory-apart c.args.fate why.0 is)
       | inr why ↦
-          all-done g.P.Program.writes g.P.TraceRun.run.plan.writes c.close_all-streaming.result.stream.marks
+          all-done g.P.Program.writes g.P.SampleRun.plan.writes c.close_all-streaming.result.stream.marks
           (λ thread. ap (λ (ws : List Write). length ws) (c.args.around.now.is_run.writes_are thread) ∙ count-writes c.args.around.now.plan.now thread ∙ ap (λ (p : Plan). p.writes) c.args.around.now.plan_is)
-          (c.close_all-streaming.ensures.ends g.P.TraceRun.run.plan.writes why.2 (subst (λ (ms : List Marks). AllByRecursion (EndsAt g.P.TraceRun.run.plan.writes) ms) (sym c.requires.marks) tt))
+          (c.close_all-streaming.ensures.ends g.P.SampleRun.plan.writes why.2 (subst (λ (ms : List Marks). AllByRecursion (EndsAt g.P.SampleRun.plan.writes) ms) (sym c.requires.marks) tt))
     ]
 
 pub returns-clause-ended : goal.returns-clause-ended
 returns-clause-ended g c to stands =
     let around = c.args.around.now in
-    ended-at g.S.Sink g.P.TraceRun.run g.P.Program.events g.P.Program.writes g.P.Program.rows c.args.opened to g.P.Run.setting c.close_all-streaming.result.stream c.args.fate c.end-end.result.0
+    ended-at g.S.Sink g.P.TraceRun.run g.P.SampleRun.plan g.P.Program.events g.P.Program.writes g.P.Program.rows c.args.opened to g.P.Run.setting c.close_all-streaming.result.stream c.args.fate c.end-end.result.0
     (around.is_run.rows_are ∙ ap (λ (p : Plan). p.threads) around.plan_is)
-    around.setting_is
+    c.args.streaming.setting_is
     c.requires.few
     c.close_all-streaming.ensures.is_open
     (c.close_all-streaming.ensures.ends to stands (subst (λ (ms : List Marks). AllByRecursion (EndsAt to) ms) (sym c.requires.marks) tt))

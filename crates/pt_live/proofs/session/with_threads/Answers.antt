@@ -1,4 +1,4 @@
-use Rattle.std.proofs.Common.{◌≡◌, ◌∙◌, ℕ, Some, sym, ap, subst}
+use Rattle.std.proofs.Common.{◌∙◌, ℕ, Some, sym, ap, subst}
 use Rattle.ep_live.specs.Made.{AreStands}
 use Rattle.pt_load.specs.declared.plan.Plan.{Plan}
 use Rattle.pt_stream.specs.State.{StreamState}

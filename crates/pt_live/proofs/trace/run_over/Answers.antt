@@ -8,7 +8,8 @@ use Rattle.ep_defs.specs.declared.session.TraceInfo.{TraceInfo}
 use Rattle.pt_io.specs.declared.sink.Sink.{Ghosts as Sink}
 use Rattle.pt_live.specs.declared.trace.TraceEnd.{TraceEnd}
 use Rattle.pt_load.specs.Sample.{sample}
-use Rattle.pt_live.specs.Trace.{Traced, Traces, writes_of}
+use Rattle.pt_writers.specs.Written.{writes_of}
+use Rattle.pt_live.specs.Trace.{Traced, Traces}
 use Rattle.pt_stream.specs.Setting.{Setting}
 use Rattle.pt_stream.specs.State.{StreamState}
 use Rattle.pt_live.proofs.Answering.{of-sample, other-fault, traces-by, traces-end, traces-memory, traces-none, unwritten-end, unwritten-none, unwritten-start}
@@ -18,16 +19,17 @@ use Rattle.pt_live.proofs.trace.run_over.Goals as goal
 pub returns-in-Err-clause-traces : goal.returns-in-Err-clause-traces
 returns-in-Err-clause-traces g c =
     let run = g.P.TraceRun.run in
-    traces-memory g.O.Sink run.info run.plan run.config _ _ _ (λ told. unwritten-none run.info run.plan run.config _)
+    let plan = g.P.SampleRun.plan in
+    traces-memory g.O.Sink run.info plan run.config _ _ _ (λ told. unwritten-none run.info plan run.config _)
 
 pub start-requires-clause-info : goal.start-requires-clause-info
-start-requires-clause-info g c = c.requires.asked.0 ∙ ap (λ (s : Setting). s.info) (sym c.args.around.now.setting_is)
+start-requires-clause-info g c = c.requires.asked.0 ∙ ap (λ (s : Setting). s.info) (sym c.requires.setting)
 
 pub start-requires-clause-before : goal.start-requires-clause-before
-start-requires-clause-before g c told = append-nil _ ∙ c.requires.lent.before_is ∙ ap (λ (s : Setting). s.before 1) (sym c.args.around.now.setting_is)
+start-requires-clause-before g c told = append-nil _ ∙ c.requires.lent.before_is ∙ ap (λ (s : Setting). s.before 1) (sym c.requires.setting)
 
 pub start-requires-clause-faults : goal.start-requires-clause-faults
-start-requires-clause-faults g c = c.requires.lent.faults_are ∙ ap (λ (s : Setting). s.faults 1) (sym c.args.around.now.setting_is)
+start-requires-clause-faults g c = c.requires.lent.faults_are ∙ ap (λ (s : Setting). s.faults 1) (sym c.requires.setting)
 
 pub streamed-output-requires-clause-is_open : goal.streamed-output-requires-clause-is_open
 streamed-output-requires-clause-is_open g c κs within =
@@ -42,20 +44,21 @@ streamed-output-requires-clause-is_open g c κs within =
 pub returns-in-Ok-start-clause-traces : goal.returns-in-Ok-start-clause-traces
 returns-in-Ok-start-clause-traces g c =
     let run = g.P.TraceRun.run in
+    let plan = g.P.SampleRun.plan in
     let old = c.args.lent.output.now in
     let last = c.streamed-output.result.0 in
     let all = c.args.around.now.is_run.rows_are ∙ ap (λ (p : Plan). p.threads) c.args.around.now.plan_is in
     let writes = ap (λ (p : Plan). p.writes) c.args.around.now.plan_is in
-    let most : g.P.TraceRun.run.plan.writes ≤ WRITES = omega (arith, writes, c.args.around.now.is_run.few_writes) in
-    traces-by g.O.Sink run.info run.plan run.config old last.lent.output.now c.streamed-output.result.1 _ _ _ _
-    (λ end rows ended spent. traces-end _ g.O.Sink _ run old _ c.requires.lent (λ l. refl) (λ l. refl) (λ l. refl) (record { traces = c.a_traced_stream_is_found.ensures sample run.config (writes_of run.plan); parts = c.a_part_is_found.ensures sample run.config (writes_of run.plan) }) end g.P.Program.rows last most rows all
-    (of-sample _ run g.P.Program.events g.P.Program.writes g.P.Program.rows run.plan.writes _ end.marks end.fate last c.args.around.now.is_run.events_are c.requires.writes ended)
+    let most : plan.writes ≤ WRITES = omega (arith, writes, c.args.around.now.is_run.few_writes) in
+    traces-by g.O.Sink run.info plan run.config old last.lent.output.now c.streamed-output.result.1 _ _ _ _
+    (λ end rows ended spent. traces-end _ g.O.Sink _ run plan old _ c.requires.lent (λ l. refl) (λ l. refl) (λ l. refl) (record { traces = c.a_traced_stream_is_found.ensures sample run.config (writes_of plan); parts = c.a_part_is_found.ensures sample run.config (writes_of plan) }) end g.P.Program.rows last most rows all
+    (of-sample _ run plan g.P.Program.events g.P.Program.writes g.P.Program.rows plan.writes _ end.marks end.fate last c.args.around.now.is_run.events_are c.requires.writes ended)
     spent)
     (λ ended told.
     let (opened, marks, end, few, e) = ended in
-    let within : opened ≤ run.plan.threads = omega (arith, few, all) in
-    unwritten-end _ g.O.Sink _ run old _ c.requires.lent (λ l. refl) (λ l. refl) (λ l. refl) (record { traces = c.a_traced_stream_is_found.ensures sample run.config (writes_of run.plan); parts = c.a_part_is_found.ensures sample run.config (writes_of run.plan) }) opened marks end last most within
-    (of-sample _ run g.P.Program.events g.P.Program.writes opened 0 _ marks end last c.args.around.now.is_run.events_are c.requires.writes e)
+    let within : opened ≤ plan.threads = omega (arith, few, all) in
+    unwritten-end _ g.O.Sink _ run plan old _ c.requires.lent (λ l. refl) (λ l. refl) (λ l. refl) (record { traces = c.a_traced_stream_is_found.ensures sample run.config (writes_of plan); parts = c.a_part_is_found.ensures sample run.config (writes_of plan) }) opened marks end last most within
+    (of-sample _ run plan g.P.Program.events g.P.Program.writes opened 0 _ marks end last c.args.around.now.is_run.events_are c.requires.writes e)
     told)
     c.streamed-output.ensures.rows
     c.streamed-output.ensures.ended
@@ -65,20 +68,22 @@ returns-in-Ok-start-clause-traces g c =
 pub returns-in-OutOfMemory-clause-traces : goal.returns-in-OutOfMemory-clause-traces
 returns-in-OutOfMemory-clause-traces g c =
     let run = g.P.TraceRun.run in
+    let plan = g.P.SampleRun.plan in
     let start = rw c.requires.asked.0 at c.in-Err-start.ensures.part in
-    traces-memory g.O.Sink run.info run.plan run.config _ _ _
-    (unwritten-start run (record { traces = c.a_traced_stream_is_found.ensures sample run.config (writes_of run.plan); parts = c.a_part_is_found.ensures sample run.config (writes_of run.plan) }) g.O.Sink _ c.args.lent.output.now c.in-Err-start.failed.sink.lent.output.now c.requires.lent start)
+    traces-memory g.O.Sink run.info plan run.config _ _ _
+    (unwritten-start run plan (record { traces = c.a_traced_stream_is_found.ensures sample run.config (writes_of plan); parts = c.a_part_is_found.ensures sample run.config (writes_of plan) }) g.O.Sink _ c.args.lent.output.now c.in-Err-start.failed.sink.lent.output.now c.requires.lent start)
 
 pub returns : goal.returns
 returns g c =
     let run = g.P.TraceRun.run in
+    let plan = g.P.SampleRun.plan in
     let start = rw c.requires.asked.0 at c.in-Err-start.ensures.part in
     let sink = c.in-Err-start.failed.sink in
     record {
       same = sink.same ∙ sym c.requires.lent.same;
       traces =
           ended-so
-          (traces-none run (record { traces = c.a_traced_stream_is_found.ensures sample run.config (writes_of run.plan); parts = c.a_part_is_found.ensures sample run.config (writes_of run.plan) }) g.O.Sink _ c.args.lent.output.now sink.lent.output.now c.requires.lent _
+          (traces-none run plan (record { traces = c.a_traced_stream_is_found.ensures sample run.config (writes_of plan); parts = c.a_part_is_found.ensures sample run.config (writes_of plan) }) g.O.Sink _ c.args.lent.output.now sink.lent.output.now c.requires.lent _
           c.untold-rows.ensures
           (c.new-marks.ensures ∙ c.new-in_default.ensures.items)
           refl

@@ -1,8 +1,14 @@
 use Rattle.std.proofs.Common.{◌≡◌, ◌∙◌, ◌+◌, sym, ap, subst, arith, rules}
+use Rattle.pt_stream.specs.Setting.{Setting}
 use Rattle.pt_stream.specs.State.{StreamState, opened_on}
 use Rattle.pt_live.specs.state.Open.{IsOpenOn}
 use Rattle.pt_live.proofs.Opening.{open-more}
 use Rattle.pt_live.proofs.streaming.Streaming.open_all.Goals as goal
+
+pub open_row-next-requires-clause-few : goal.open_row-next-requires-clause-few
+open_row-next-requires-clause-few g c =
+    let one : g.P.Run.setting.lives ≡ 1 = ap (λ (s : Setting). s.lives) c.args.self.setting_is in
+    (omega (arith, one), omega (arith, one))
 
 pub loop-place-preserved : goal.loop-place-preserved
 loop-place-preserved g c =

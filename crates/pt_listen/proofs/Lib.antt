@@ -1,0 +1,4 @@
+pub mod Halves
+pub mod Opening
+pub mod Telling
+pub mod Ending

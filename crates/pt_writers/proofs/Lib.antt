@@ -1,0 +1,3 @@
+pub mod Load
+pub mod Lists
+pub mod Whole
