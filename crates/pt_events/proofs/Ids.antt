@@ -2,10 +2,10 @@
 use Rattle.std.proofs.Common.{◌≡◌, ℕ, true, false, cond, eqb, zero, suc, List, [], ◌∷◌, Option, Some, None, Ok, Err, refl, ap, ◌∙◌}
 use Rattle.std.specs.Prelude.{is_some}
 use Rattle.ep_defs.specs.declared.event.EventDef.{EventDef}
-use Rattle.nt_blocks.specs.Ordered.{Disorder, UnknownMetadata, UnknownStack, Names, lookup, stack_of, unless_there}
+use Rattle.nt_blocks.specs.Ordered.{Disorder, Names, lookup, stack_of, unless_there}
 use Rattle.nt_check.specs.state.Ids.{value_at}
 use Rattle.pt_events.specs.declared.names.KnownNames.{KnownNames}
-use Rattle.pt_events.specs.state.Known.{Knows, IsUnknown}
+use Rattle.pt_events.specs.state.Known.{Knows}
 
 -- What the ids stand for after one more.
 pub known-more : {A : Type 0} (id q : ℕ) (thing : A) (named : List (ℕ × A)) (before : Option A) → before ≡ lookup q named → cond (eqb id q) (Some thing) before ≡ lookup q ((id, thing) ∷ named)
@@ -39,10 +39,3 @@ stacked-more names id bytes old new known put same =
       definitions = λ q. rw same (known.definitions q);
       stacks = λ q. put q ∙ known-more id q bytes names.stacks (value_at old.stacks q) (known.stacks q);
     }
-
--- An event whose ids stand for nothing.
-pub no-definition : (names : Names) (metadata stack : ℕ) → lookup metadata names.definitions ≡ None → IsUnknown names metadata stack (UnknownMetadata metadata)
-no-definition names metadata stack none = λ number capture processor thread stamp activity related payload. rw none refl
-
-pub no-stack : (names : Names) (metadata stack : ℕ) (def : EventDef) → lookup metadata names.definitions ≡ Some def → stack_of names stack ≡ None → IsUnknown names metadata stack (UnknownStack stack)
-no-stack names metadata stack def there none = λ number capture processor thread stamp activity related payload. rw (there, none) refl

@@ -9,12 +9,12 @@ ghost use Rattle.pt_events.specs.Command.{Lists, SoFar};
 ghost use Rattle.pt_events.specs.state.Read.{HasRead, used};
 ghost use Rattle.pt_events.specs.state.Ends.{EndsBytes};
 
-use crate::errors::refusal_text;
 use crate::reading::Reading;
 use pt_command::limits::PIECE_BYTES;
 use pt_command::{End, say_line};
 use pt_io::{Failed, Sink, Source};
 use pt_lines::Form;
+use pt_report::refusal_text;
 use std::alloc::{AllocError, Global};
 
 /// Reads a stream from `input` to its end, and writes the lines of its events, its points and of what is lost to `output` as

@@ -1,14 +1,13 @@
 -- The fields of a payload, put one after another.
-use Rattle.std.proofs.Common.{◌≡◌, ℕ, true, false, eqb, List, [], ◌∷◌, ◌++◌, length, take, Option, Some, None, Result, Ok, Err, refl, sym, ap, ◌∙◌, subst, append_assoc}
-use Rattle.std.proofs.lemmas.List.{append-nil}
+use Rattle.std.proofs.Common.{◌≡◌, ℕ, true, false, eqb, List, [], ◌∷◌, ◌++◌, length, take, Some, None, Ok, Err, refl, sym, ap, ◌∙◌, subst, append_assoc}
 use Rattle.std.proofs.Math.Seq.{take-append_seam}
 use Rattle.ep_defs.specs.declared.event.FieldDef.{FieldDef}
 use Rattle.ep_defs.specs.Event.{deepest_after}
 use Rattle.pt_num.specs.Begins.{Keeps}
 use Rattle.nt_fields.specs.declared.kind.FieldKind.{FieldKind}
 use Rattle.nt_fields.specs.Kinds.{kind_of}
-use Rattle.nt_fields.specs.Values.{FieldValue, Misfit, DoesNotFit, Part, value_at, values_at, payload_at}
-use Rattle.pt_lines.specs.Texts.{IsShown, AreFields, IsPayload, closes, field_name}
+use Rattle.nt_fields.specs.Values.{FieldValue, DoesNotFit, value_at, values_at, payload_at}
+use Rattle.pt_lines.specs.Texts.{IsShown, AreFields, closes, field_name}
 use Rattle.pt_lines.specs.Appends.{Appends}
 use Rattle.pt_lines.specs.state.Fields.{PutsValues}
 
@@ -19,15 +18,6 @@ pub record Going (fields : List FieldDef) (payload : List ℕ) (old : List ℕ) 
   pub goes : (values : List FieldValue) (rest : List ℕ) → values_at left bytes ≡ Ok (values, rest)
       → (all : List FieldValue) × (values_at fields payload ≡ Ok (all, rest)) × ((more : List ℕ) → AreFields opened left values more → AreFields 0 fields all (text ++ more))
   pub stops : values_at left bytes ≡ Err DoesNotFit → values_at fields payload ≡ Err DoesNotFit
-
-pub going-start : (fields : List FieldDef) (payload old : List ℕ) → Going fields payload old fields payload 0 old
-going-start fields payload old =
-    record {
-      text = [];
-      put = sym (append-nil old);
-      goes = λ values rest e. (values, e, λ more is. is);
-      stops = λ e. e;
-    }
 
 -- A field and those after it.
 values-on : (field : FieldDef) (others : List FieldDef) (bytes next rest : List ℕ) (kind : FieldKind) (value : FieldValue) (values : List FieldValue) → kind_of field.code ≡ Some kind → value_at kind bytes ≡ Ok (value, next) → values_at others next ≡ Ok (values, rest) → values_at (field ∷ others) bytes ≡ Ok (value ∷ values, rest)
@@ -109,16 +99,3 @@ ends-all fields payload old bytes opened out now going none put =
       all.2 (closes opened) refl,
       put ∙ ap (λ (xs : List ℕ). xs ++ closes opened) going.put ∙ append_assoc old going.text (closes opened),
     )
-
--- ---- the whole payload
-
--- It fits, and its fields were put.
-pub payload-fits : (fields : List FieldDef) (payload : List ℕ) (result : Result (List FieldValue) Misfit) (old new : List ℕ) → PutsValues fields result true old new → Appends (IsPayload fields payload result) old new
-payload-fits fields payload (Ok values) old new put = put
-payload-fits fields payload (Err misfit) old new put = absurd put
-
--- It does not fit, and all of it was put in place of its fields.
-pub payload-misfits : (fields : List FieldDef) (payload : List ℕ) (result : Result (List FieldValue) Misfit) (old mid cut new word bytes : List ℕ) → PutsValues fields result false old mid → cut ≡ take (length old) mid → new ≡ (cut ++ word) ++ bytes → IsPayload fields payload (Err DoesNotFit) (word ++ bytes) → Appends (IsPayload fields payload result) old new
-payload-misfits fields payload (Ok values) old mid cut new word bytes put is now text = absurd put
-payload-misfits fields payload (Err misfit) old mid cut new word bytes put is now text =
-    (word ++ bytes, text, now ∙ append_assoc cut word bytes ∙ ap (λ (xs : List ℕ). xs ++ (word ++ bytes)) (is ∙ put))

@@ -8,7 +8,7 @@
 //! What was chosen here, and why: docs/DECISIONS.md, "The ground".
 #![tactic(auto)]
 
-ghost use Rattle.std.specs.Prelude.{◌≡◌, ◌<◌, ◌^◌, ◌++◌, [], ◌∷◌, IsTrue, OnOk};
+ghost use Rattle.std.specs.Prelude.{◌≡◌, ◌<◌, ◌^◌, ◌++◌, [], ◌∷◌, length, take, IsTrue, OnOk, OnErr};
 ghost use Rattle.pt_print.specs.Printed.{number_part, text_part, units_part, unit_text, hex_digit};
 ghost use Rattle.pt_print.specs.Printed as units;
 
@@ -19,14 +19,16 @@ pub const PLACES: usize = 10;
 
 /// Appends the word that begins a line.
 pub fn put_word(out: &mut Vec<u8>, word: &str) -> Result<(), AllocError>
-    ensures { OnOk result (out.new.items ≡ out.old.items ++ word.now) }
+    ensures ok { OnOk result (out.new.items ≡ out.old.items ++ word.now) }
+    ensures err { OnErr result (take (length out.old.items) out.new.items ≡ out.old.items) }
 {
     out.extend_from_slice(word.as_bytes())
 }
 
 /// Appends a number, right in ten places, behind a space.
 pub fn put_number(out: &mut Vec<u8>, number: u64) -> Result<(), AllocError>
-    ensures { OnOk result (out.new.items ≡ out.old.items ++ number_part number) }
+    ensures ok { OnOk result (out.new.items ≡ out.old.items ++ number_part number) }
+    ensures err { OnErr result (take (length out.old.items) out.new.items ≡ out.old.items) }
 {
     let mut buffer = itoa::Buffer::new();
     let digits = buffer.format(number).as_bytes();
@@ -37,7 +39,8 @@ pub fn put_number(out: &mut Vec<u8>, number: u64) -> Result<(), AllocError>
 
 /// Appends a text as it is, behind a space, or `-` where it is empty.
 pub fn put_text(out: &mut Vec<u8>, text: &[u8]) -> Result<(), AllocError>
-    ensures { OnOk result (out.new.items ≡ out.old.items ++ text_part text.now) }
+    ensures ok { OnOk result (out.new.items ≡ out.old.items ++ text_part text.now) }
+    ensures err { OnErr result (take (length out.old.items) out.new.items ≡ out.old.items) }
 {
     out.push(b' ')?;
     out.extend_from_slice(if text.is_empty() { b"-" } else { text })
@@ -46,7 +49,8 @@ pub fn put_text(out: &mut Vec<u8>, text: &[u8]) -> Result<(), AllocError>
 /// Appends a text of UTF-16 behind a space, or `-` where it is empty. What is no visible ASCII character, and `\` too,
 /// is written as `\u` and four hexadecimal digits.
 pub fn put_units(out: &mut Vec<u8>, units: &[u16]) -> Result<(), AllocError>
-    ensures { OnOk result (out.new.items ≡ out.old.items ++ units_part units.now) }
+    ensures ok { OnOk result (out.new.items ≡ out.old.items ++ units_part units.now) }
+    ensures err { OnErr result (take (length out.old.items) out.new.items ≡ out.old.items) }
 {
     if units.is_empty() {
         return put_text(out, b"");
@@ -60,7 +64,8 @@ pub fn put_units(out: &mut Vec<u8>, units: &[u16]) -> Result<(), AllocError>
 
 #[tactic(auto, unfolding(crate::specs::Printed::unit_text))]
 fn put_unit(out: &mut Vec<u8>, unit: u16) -> Result<(), AllocError>
-    ensures { OnOk result (out.new.items ≡ out.old.items ++ unit_text unit) }
+    ensures ok { OnOk result (out.new.items ≡ out.old.items ++ unit_text unit) }
+    ensures err { OnErr result (take (length out.old.items) out.new.items ≡ out.old.items) }
 {
     if is_shown(unit) {
         return Ok(out.push(unit as u8)?);
@@ -97,7 +102,8 @@ fn digit_text(digit: u16) -> u8
 
 /// Appends the line feed that ends a line.
 pub fn put_end(out: &mut Vec<u8>) -> Result<(), AllocError>
-    ensures { OnOk result (out.new.items ≡ out.old.items ++ 10 ∷ []) }
+    ensures ok { OnOk result (out.new.items ≡ out.old.items ++ 10 ∷ []) }
+    ensures err { OnErr result (take (length out.old.items) out.new.items ≡ out.old.items) }
 {
     Ok(out.push(b'\n')?)
 }

@@ -62,7 +62,7 @@ fn flaw_text(alloc: Global, flaw: Flaw) -> Result<String, AllocError>
 }
 
 /// The error line of a refusal, with its line feed.
-pub(crate) fn refusal_text(alloc: Global, refusal: &Refusal) -> Result<String, AllocError>
+pub fn refusal_text(alloc: Global, refusal: &Refusal) -> Result<String, AllocError>
     ensures { IfOk result (λ text. string_bytes text ≡ refusal_error refusal.now) }
 {
     let at = refusal.at;

@@ -11,16 +11,6 @@ few-threads rows number life within few short =
     let all : life * rows ≤ 100 * rows = mul-le-mul_right rows (omega arith) in
     omega (arith, all)
 
--- What gives the writes of one life more, the first one.
-pub drafts-more : (plan : Plan) (number lives made : ℕ) → made < lives → drafts_from plan number (lives - (made + 1)) (made + 1) ≡ drafts_from plan number (lives - made) made ++ drafted plan number (lives - 1 - made) ∷ []
-drafts-more plan number lives made few =
-    let up : made + 1 ≡ suc made = omega arith in
-    let first : lives - (made + 1) + 1 ≡ lives - made = omega arith in
-    let last : lives - (made + 1) ≡ lives - 1 - made = omega arith in
-    ap (λ (n : ℕ). drafts_from plan number (lives - (made + 1)) n) up
-    ∙ ap (λ (n : ℕ). drafts_from plan number n made ++ drafted plan number (lives - (made + 1)) ∷ []) first
-    ∙ ap (λ (n : ℕ). drafts_from plan number (lives - made) made ++ drafted plan number n ∷ []) last
-
 -- The last of those from a life on is that life's.
 pub drafts-next : (plan : Plan) (number lives life : ℕ) → life < lives → drafts_from plan number life (lives - life) ≡ drafts_from plan number (life + 1) (lives - (life + 1)) ++ drafted plan number life ∷ []
 drafts-next plan number lives life few =

@@ -13,21 +13,6 @@ use Rattle.pt_roles.specs.Serving.{KeepsSession}
 
 -- ---- the session
 
-pub keeps-self : (stream : StreamState) → KeepsSession stream stream
-keeps-self stream = record { id = refl; slot = refl; conn = refl; config = refl; early = refl; gave = refl; stands = refl }
-
-pub keeps-both : (a b c : StreamState) → KeepsSession a b → KeepsSession b c → KeepsSession a c
-keeps-both a b c h k =
-    record {
-      id = k.id ∙ h.id;
-      slot = k.slot ∙ h.slot;
-      conn = k.conn ∙ h.conn;
-      config = k.config ∙ h.config;
-      early = k.early ∙ h.early;
-      gave = k.gave ∙ h.gave;
-      stands = k.stands ∙ h.stands;
-    }
-
 pub keeps-closed : (row : ℕ) (marks : List Marks) (old new : StreamState) → new ≡ closed_on row marks old → KeepsSession old new
 keeps-closed row marks old new is =
     record {

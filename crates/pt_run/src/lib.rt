@@ -19,5 +19,4 @@ mod words;
 
 pub use command::{Ran, run};
 pub use plan::{number_from, plan_of};
-pub use summary::{put_connections, put_plan, put_session};
 pub use words::{Asked, asked_of};

@@ -11,7 +11,7 @@ use pt_print::{put_end, put_number, put_text, put_word};
 use std::alloc::AllocError;
 
 /// Appends the line that begins it: what was asked for.
-pub fn put_plan(text: &mut Vec<u8>, plan: &Plan) -> Result<(), AllocError>
+pub(crate) fn put_plan(text: &mut Vec<u8>, plan: &Plan) -> Result<(), AllocError>
     ensures { OnOk result (text.new.items ≡ text.old.items ++ plan_line plan.now) }
 {
     put_numbers(
@@ -23,7 +23,7 @@ pub fn put_plan(text: &mut Vec<u8>, plan: &Plan) -> Result<(), AllocError>
 }
 
 /// Appends the lines of a session: its own, and one for each thread on which it was opened.
-pub fn put_session(
+pub(crate) fn put_session(
     text: &mut Vec<u8>,
     id: u64,
     marks: &[Marks],
@@ -102,7 +102,7 @@ fn put_mark(text: &mut Vec<u8>, id: u64, mark: Marks) -> Result<(), AllocError>
 }
 
 /// Appends the line that ends it: how many connections there were.
-pub fn put_connections(text: &mut Vec<u8>, connections: u64) -> Result<(), AllocError>
+pub(crate) fn put_connections(text: &mut Vec<u8>, connections: u64) -> Result<(), AllocError>
     ensures { OnOk result (text.new.items ≡ text.old.items ++ connections_line connections) }
 {
     put_numbers(text, "connections", &[connections])?;

@@ -13,4 +13,4 @@ returns c = λ address processor thread entry tells.
     event-put address processor thread entry c.as_slice.result.now c.args.event.now.payload.now c.args.out.now.items c.put_event_start.new.out.items c.put_payload.new.out.items _
     (c.as_slice.ensures ∙ ap (λ (def : EventDef). def.fields) tells.def) tells.payload
     (c.in_ok-put_event_start.ensures address processor thread entry tells) c.in_ok-put_payload.ensures e)
-    c.put_end.ensures
+    c.put_end.ensures.ok
