@@ -5,7 +5,9 @@
 # of these the functions that take one or more, each without the functions that it calls.
 # Then 4,000,000 writes of each of 1, 2, 3 and 4 threads into a file: the processor time of a writing thread for a write, as
 # the system counts it, the time from start to end, the events a second that the file has, and how many writes were refused
-# since the budget was spent, as `report` counts them. It needs valgrind and python3.
+# since the budget was spent, as `report` counts them. Last `watch` with as many threads, 1,000,000 writes each, for 256
+# megabytes and for one: what it heard of a thread and what was refused there must be all that the thread wrote, and the
+# counts by event must be all that was heard; else it ends with 1. It needs valgrind and python3.
 here=$(cd "$(dirname "$0")/.." && pwd) || exit 1
 program=$here/crates/tracepipe/out/tracepipe
 writes=${1:-4000000}
@@ -95,5 +97,21 @@ for text in (all_events, "None:1:1"):
             f"{text}, {threads} threads: {sum(own) / max(len(own), 1) / writes:.0f} ns a write in its thread,"
             f" {passed:.2f} seconds, {events / passed:,.0f} events a second, {events} events"
             f" in {os.path.getsize(f'{work}/stream')} bytes, {refused} refused"
+        )
+
+for megabytes in (256, 1):
+    for threads in (1, 2, 3, 4):
+        words = [program, "watch", str(threads), "1000000", all_events, "--mb", str(megabytes)]
+        begun = time.monotonic()
+        told = subprocess.run(words, capture_output=True, text=True, check=True).stdout
+        passed = time.monotonic() - begun
+        lines = [line.split() for line in told.splitlines()]
+        heard = [(int(line[2]), int(line[3])) for line in lines if line[0] == "heard"]
+        events = sum(count for count, _ in heard)
+        if [sum(it) for it in heard] != [1_000_000] * threads or events != sum(int(line[2]) for line in lines if line[0] == "count"):
+            sys.exit(f"watch {threads}: heard and refused are not what was written:\n{told}")
+        print(
+            f"watch, {threads} threads, {megabytes} megabytes: {passed:.2f} seconds, {events / passed:,.0f} events a second,"
+            f" {events} heard, {sum(refused for _, refused in heard)} refused"
         )
 MEASURE
