@@ -15,6 +15,8 @@ mod command;
 pub mod limits;
 mod plan;
 mod summary;
+#[cfg(test)]
+mod tests;
 mod words;
 
 pub use command::{Ran, run};

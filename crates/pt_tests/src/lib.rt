@@ -1,5 +1,5 @@
 //! The tests of the program's one call, with everything around it in memory: its words, runs, outputs that fail, traces of
-//! strangers; and of the words and the lines of `run`.
+//! strangers; and of the words of `run`.
 //!
 //! It stands on pt_cli and pt_run and on what their calls take, and nothing stands on it. A crate that has tests is proved
 //! twice, and pt_cli is dear, so they stand here, where they are proved alone. Each call stands alone in a function, since

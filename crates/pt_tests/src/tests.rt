@@ -1,8 +1,7 @@
-//! The words of commands, the lines of a run, and what the program's one call comes to.
+//! The words of commands, and what the program's one call comes to.
 mod peers;
 mod plainly;
 mod program;
-mod run_lines;
 mod run_words;
 mod runs;
 mod scene;

@@ -50,7 +50,7 @@ const OTHERS: [&str; 17] = [
 // The numbers that the words ask for.
 fn numbers(alloc: Global, words: &str) -> Result<Option<Numbers>, AllocError> {
     let words = words_of(alloc, words)?;
-    let Some(asked) = asked_of(alloc, &words)? else {
+    let Some(asked) = asked_of(alloc, "trace", &words)? else {
         return Ok(None);
     };
     let plan = asked.plan;

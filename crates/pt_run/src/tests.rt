@@ -1,9 +1,9 @@
 //! The lines that tell what a run came to.
+use crate::summary::{put_connections, put_plan, put_session};
 use ep_defs::Marks;
 use ep_defs::limits::SESSION_THREADS;
 use ep_stream::Fate;
 use pt_load::Plan;
-use pt_run::{put_connections, put_plan, put_session};
 use std::alloc::{AllocError, Global};
 use std::test::Fail;
 
