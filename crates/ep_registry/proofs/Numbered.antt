@@ -1,8 +1,8 @@
 -- Halves by their places.
-use Rattle.std.proofs.Common.{◌≡◌, ◌≢◌, ℕ, zero, suc, ◌+◌, ◌<◌, true, false, Option, Some, None, IfSome, List, [], ◌∷◌, ◌++◌, length, replicate, set, slice_get, eqb, refl, ap, sym, ◌∙◌, arith, ◌⊎◌, inl, inr}
+use Rattle.std.proofs.Common.{◌≡◌, ◌≢◌, ℕ, zero, suc, ◌+◌, ◌<◌, true, false, Option, Some, None, IfSome, List, [], ◌∷◌, ◌++◌, length, length-append, replicate, set, slice_get, eqb, refl, ap, sym, ◌∙◌, arith, ◌⊎◌, inl, inr}
 use Rattle.std.proofs.lemmas.Grind.{common_steps}
 use Rattle.std.proofs.lemmas.Bool.Decides.{eqb_tells}
-use Rattle.std.proofs.lemmas.List.{length-set, map-append, replicate-append-replicate}
+use Rattle.std.proofs.lemmas.List.{same_from_push, length-set, map-append, replicate-append-replicate}
 use Rattle.std.proofs.lemmas.Option.{slice_get_within}
 use Rattle.ep_table.proofs.Places.{get-set, get-set_other}
 use Rattle.ep_tie.specs.Tied.{Tied}
@@ -31,6 +31,15 @@ numbered-more {V} halves half n v h p e = ap2 halves (numbered n v) half.place n
   where
     ap2 : (xs ys : List (Tied V)) (a b : ℕ) (x y : Option V) → xs ≡ ys → a ≡ b → x ≡ y → xs ++ record { place = a; value = x } ∷ [] ≡ ys ++ record { place = b; value = y } ∷ []
     ap2 xs ys a b x y q r s = rw (q, r, s) refl
+
+pub numbered-length : {V : Type 0} (n : ℕ) (v : V) → length (numbered n v) ≡ n
+numbered-length zero v = refl
+numbered-length (suc n) v = let more = length-append (numbered n v) (record { place = n; value = Some v } ∷ []) in let rest = numbered-length n v in omega (arith, more, rest)
+
+-- The last half apart.
+pub last-numbered : {V : Type 0} (n : ℕ) (v : V) (rest : List (Tied V)) (last : Tied V) → numbered (n + 1) v ≡ rest ++ last ∷ [] →
+    (rest ≡ numbered n v) × (last ≡ record { place = n; value = Some v })
+last-numbered n v rest last h = same_from_push rest (numbered n v) last (record { place = n; value = Some v }) (sym h ∙ sym (numbered-snoc n v))
 
 -- ---- sessions in the places of their slots
 

@@ -1,5 +1,5 @@
 //! The registry's halves of the ties of a set.
-ghost use Rattle.std.specs.Prelude.{◌≡◌, ◌<◌, ◌≤◌, IfOk, Some, length, replicate, slice_get, slice_set};
+ghost use Rattle.std.specs.Prelude.{◌≡◌, ◌+◌, ◌<◌, ◌≤◌, IfOk, Some, length, replicate, slice_get, slice_set};
 ghost use Rattle.ep_registry.specs.Places.{numbered};
 
 use ep_tie::{Blank, Left, Named, Right, Ties};
@@ -46,6 +46,26 @@ impl<N: Named, V> Ends<N, V> {
             others.push(other)?;
         }
         Ok((Ends { ties, halves }, others))
+    }
+
+    /// One tie more than this of a new set, all with this value, with the other half of the last one apart.
+    pub(crate) fn with_last(
+        alloc: Global,
+        blank: Blank<V>,
+        count: u32,
+        value: &V,
+    ) -> Result<(Ends<N, V>, Vec<Right<N, V>>, Right<N, V>), AllocError>
+        requires named { blank.ties ≡ N.ties }
+        requires room { count < blank.places }
+        ensures { IfOk result (λ made. (made.0 ≡ replicate (count + 1) (Some value.now))
+            × (made.1.items ≡ numbered count value.now)
+            × (made.2 ≡ record { place = count; value = Some value.now })) }
+    {
+        let (ends, mut others) = Ends::new(alloc, blank, count + 1, value)?;
+        let Some(last) = others.pop() else {
+            unreachable!()
+        };
+        Ok((ends, others, last))
     }
 
     /// Says that the half of this place has the value of the other half, and changes nothing.

@@ -17,7 +17,9 @@
 mod ends;
 mod free;
 mod gone;
+mod halves;
 mod hold;
+mod kept;
 mod kinds;
 mod over;
 mod places;

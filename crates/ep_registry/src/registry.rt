@@ -17,14 +17,13 @@ ghost use Rattle.ep_registry.specs.Held.{hold_at, begun_as, holder_in, stage_fou
 ghost use Rattle.ep_registry.specs.Registered.{counted_if, AreLeft, AreMarked};
 
 use crate::ends::Ends;
-use crate::free::Frees;
-use crate::gone::Gone;
+use crate::halves::Halves;
 use crate::hold::{Hold, Holder};
+use crate::kept::Kept;
 use crate::kinds::Kinds;
-use crate::over::{Finished, Overs};
+use crate::over::Finished;
 use crate::server::{Mark, Role, Server};
 use crate::waiting::{Handed, Waiting};
-use ep_journal::limits::CONNECTIONS;
 use ep_journal::{Decision, Entry, Fate, Journal, Log, Opened, Stage};
 use ep_table::limits::SLOTS;
 use ep_table::{Accepted, StopAnswer};
@@ -37,18 +36,12 @@ use std::marker::Model;
 #[derive(Drop)]
 pub struct Registry<B: Named, S: Named, R: Named, P: Kinds<F, W, E, G>, F, W, E, G> {
     journal: Journal,
-    book: Ends<B, Log<Decision>>,
-    holds: Ends<S, Option<Hold>>,
-    spare: Vec<Right<S, Option<Hold>>>,
-    marks: Ends<R, Mark>,
+    halves: Halves<B, S, R>,
     roles: u32,
     closed: bool,
     early: u32,
     late: u32,
-    frees: Frees<P, F, W, E, G>,
-    waiting: Waiting<S, P, F, W, E, G>,
-    overs: Overs<P, F, W, E, G>,
-    gone: Gone<P, F, W, E, G>,
+    kept: Kept<S, P, F, W, E, G>,
 }
 
 impl<B: Named, S: Named, R: Named, P: Kinds<F, W, E, G>, F, W, E, G> Model
@@ -57,9 +50,9 @@ impl<B: Named, S: Named, R: Named, P: Kinds<F, W, E, G>, F, W, E, G> Model
 
     ghost Value = { Registered };
 
-    ghost view = { λ r. record { recorded = r.journal; closed = r.closed; roles = r.roles; waiting = r.waiting } };
+    ghost view = { λ r. record { recorded = r.journal; closed = r.closed; roles = r.roles; waiting = r.kept.waiting } };
 
-    ghost invariant = { λ r. IsRegistered (record { recorded = r.journal; book = r.book; holds = r.holds; spare = r.spare.items; marks = r.marks; roles = r.roles; closed = r.closed; early = r.early; late = r.late }) r.frees r.overs r.gone };
+    ghost invariant = { λ r. IsRegistered (record { recorded = r.journal; book = r.halves.book; holds = r.halves.holds; spare = r.halves.spare.items; marks = r.halves.marks; roles = r.roles; closed = r.closed; early = r.early; late = r.late }) r.kept.frees r.kept.overs r.kept.gone };
 }
 
 /// A registry with the halves of the others.
@@ -119,39 +112,28 @@ impl<
         ensures roles { IfOk result (λ made. made.roles.items ≡ numbered SLOTS (mark.Role roles false)) }
     {
         let journal = Journal::new(alloc)?;
-        let frees = Frees::new(alloc, free)?;
-        let waiting = Waiting::new(alloc)?;
-        let overs = Overs::new(alloc)?;
-        let (book, mut books) = Ends::new(alloc, book, 1, journal.decisions())?;
-        let (holds, spare) = Ends::new(alloc, holds, CONNECTIONS as u32, &None)?;
-        let mark = Mark::Role { roles, left: false };
-        let (mut marks, mut halves) = Ends::new(alloc, marks, SLOTS as u32 + 1, &mark)?;
-        let Some(other) = books.pop() else {
-            unreachable!()
-        };
-        let Some(half) = halves.pop() else {
-            unreachable!()
-        };
-        let server = Server::new(other, &mut marks, half);
-        let registry = Registry {
-            journal,
+        let kept = Kept::new(alloc, free)?;
+        let (halves, server, others) = Halves::new(
+            alloc,
             book,
             holds,
-            spare,
             marks,
+            roles,
+            journal.decisions(),
+        )?;
+        let registry = Registry {
+            journal,
+            halves,
             roles,
             closed: false,
             early: 0,
             late: 0,
-            frees,
-            waiting,
-            overs,
-            gone: Gone::new(),
+            kept,
         };
         Ok(Opening {
             registry,
             server,
-            roles: halves,
+            roles: others,
         })
     }
 
@@ -162,9 +144,9 @@ impl<
         ensures agreed { server.old.decisions ≡ self.old.recorded.decisions }
         ensures half { server.new ≡ record server.old { decisions = server.old.decisions ++ decision.Nothing ∷ [] } }
     {
-        server.meet(&mut self.book);
+        server.meet(&mut self.halves.book);
         self.journal.pass();
-        server.tell(&mut self.book, self.journal.decisions());
+        server.tell(&mut self.halves.book, self.journal.decisions());
     }
 
     /// The next connection asked for a session. The server has it, with what is there of its slot, unless all slots are
@@ -182,16 +164,16 @@ impl<
         ensures begins { IfSome result (λ begun. (begun.0.stage ≡ stage.Serving)
             × (begun.0.opened ≡ opened.No) × (begun.0.conn ≡ length server.old.decisions + 1)) }
     {
-        server.meet(&mut self.book);
-        server.meet_mark(&mut self.marks);
+        server.meet(&mut self.halves.book);
+        server.meet_mark(&mut self.halves.marks);
         let conn = self.journal.decided() + 1;
         let answer = self.journal.accept();
-        server.tell(&mut self.book, self.journal.decisions());
+        server.tell(&mut self.halves.book, self.journal.decisions());
         match answer {
             Accepted::Seat { slot, id } => {
                 let hold = begun(id, conn, slot);
-                let free = self.frees.take(slot);
-                let holder = hand_out(&mut self.holds, &mut self.spare, hold);
+                let free = self.kept.frees.take(slot);
+                let holder = hand_out(&mut self.halves.holds, &mut self.halves.spare, hold);
                 Some((holder, free))
             }
             Accepted::Full => None,
@@ -206,9 +188,9 @@ impl<
         ensures agreed { server.old.decisions ≡ self.old.recorded.decisions }
         ensures half { server.new ≡ record server.old { decisions = server.old.decisions ++ stop_decides result ∷ [] } }
     {
-        server.meet(&mut self.book);
+        server.meet(&mut self.halves.book);
         let answer = self.journal.stop(id);
-        server.tell(&mut self.book, self.journal.decisions());
+        server.tell(&mut self.halves.book, self.journal.decisions());
         answer
     }
 
@@ -226,14 +208,14 @@ impl<
             ≡ record server.old { decisions = with_item server.old.decisions (length server.old.decisions) decision.Nothing } }
     {
         let mut holder = holder;
-        server.meet(&mut self.book);
-        holder.meet(&mut self.holds);
+        server.meet(&mut self.halves.book);
+        holder.meet(&mut self.halves.holds);
         let hold = holder.hold();
         self.journal.fail(hold.id);
-        server.tell(&mut self.book, self.journal.decisions());
+        server.tell(&mut self.halves.book, self.journal.decisions());
         let stage = Stage::Failed;
-        holder.close(&mut self.holds, Hold { stage, ..hold });
-        self.frees.put(hold.slot, free);
+        holder.close(&mut self.halves.holds, Hold { stage, ..hold });
+        self.kept.frees.put(hold.slot, free);
     }
 
     /// The server has opened the session on all rows, before any write or later.
@@ -248,15 +230,15 @@ impl<
           late = server.old.late + counted_if (not early);
         } }
     {
-        server.meet_mark(&mut self.marks);
-        holder.meet(&mut self.holds);
+        server.meet_mark(&mut self.halves.marks);
+        holder.meet(&mut self.halves.holds);
         let hold = holder.hold();
         self.journal.open(hold.id, early);
         let opened = opened_at(early);
-        holder.put(&mut self.holds, Hold { opened, ..hold });
+        holder.put(&mut self.halves.holds, Hold { opened, ..hold });
         self.early += counted_if(early);
         self.late += counted_if(!early);
-        server.put_mark(&mut self.marks, self.early, self.late, self.closed);
+        server.put_mark(&mut self.halves.marks, self.early, self.late, self.closed);
     }
 
     /// Whether the session is to end, and as what. Once the program's end is found, no stop of it is granted.
@@ -267,11 +249,11 @@ impl<
         ensures known { hold_at self.old.recorded.sessions holder.old.id ≡ Some holder.old }
         ensures found { holder.new ≡ record holder.old { stage = stage_found holder.old.stage result } }
     {
-        holder.meet(&mut self.holds);
+        holder.meet(&mut self.halves.holds);
         let hold = holder.hold();
         let found = self.journal.look(hold.id);
         let stage = stage_found(hold.stage, found);
-        holder.put(&mut self.holds, Hold { stage, ..hold });
+        holder.put(&mut self.halves.holds, Hold { stage, ..hold });
         found
     }
 
@@ -285,15 +267,15 @@ impl<
         ensures known { hold_at self.old.recorded.sessions holder.id ≡ Some holder }
     {
         let mut holder = holder;
-        holder.meet(&mut self.holds);
+        holder.meet(&mut self.halves.holds);
         let hold = holder.hold();
         self.journal.end(hold.id, fate);
         let stage = Stage::Over(fate);
         let over = Hold { stage, ..hold };
-        holder.close(&mut self.holds, over);
-        self.frees.put(hold.slot, free);
+        holder.close(&mut self.halves.holds, over);
+        self.kept.frees.put(hold.slot, free);
         let finished = Finished::new(over, end);
-        self.overs.put(finished);
+        self.kept.overs.put(finished);
     }
 
     /// The session goes to its role, with what fits it. None waits in its slot: it would be the same session, and there is
@@ -303,17 +285,17 @@ impl<
         ensures after { self.new ≡ record self.old { waiting = slice_set self.old.waiting handed.slot (Some handed) } }
     {
         let slot = handed.hold().slot;
-        match self.waiting.take(slot) {
+        match self.kept.waiting.take(slot) {
             Some(other) => {
                 let (mut other, _) = other.open();
                 let (mut holder, _) = handed.open();
-                other.meet(&mut self.holds);
-                holder.meet(&mut self.holds);
+                other.meet(&mut self.halves.holds);
+                holder.meet(&mut self.halves.holds);
                 let _count = self.journal.decided();
-                meet_both(&mut self.holds, &mut other, &mut holder);
+                meet_both(&mut self.halves.holds, &mut other, &mut holder);
                 unreachable!()
             }
-            None => self.waiting.put(handed),
+            None => self.kept.waiting.put(handed),
         }
     }
 
@@ -324,7 +306,7 @@ impl<
         ensures slot { IfSome result (λ handed. handed.slot ≡ slot) }
         ensures after { self.new ≡ record self.old { waiting = slice_set self.old.waiting slot None } }
     {
-        self.waiting.take(slot)
+        self.kept.waiting.take(slot)
     }
 
     /// All writers have ended, and leave this.
@@ -332,7 +314,7 @@ impl<
         requires { P.gone gone }
         ensures { self.new ≡ record self.old { recorded = record self.old.recorded { ended = true } } }
     {
-        self.gone.put(gone);
+        self.kept.gone.put(gone);
         self.journal.end_writers();
     }
 
@@ -341,9 +323,9 @@ impl<
         ensures after { self.new ≡ record self.old { closed = true } }
         ensures left { server.new ≡ record server.old { left = true } }
     {
-        server.meet_mark(&mut self.marks);
+        server.meet_mark(&mut self.halves.marks);
         self.closed = true;
-        server.put_mark(&mut self.marks, self.early, self.late, true);
+        server.put_mark(&mut self.halves.marks, self.early, self.late, true);
     }
 
     /// Lets the role end, where the server has ended and none of the role's sessions goes on.
@@ -354,14 +336,14 @@ impl<
         ensures left { (result ≡ true → role.new ≡ record role.old { left = true })
             × (result ≡ false → role.new ≡ role.old) }
     {
-        role.meet(&mut self.marks);
+        role.meet(&mut self.halves.marks);
         if !self.closed {
             return false;
         }
         if self.journal.serving(role.roles(), role.number()) != 0 {
             return false;
         }
-        role.leave(&mut self.marks);
+        role.leave(&mut self.halves.marks);
         true
     }
 
@@ -381,24 +363,20 @@ impl<
     {
         let Registry {
             journal,
-            mut book,
-            mut holds,
-            mut marks,
-            overs,
-            waiting,
-            gone,
+            mut halves,
+            kept,
             ..
         } = self;
-        server.meet(&mut book);
-        server.meet_mark(&mut marks);
-        meet_roles(&mut marks, roles);
-        meet_waiting(&mut holds, &journal, waiting);
+        server.meet(&mut halves.book);
+        server.meet_mark(&mut halves.marks);
+        meet_roles(&mut halves.marks, roles);
+        meet_waiting(&mut halves.holds, &journal, kept.waiting);
         let (decisions, sessions) = journal.finish();
         Ended {
             decisions,
             sessions,
-            over: overs.into_places(),
-            gone: gone.open(),
+            over: kept.overs.into_places(),
+            gone: kept.gone.open(),
         }
     }
 }

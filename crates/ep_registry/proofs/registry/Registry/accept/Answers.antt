@@ -23,14 +23,14 @@ hand_out-holder-requires-clause-slot g c =
 
 pub invariant_of-self : goal.invariant_of-self
 invariant_of-self g c =
-    let d : Desk = record { recorded = c.self.inside.journal; book = c.self.inside.book; holds = c.self.inside.holds; spare = c.self.inside.spare.items; marks = c.self.inside.marks; roles = c.self.inside.roles; closed = c.self.inside.closed; early = c.self.inside.early; late = c.self.inside.late } in
+    let d : Desk = record { recorded = c.self.inside.journal; book = c.self.inside.halves.book; holds = c.self.inside.halves.holds; spare = c.self.inside.halves.spare.items; marks = c.self.inside.halves.marks; roles = c.self.inside.roles; closed = c.self.inside.closed; early = c.self.inside.early; late = c.self.inside.late } in
     let answer = sym c.accept-answer.ensures.answer ∙ c.in-Seat.is in
     let kept = c.decided-conn.ensures.kept in
     let id = next-id c.self.inside.journal c.in-Seat.slot c.in-Seat.id kept answer in
-    let told = book-is c.self.inside.book c.args.server.now.decisions c.self.inside.journal.decisions c.self.invariant.tied.book c.meet.ensures.equal in
+    let told = book-is c.self.inside.halves.book c.args.server.now.decisions c.self.inside.journal.decisions c.self.invariant.tied.book c.meet.ensures.equal in
     let room : length c.self.inside.journal.decisions < CONNECTIONS = subst (λ (l : List Decision). length l < CONNECTIONS) told c.requires.room in
     let unclosed =
-    unclosed-by c.self.inside.marks c.meet.new.self c.args.server.now c.self.inside.early c.self.inside.late c.self.inside.closed c.meet_mark.ensures.equal c.self.invariant.tied.server c.meet.ensures.same.0 c.requires.open in
+    unclosed-by c.self.inside.halves.marks c.meet.new.self c.args.server.now c.self.inside.early c.self.inside.late c.self.inside.closed c.meet_mark.ensures.equal c.self.invariant.tied.server c.meet.ensures.same.0 c.requires.open in
     let number = ap (λ (k : Hold). k.id) c.begun-hold.ensures ∙ id in
     let spare : c.hand_out-holder.new.spare.items ≡ numbered (CONNECTIONS - (length c.self.inside.journal.sessions + 1)) None =
     c.hand_out-holder.ensures.spare ∙ ap (λ n. numbered (CONNECTIONS - n) None) number in
@@ -39,6 +39,6 @@ invariant_of-self g c =
           (seated d c.in-Seat.slot c.in-Seat.id c.hand_out-holder.new.spare.items c.self.invariant.tied kept room unclosed answer spare);
       free = rw c.accept-answer.ensures.after
           (c.take-free.ensures.after ∙ ap (λ (bs : List Bool). set bs c.in-Seat.slot false) c.self.invariant.free ∙ sym (accepted-free c.self.inside.journal c.in-Seat.slot c.in-Seat.id answer));
-      over = rw c.accept-answer.ensures.after (accepted-over c.self.inside.overs c.self.inside.journal c.self.invariant.over);
+      over = rw c.accept-answer.ensures.after (accepted-over c.self.inside.kept.overs c.self.inside.journal c.self.invariant.over);
       gone = rw c.accept-answer.ensures.after (accepted-ended c.self.inside.journal ∙ c.self.invariant.gone);
     }

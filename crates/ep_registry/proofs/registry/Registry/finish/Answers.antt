@@ -4,13 +4,13 @@ use Rattle.ep_registry.proofs.registry.Registry.finish.Goals as goal
 
 pub meet_waiting-requires-clause-none : goal.meet_waiting-requires-clause-none
 meet_waiting-requires-clause-none g c =
-    let d : Desk = record { recorded = c.self.inside.journal; book = c.self.inside.book; holds = c.self.inside.holds; spare = c.self.inside.spare.items; marks = c.self.inside.marks; roles = c.self.inside.roles; closed = c.self.inside.closed; early = c.self.inside.early; late = c.self.inside.late } in
+    let d : Desk = record { recorded = c.self.inside.journal; book = c.self.inside.halves.book; holds = c.self.inside.halves.holds; spare = c.self.inside.halves.spare.items; marks = c.self.inside.halves.marks; roles = c.self.inside.roles; closed = c.self.inside.closed; early = c.self.inside.early; late = c.self.inside.late } in
     let met = rw c.meet_mark.ensures.same.1 at c.meet_roles.ensures.met in
     none-on d c.args.roles.items c.self.invariant.tied c.requires.roles met
 
 pub finish-decisions-requires : goal.finish-decisions-requires
 finish-decisions-requires g c =
-    let d : Desk = record { recorded = c.self.inside.journal; book = c.self.inside.book; holds = c.self.inside.holds; spare = c.self.inside.spare.items; marks = c.self.inside.marks; roles = c.self.inside.roles; closed = c.self.inside.closed; early = c.self.inside.early; late = c.self.inside.late } in
+    let d : Desk = record { recorded = c.self.inside.journal; book = c.self.inside.halves.book; holds = c.self.inside.halves.holds; spare = c.self.inside.halves.spare.items; marks = c.self.inside.halves.marks; roles = c.self.inside.roles; closed = c.self.inside.closed; early = c.self.inside.early; late = c.self.inside.late } in
     let met = rw c.meet_mark.ensures.same.1 at c.meet_roles.ensures.met in
     none-on d c.args.roles.items c.self.invariant.tied c.requires.roles met
 

@@ -7,7 +7,7 @@ use Rattle.ep_registry.proofs.registry.Registry.hand_over.Goals as goal
 
 pub meet_both-requires-clause-same : goal.meet_both-requires-clause-same
 meet_both-requires-clause-same g c =
-    let d : Desk = record { recorded = c.self.inside.journal; book = c.self.inside.book; holds = c.self.inside.holds; spare = c.self.inside.spare.items; marks = c.self.inside.marks; roles = c.self.inside.roles; closed = c.self.inside.closed; early = c.self.inside.early; late = c.self.inside.late } in
+    let d : Desk = record { recorded = c.self.inside.journal; book = c.self.inside.halves.book; holds = c.self.inside.halves.holds; spare = c.self.inside.halves.spare.items; marks = c.self.inside.halves.marks; roles = c.self.inside.roles; closed = c.self.inside.closed; early = c.self.inside.early; late = c.self.inside.late } in
     let a = c.open-other.result.0 in
     let b = c.open-holder.result.0 in
     let known-a = held-known d a c.self.invariant.tied c.meet.ensures.known.0 c.meet.ensures.known.1 c.meet.ensures.equal in
@@ -19,12 +19,12 @@ meet_both-requires-clause-same g c =
 
 pub put-requires : goal.put-requires
 put-requires g c =
-    took-none c.self.inside.waiting c.take.new.self c.hold-slot.result.slot c.args.handed.slot c.take.result c.take.ensures.value c.take.ensures.after
+    took-none c.self.inside.kept.waiting c.take.new.self c.hold-slot.result.slot c.args.handed.slot c.take.result c.take.ensures.value c.take.ensures.after
     (ap (λ (k : Hold). k.slot) (sym c.hold-slot.ensures.value))
 
 pub returns-clause-after : goal.returns-clause-after
 returns-clause-after g c =
-    let r : Registered = record { recorded = c.self.inside.journal; closed = c.self.inside.closed; roles = c.self.inside.roles; waiting = c.self.inside.waiting } in
+    let r : Registered = record { recorded = c.self.inside.journal; closed = c.self.inside.closed; roles = c.self.inside.roles; waiting = c.self.inside.kept.waiting } in
     rw (← c.self.view_is)
     (put-view r c.hold-slot.result.slot c.args.handed.slot (Some c.args.handed) c.put.new.self (ap (λ (k : Hold). k.slot) (sym c.hold-slot.ensures.value))
     (c.put.ensures ∙ ap (λ (ws : List (Option Hold)). set ws c.args.handed.slot (Some c.args.handed)) c.take.ensures.after))

@@ -10,9 +10,9 @@ invariant_of-self g c = record { tied = rw c.meet.ensures.same.1 c.self.invarian
 
 pub invariant_of-self-2 : goal.invariant_of-self-2
 invariant_of-self-2 g c =
-    let d : Desk = record { recorded = c.self.inside.journal; book = c.self.inside.book; holds = c.self.inside.holds; spare = c.self.inside.spare.items; marks = c.self.inside.marks; roles = c.self.inside.roles; closed = c.self.inside.closed; early = c.self.inside.early; late = c.self.inside.late } in
+    let d : Desk = record { recorded = c.self.inside.journal; book = c.self.inside.halves.book; holds = c.self.inside.halves.holds; spare = c.self.inside.halves.spare.items; marks = c.self.inside.halves.marks; roles = c.self.inside.roles; closed = c.self.inside.closed; early = c.self.inside.early; late = c.self.inside.late } in
     let r = c.meet.new.self in
-    let shown = subst (λ (k : RoleHalf). slice_get c.self.inside.marks k.number ≡ Some (Some (mark_of_role k))) (sym c.meet.ensures.same.0) c.meet.ensures.equal in
+    let shown = subst (λ (k : RoleHalf). slice_get c.self.inside.halves.marks k.number ≡ Some (Some (mark_of_role k))) (sym c.meet.ensures.same.0) c.meet.ensures.equal in
     let known = c.number.ensures.known in
     let l : r.number < SLOTS = omega (arith, c.number.ensures.value, known.0, known.1) in
     let m = role-known d r.number r.roles r.left c.self.invariant.tied l shown in

@@ -10,15 +10,15 @@ use Rattle.ep_registry.proofs.registry.Registry.look.Goals as goal
 
 pub invariant_of-self : goal.invariant_of-self
 invariant_of-self g c =
-    let d : Desk = record { recorded = c.self.inside.journal; book = c.self.inside.book; holds = c.self.inside.holds; spare = c.self.inside.spare.items; marks = c.self.inside.marks; roles = c.self.inside.roles; closed = c.self.inside.closed; early = c.self.inside.early; late = c.self.inside.late } in
+    let d : Desk = record { recorded = c.self.inside.journal; book = c.self.inside.halves.book; holds = c.self.inside.halves.holds; spare = c.self.inside.halves.spare.items; marks = c.self.inside.halves.marks; roles = c.self.inside.roles; closed = c.self.inside.closed; early = c.self.inside.early; late = c.self.inside.late } in
     let hold = c.hold-hold.result in
     let same = c.hold-hold.ensures.value ∙ c.meet.ensures.same.0 in
-    let known = held-known d hold c.self.invariant.tied c.hold-hold.ensures.known.0 c.hold-hold.ensures.known.1 (shown-hold c.self.inside.holds c.args.holder.now hold same c.meet.ensures.equal) in
+    let known = held-known d hold c.self.invariant.tied c.hold-hold.ensures.known.0 c.hold-hold.ensures.known.1 (shown-hold c.self.inside.halves.holds c.args.holder.now hold same c.meet.ensures.equal) in
     let serves : is_serving hold.stage ≡ true = ap (λ (k : Hold). is_serving k.stage) same ∙ c.requires.serves in
     record {
       tied = rw (c.look-found.ensures.after, c.put.ensures.holds, c.meet.ensures.same.1, c.stage_found-stage.ensures, c.look-found.ensures.answer)
           (looked-tied d hold c.self.invariant.tied c.hold-hold.ensures.known.0 c.hold-hold.ensures.known.1 known serves);
       free = rw c.look-found.ensures.after (c.self.invariant.free ∙ sym (looked-free c.self.inside.journal hold.id));
-      over = rw c.look-found.ensures.after (looked-over c.self.inside.overs c.self.inside.journal hold c.self.invariant.over known c.hold-hold.ensures.on);
+      over = rw c.look-found.ensures.after (looked-over c.self.inside.kept.overs c.self.inside.journal hold c.self.invariant.over known c.hold-hold.ensures.on);
       gone = rw c.look-found.ensures.after (looked-ended c.self.inside.journal hold.id ∙ c.self.invariant.gone);
     }

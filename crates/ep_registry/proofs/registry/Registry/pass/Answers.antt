@@ -10,7 +10,7 @@ use Rattle.ep_registry.proofs.registry.Registry.pass.Goals as goal
 
 pub invariant_of-self : goal.invariant_of-self
 invariant_of-self g c =
-    let d : Desk = record { recorded = c.self.inside.journal; book = c.self.inside.book; holds = c.self.inside.holds; spare = c.self.inside.spare.items; marks = c.self.inside.marks; roles = c.self.inside.roles; closed = c.self.inside.closed; early = c.self.inside.early; late = c.self.inside.late } in
+    let d : Desk = record { recorded = c.self.inside.journal; book = c.self.inside.halves.book; holds = c.self.inside.halves.holds; spare = c.self.inside.halves.spare.items; marks = c.self.inside.halves.marks; roles = c.self.inside.roles; closed = c.self.inside.closed; early = c.self.inside.early; late = c.self.inside.late } in
     record {
       tied = rw (c.tell.ensures.book, c.decisions.ensures, c.pass.ensures, c.meet.ensures.same.1) (passed d decision.Nothing c.self.invariant.tied);
       free = rw c.pass.ensures c.self.invariant.free;
@@ -20,6 +20,6 @@ invariant_of-self g c =
 
 pub returns-clause-half : goal.returns-clause-half
 returns-clause-half g c =
-    let told = book-is c.self.inside.book c.args.server.now.decisions c.self.inside.journal.decisions c.self.invariant.tied.book c.meet.ensures.equal in
+    let told = book-is c.self.inside.halves.book c.args.server.now.decisions c.self.inside.journal.decisions c.self.invariant.tied.book c.meet.ensures.equal in
     half-is c.args.server.now c.meet.new.self c.tell.new.self c.decisions.result.now (c.args.server.now.decisions ++ decision.Nothing ∷ []) c.tell.ensures.value c.meet.ensures.same.0
     (c.decisions.ensures ∙ ap (λ (r : Recorded). r.decisions) c.pass.ensures ∙ ap (λ (ds : List Decision). ds ++ decision.Nothing ∷ []) (sym told))

@@ -11,17 +11,17 @@ use Rattle.ep_registry.proofs.registry.Registry.stop.Goals as goal
 
 pub invariant_of-self : goal.invariant_of-self
 invariant_of-self g c =
-    let d : Desk = record { recorded = c.self.inside.journal; book = c.self.inside.book; holds = c.self.inside.holds; spare = c.self.inside.spare.items; marks = c.self.inside.marks; roles = c.self.inside.roles; closed = c.self.inside.closed; early = c.self.inside.early; late = c.self.inside.late } in
+    let d : Desk = record { recorded = c.self.inside.journal; book = c.self.inside.halves.book; holds = c.self.inside.halves.holds; spare = c.self.inside.halves.spare.items; marks = c.self.inside.halves.marks; roles = c.self.inside.roles; closed = c.self.inside.closed; early = c.self.inside.early; late = c.self.inside.late } in
     record {
       tied = rw (c.tell.ensures.book, c.decisions.ensures, c.stop-answer.ensures.after, c.meet.ensures.same.1) (stopped-told d c.args.id c.self.invariant.tied);
       free = rw c.stop-answer.ensures.after (c.self.invariant.free ∙ sym (stopping-free c.self.inside.journal c.args.id));
-      over = rw c.stop-answer.ensures.after (stopped-over c.self.inside.overs c.self.inside.journal c.args.id c.self.invariant.over);
+      over = rw c.stop-answer.ensures.after (stopped-over c.self.inside.kept.overs c.self.inside.journal c.args.id c.self.invariant.over);
       gone = rw c.stop-answer.ensures.after (stopped-ended c.self.inside.journal c.args.id ∙ c.self.invariant.gone);
     }
 
 pub returns-clause-half : goal.returns-clause-half
 returns-clause-half g c =
-    let told = book-is c.self.inside.book c.args.server.now.decisions c.self.inside.journal.decisions c.self.invariant.tied.book c.meet.ensures.equal in
+    let told = book-is c.self.inside.halves.book c.args.server.now.decisions c.self.inside.journal.decisions c.self.invariant.tied.book c.meet.ensures.equal in
     half-is c.args.server.now c.meet.new.self c.tell.new.self c.decisions.result.now (c.args.server.now.decisions ++ stop_decides c.stop-answer.result ∷ []) c.tell.ensures.value c.meet.ensures.same.0
     (c.decisions.ensures ∙ ap (λ (r : Recorded). r.decisions) c.stop-answer.ensures.after ∙ stopped-decides c.self.inside.journal c.args.id
     ∙ decided-as c.self.inside.journal.decisions c.args.server.now.decisions (stop_decides (answer_to c.self.inside.journal c.args.id)) (stop_decides c.stop-answer.result) told (ap stop_decides c.stop-answer.ensures.answer))
