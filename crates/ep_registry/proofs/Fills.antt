@@ -1,5 +1,5 @@
 -- What is there of the free slots.
-use Rattle.std.proofs.Common.{◌≡◌, ℕ, zero, suc, Bool, true, Some, List, [], ◌∷◌, ◌++◌, length, replicate, refl, ap, arith, inl, inr}
+use Rattle.std.proofs.Common.{◌≡◌, ℕ, zero, suc, Bool, true, List, [], ◌∷◌, ◌++◌, length, replicate, refl, ap, arith, inl, inr}
 use Rattle.ep_journal.proofs.Items.{get-snoc-is}
 use Rattle.ep_registry.specs.Places.{AreAt, there_in, each_some}
 

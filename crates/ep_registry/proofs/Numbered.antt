@@ -1,9 +1,11 @@
 -- Halves by their places.
-use Rattle.std.proofs.Common.{◌≡◌, ◌≢◌, ℕ, zero, suc, ◌+◌, ◌<◌, true, false, Option, Some, None, IfSome, List, [], ◌∷◌, ◌++◌, length, length-append, replicate, set, slice_get, eqb, refl, ap, sym, ◌∙◌, arith, ◌⊎◌, inl, inr}
+use Rattle.std.proofs.Common.{◌≡◌, ◌≢◌, ℕ, zero, suc, ◌+◌, ◌<◌, true, false, Option, Some, None, IfSome, List, [], ◌∷◌, ◌++◌, length, length-append, replicate, set, slice_get, get_or, eqb, refl, ap, sym, ◌∙◌, arith, ◌⊎◌, inl, inr}
 use Rattle.std.proofs.lemmas.Grind.{common_steps}
 use Rattle.std.proofs.lemmas.Bool.Decides.{eqb_tells}
-use Rattle.std.proofs.lemmas.List.{same_from_push, length-set, map-append, replicate-append-replicate}
-use Rattle.std.proofs.lemmas.Option.{slice_get_within}
+use Rattle.std.proofs.lemmas.List.{same_from_push, length-map, length-set, map-append, replicate-append-replicate}
+use Rattle.std.proofs.lemmas.Option.{slice_get_within, slice_get-map, slice_get-get_or}
+use Rattle.std.proofs.Math.Seq.{map-set_same}
+use Rattle.std.specs.Prelude.{option_map}
 use Rattle.ep_table.proofs.Places.{get-set, get-set_other}
 use Rattle.ep_tie.specs.Tied.{Tied}
 use Rattle.ep_registry.specs.declared.hold.Hold.{Hold}
@@ -13,6 +15,38 @@ use Rattle.ep_journal.proofs.Items.{get-snoc-is}
 
 pub in-place-snoc : {V : Type 0} (halves : List (Tied V)) (half : Tied V) → AreInPlace halves → half.place ≡ length halves → AreInPlace (halves ++ half ∷ [])
 in-place-snoc halves half h p place x at = elim (get-snoc-is halves place x half at) [ inl t ↦ rw (t.0, t.1) p | inr t ↦ h place x t ]
+
+-- A half of the same place in the place of another.
+pub in-place-set : {V : Type 0} (halves : List (Tied V)) (k : ℕ) (half : Tied V) → AreInPlace halves → half.place ≡ k → AreInPlace (set halves k half)
+in-place-set {V} halves k half h own place x at = by_test (eqb_tells place k)
+  where
+    some-half : (a b : Tied V) → Some a ≡ Some b → a ≡ b
+    some-half a b e = grind (arith, common_steps)
+
+    by_test : ((eqb place k ≡ true) × (place ≡ k)) ⊎ ((eqb place k ≡ false) × (place ≢ k)) → x.place ≡ place
+    by_test (inl t) =
+        let n = length-set halves k half in
+        let l : place < length (set halves k half) = slice_get_within (set halves k half) place x at in
+        let put : slice_get (set halves k half) k ≡ Some half = get-set halves k half (omega (arith, n, l, t.1)) in
+        let is : half ≡ x = some-half half x (sym put ∙ ap (slice_get (set halves k half)) (sym t.1) ∙ at) in
+        ap (λ (y : Tied V). y.place) (sym is) ∙ own ∙ sym t.1
+    by_test (inr t) = h place x (sym (get-set_other halves k place half t.1) ∙ at)
+
+-- The half of a place, and what is shown there.
+pub half-at : {V : Type 0} (halves : List (Tied V)) (view : List (Option V)) (k : ℕ) (half : Tied V) → values_of halves ≡ view → k < length view → half ≡ get_or halves k half →
+    slice_get halves k ≡ Some half
+half-at {V} halves view k half shown l is =
+    let n : length (values_of halves) ≡ length halves = length-map halves value_of in
+    let m : length (values_of halves) ≡ length view = ap (λ (vs : List (Option V)). length vs) shown in
+    slice_get-get_or halves k half (omega (arith, l, n, m)) ∙ ap (λ (x : Tied V). let q : Option (Tied V) = Some x in q) (sym is)
+
+pub value-at : {V : Type 0} (halves : List (Tied V)) (view : List (Option V)) (k : ℕ) (half : Tied V) → values_of halves ≡ view → slice_get halves k ≡ Some half →
+    slice_get view k ≡ Some half.value
+value-at {V} halves view k half shown at = rw (← shown) (slice_get-map value_of halves k ∙ ap (option_map value_of) at)
+
+pub values-same : {V : Type 0} (halves : List (Tied V)) (view : List (Option V)) (k : ℕ) (half new : Tied V) → values_of halves ≡ view → half ≡ get_or halves k half → new ≡ half →
+    values_of (set halves k new) ≡ view
+values-same {V} halves view k half new shown is same = map-set_same value_of halves k new half (ap (λ (x : Tied V). x.value) (same ∙ is)) ∙ shown
 
 pub values-snoc : {V : Type 0} (halves : List (Tied V)) (half : Tied V) (n : ℕ) (v : Option V) → values_of halves ≡ replicate n v → half.value ≡ v →
     values_of (halves ++ half ∷ []) ≡ replicate (n + 1) v
