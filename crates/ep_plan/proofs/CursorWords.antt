@@ -1,5 +1,5 @@
 -- Words that were taken from a line, and what they say of its first bad word.
-use Rattle.std.proofs.Common.{◌≡◌, ◌≢◌, ◌==◌, ℕ, ◌+◌, ◌-◌, ◌<◌, ◌≤◌, ◌⊎◌, inl, inr, Bool, true, false, not, ◌&&◌, is_some, nat_le, List, [], ◌∷◌, length, Option, Some, None, Result, Err, IfSome, option_copied, unwrap_or, Bor, refl, sym, ap, ◌∙◌, arith}
+use Rattle.std.proofs.Common.{◌≡◌, ◌≢◌, ◌==◌, ℕ, ◌+◌, ◌-◌, ◌<◌, ◌≤◌, ◌⊎◌, inl, inr, Bool, true, false, not, ◌&&◌, is_some, nat_le, List, [], ◌∷◌, ◌++◌, length, Option, Some, None, Result, Err, IfSome, option_copied, unwrap_or, Bor, refl, sym, ap, ◌∙◌, arith}
 use Rattle.std.proofs.lemmas.Bool.{eqb-true}
 use Rattle.std.proofs.lemmas.Bool.Decides.{nat_tests}
 use Rattle.std.proofs.lemmas.List.Splits.{length-slice_split}
@@ -12,7 +12,7 @@ use Rattle.ep_plan.specs.declared.cursor.Cursor.{Cursor}
 use Rattle.ep_plan.specs.declared.line.LineKind.{LineKind}
 use Rattle.ep_plan.specs.declared.line.LineKind.TheVariants as kind
 use Rattle.ep_plan.specs.Lines.{Part, bad_at, first_bad, fault_of, spelling_fault, order_fault}
-use Rattle.ep_plan.specs.Cursor.{left, column_of, bad_left, has_word, TookWord, Took, IsBad}
+use Rattle.ep_plan.specs.Cursor.{left, column_of, bad_left, has_word, TookWord, Took, TookAll, IsBad, IsBadAmong}
 
 -- A word that spells something is no empty one.
 spelled : (part : Part) (word : List ℕ) (fault : Option LineKind) → word ≢ [] → spelling_fault part word ≡ fault → fault_of part word ≡ fault
@@ -55,6 +55,27 @@ is-bad part old new word fault first found took h told begins at column why e =
     let place : column_of old ≡ column = cc in
     let answer : bad_at (column_of old) found ≡ bad_at column why = cc in
     record { line_is = line ∙ took.line; bad = λ parts more. bad-part part old new word found took h parts more ∙ ap Some answer }
+
+-- Words that were taken one after another.
+pub took-one : (part : Part) (old new : Cursor) (word : List ℕ) → Took part old new word → TookAll (part ∷ []) old new (word ∷ [])
+took-one part old new word took = record { line = took.line; words = took.words; bad = took.bad }
+
+pub took-first : (part : Part) (these : List Part) (old mid new : Cursor) (word : List ℕ) (taken : List (List ℕ)) → Took part old mid word → TookAll these mid new taken → TookAll (part ∷ these) old new (word ∷ taken)
+took-first part these old mid new word taken first others = record {
+  line = others.line ∙ first.line;
+  words = first.words ∙ ap (λ words. word ∷ words) others.words;
+  bad = λ parts more. first.bad (these ++ parts) more ∙ others.bad parts more;
+}
+
+-- The first of them is bad, or one behind it.
+pub bad-first : (part : Part) (these : List Part) (old : Cursor) (line column : ℕ) (why : LineKind) → IsBad part old line column why → IsBadAmong (part ∷ these) old line column why
+bad-first part these old line column why bad = record { line_is = bad.line_is; bad = λ parts more. bad.bad (these ++ parts) more }
+
+pub bad-later : (part : Part) (these : List Part) (old new : Cursor) (word : List ℕ) (line column : ℕ) (why : LineKind) → Took part old new word → IsBadAmong these new line column why → IsBadAmong (part ∷ these) old line column why
+bad-later part these old new word line column why took bad = record {
+  line_is = bad.line_is ∙ took.line;
+  bad = λ parts more. took.bad (these ++ parts) more ∙ bad.bad parts more;
+}
 
 -- Nothing is left of a line.
 over : (cursor : Cursor) → cursor.rest ≡ None → left cursor ≡ []

@@ -43,16 +43,6 @@ def-judged events stepped words rest number def fault h column good cut spelled 
     let before : Option Bad → Option Bad = λ o. option_or o (definition_bad events (left words)) in
     in-turn events stepped words h column ∙ ap before good ∙ definition-by events (left words) rest number def fault cut spelled judged
 
--- ---- the judgement of a definition
-
-pub not-valid : (events : List EventDef) (def : EventDef) → is_valid_event def ≡ false → definition_fault events def ≡ Some kind.Fields
-not-valid events def h = ap (λ valid. if valid then (if list_any (λ other. is_same_event other def) events then Some kind.Same else None) else Some kind.Fields) h
-
-pub judged : (events : List EventDef) (def : EventDef) (same : Bool) → is_valid_event def ≡ true → list_any (λ other. is_same_event other def) events ≡ same → definition_fault events def ≡ (if same then Some kind.Same else None)
-judged events def same h k =
-    ap (λ valid. if valid then (if list_any (λ other. is_same_event other def) events then Some kind.Same else None) else Some kind.Fields) h
-    ∙ ap (λ is. if is then Some kind.Same else None) k
-
 -- A fault of the whole line.
 pub whole-line : {T : Type 0} (line : ℕ) (judged : Option Bad) (fault : LineFault) (found : LineKind) → fault ≡ BadLine line 1 found → judged ≡ Some (bad_at 1 found) → (at column : ℕ) (why : LineKind) → ◌≡◌ {A = Result T LineFault} (Err fault) (Err (BadLine at column why)) → (at ≡ line) × (judged ≡ Some (bad_at column why))
 whole-line line judged fault found told bad at column why e =

@@ -12,7 +12,7 @@ use Rattle.ep_defs.specs.declared.session.Write.{Write}
 use Rattle.ep_defs.specs.Event.{is_same_text}
 use Rattle.ep_plan.specs.declared.cursor.Cursor.{Cursor}
 use Rattle.ep_plan.specs.declared.verb.Verb.{Verb}
-use Rattle.ep_plan.specs.Lines.{Bad, bad_at, form_of, verb_in, form_bad, step_bad, number_of, write_of, definition_of, Spells}
+use Rattle.ep_plan.specs.Lines.{Bad, bad_at, form_of, verbs, verb_in, form_bad, step_bad, number_of, write_of, definition_of, Spells}
 use Rattle.ep_plan.specs.Words.{id_in, frames_in, payload_in, hex_in, provider_in, event_name_in, fields_in}
 use Rattle.ep_plan.specs.Cursor.{left, bad_form, BeginsAt}
 
@@ -26,6 +26,10 @@ found test (y ∷ xs) x h = by_test (test y) refl h (found test xs x)
         let same : y ≡ x = cc in
         ap test (sym same) ∙ passed
     by_test false failed e later = later e
+
+-- The first word is the name of the verb that it was found to be.
+pub verb-name : (first : List ℕ) (verb : Verb) → verb_in first ≡ Some verb → first ≡ (form_of verb).name
+verb-name first verb named = text-means first (form_of verb).name (found (λ v. is_same_text first (form_of v).name) verbs verb named)
 
 -- A line whose first word names a verb has the verb's form.
 pub verb-form : (words : Cursor) (first : List ℕ) (verb : Verb) → verb_in first ≡ Some verb → BeginsAt (length first + 2) words → step_bad words.past first (left words) ≡ bad_form words (form_of verb)

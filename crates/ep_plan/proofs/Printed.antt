@@ -3,6 +3,7 @@ use Rattle.std.proofs.Common.{◌≡◌, ℕ, ◌+◌, ◌<◌, true, false, cod
 use Rattle.std.specs.List.{join_with_byte}
 use Rattle.std.proofs.lemmas.List.{append-nil, take_more, map-append}
 use Rattle.ep_defs.specs.declared.session.Config.{Config}
+use Rattle.ep_defs.specs.declared.session.Rule.{Rule}
 use Rattle.ep_plan.specs.Words.{space, number_text, rule_text}
 use Rattle.ep_plan.specs.Printing.{spaced, number_words, step_words}
 use Rattle.ep_plan.proofs.Separated.{join-push}
@@ -52,6 +53,20 @@ number-more start line spaced next name numbers count within h gap more =
     more ∙ ap behind (gap ∙ ap between h) ∙ append_assoc (start ++ words) (space ∷ []) text ∙ append_assoc start words (space ∷ text) ∙ ap whole (sym (number-push name numbers count within))
 
 -- ---- rules
+
+-- One more rule was written.
+pub rule-more : (start line next : List ℕ) (rules : List Rule) (count : ℕ) (rule : Rule) → count < length rules → rule ≡ get_or rules count rule → line ≡ start ++ spaced (map rule_text (take count rules)) → next ≡ line ++ space ∷ rule_text rule → next ≡ start ++ spaced (map rule_text (take (count + 1) rules))
+rule-more start line next rules count rule within is h more =
+    let before = map rule_text (take count rules) in
+    let text = rule_text rule in
+    let first : Rule → List Rule = λ r. take count rules ++ r ∷ [] in
+    let words : map rule_text (take (count + 1) rules) ≡ before ++ text ∷ [] =
+    ap (map rule_text) (take_more rules count rule within ∙ ap first (sym is)) ∙ map-append rule_text (take count rules) (rule ∷ []) in
+    let longer : spaced (map rule_text (take (count + 1) rules)) ≡ spaced before ++ space ∷ text =
+    ap spaced words ∙ spaced-append before (text ∷ []) ∙ ap (λ rest. spaced before ++ rest) (append-nil (space ∷ text)) in
+    let behind : List ℕ → List ℕ = λ before. before ++ space ∷ text in
+    let whole : List ℕ → List ℕ = λ after. start ++ after in
+    more ∙ ap behind h ∙ append_assoc start (spaced before) (space ∷ text) ∙ ap whole (sym longer)
 
 -- Words were written after a line, where there was memory.
 pub ok-line : {T E : Type 0} (r : Result T E) (start line next first : List ℕ) (xs ys : List (List ℕ)) → line ≡ start ++ join_with_byte space (first ∷ xs) → OnOk r (next ≡ line ++ spaced ys) → OnOk r (next ≡ start ++ join_with_byte space (first ∷ (xs ++ ys)))

@@ -1,5 +1,5 @@
 -- What a cursor has still to read of a line.
-use Rattle.std.specs.Prelude.{◌≡◌, ◌≢◌, ℕ, ◌+◌, ◌-◌, Bool, true, false, List, [], ◌∷◌, length, Option, Some, Result, Err, IfOk, option_copied, unwrap_or}
+use Rattle.std.specs.Prelude.{◌≡◌, ◌≢◌, ℕ, ◌+◌, ◌-◌, Bool, true, false, List, [], ◌∷◌, ◌++◌, length, Option, Some, Result, Err, IfOk, option_copied, unwrap_or}
 use Rattle.std.specs.Borrow.{Bor}
 use Rattle.std.specs.declared.alloc.AllocError.{AllocError}
 use Rattle.ep_plan.specs.declared.cursor.Cursor.{Cursor}
@@ -51,10 +51,21 @@ pub record Took (part : Part) (old new : Cursor) (word : List ℕ) : Type 0 wher
   pub words : left old ≡ word ∷ left new
   pub bad : (parts : List Part) (more_rules : ℕ) → bad_left old (part ∷ parts) more_rules ≡ bad_left new parts more_rules
 
+-- Words were taken that are good as these parts.
+pub record TookAll (these : List Part) (old new : Cursor) (taken : List (List ℕ)) : Type 0 where
+  pub line : new.line ≡ old.line
+  pub words : left old ≡ taken ++ left new
+  pub bad : (parts : List Part) (more_rules : ℕ) → bad_left old (these ++ parts) more_rules ≡ bad_left new parts more_rules
+
 -- The next word is bad as this part, or missing.
 pub record IsBad (part : Part) (cursor : Cursor) (line column : ℕ) (kind : LineKind) : Type 0 where
   pub line_is : line ≡ cursor.line
   pub bad : (parts : List Part) (more_rules : ℕ) → bad_left cursor (part ∷ parts) more_rules ≡ Some (bad_at column kind)
+
+-- One of the next words is bad as one of these parts, or missing.
+pub record IsBadAmong (these : List Part) (cursor : Cursor) (line column : ℕ) (kind : LineKind) : Type 0 where
+  pub line_is : line ≡ cursor.line
+  pub bad : (parts : List Part) (more_rules : ℕ) → bad_left cursor (these ++ parts) more_rules ≡ Some (bad_at column kind)
 
 -- Where a line is refused, this holds of the line's number, the column and the kind.
 abbrev pub IfBad : {T : Type 0} → Result T LineFault → (ℕ → ℕ → LineKind → Type 0) → Type 0

@@ -60,6 +60,10 @@ accept_form = record { name = codes "accept"; parts = Number ∷ Number ∷ Rule
 abbrev pub accept3_form : Form
 accept3_form = record { name = codes "accept3"; parts = Number ∷ Number ∷ Flag ∷ Rule ∷ []; more_rules = more_than_one }
 
+-- The numbers of a definition: ID VERSION LEVEL KEYWORDS.
+abbrev pub number_parts : List Part
+number_parts = Number ∷ Number ∷ Number ∷ Keywords ∷ []
+
 -- The definition of an event: PROVIDER ID VERSION LEVEL KEYWORDS NAME FIELDS.
 abbrev pub definition_parts : List Part
 definition_parts = Provider ∷ Number ∷ Number ∷ Number ∷ Keywords ∷ Name ∷ Fields ∷ []

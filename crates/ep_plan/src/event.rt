@@ -1,13 +1,14 @@
 //! Reading the words of an `event` line.
-ghost use Rattle.std.specs.Prelude.{◌≡◌, ℕ, List, ◌∷◌, Some, None, IfOk, OnOk};
+ghost use Rattle.std.specs.Prelude.{◌≡◌, ℕ, List, [], ◌∷◌, Some, None, IfOk, OnOk};
 ghost use Rattle.std.specs.List.{list_any};
 ghost use Rattle.ep_defs.specs.Event.{is_same_event};
-ghost use Rattle.ep_plan.specs.Lines.{definition_parts, number_of, definition_of, event_bad};
-ghost use Rattle.ep_plan.specs.Cursor.{left, bad_left, BeginsAt, IfBad, IsBadAt};
+ghost use Rattle.ep_plan.specs.Lines.{Name, Fields as FieldsPart, definition_parts, number_parts, number_of, definition_of, definition_fault, event_bad};
+ghost use Rattle.ep_plan.specs.Words.{hex_in, event_name_in, fields_in};
+ghost use Rattle.ep_plan.specs.Cursor.{left, bad_left, BeginsAt, IfBad, IsBadAt, IsBadAmong, TookAll};
 
 use crate::cursor::Cursor;
 use crate::line::{LineFault, LineKind};
-use ep_defs::EventDef;
+use ep_defs::{EventDef, FieldList, Units};
 use std::alloc::Global;
 
 /// The number and the definition that the words after `event` spell.
@@ -29,13 +30,10 @@ pub(crate) fn read_event(
     }
     let index = words.index(events.len())?;
     let def = read_definition(alloc, words)?;
-    if !def.is_valid() {
-        return Err(words.bad(1, LineKind::Fields));
+    match definition_fault(events, &def) {
+        Some(kind) => Err(words.bad(1, kind)),
+        None => Ok((index, def)),
     }
-    if is_defined(events, &def) {
-        return Err(words.bad(1, LineKind::Same));
-    }
-    Ok((index, def))
 }
 
 // The definition that the words after an event's number spell.
@@ -46,13 +44,8 @@ fn read_definition(alloc: Global, words: &mut Cursor) -> Result<EventDef, LineFa
     ensures bad { IfBad result (IsBadAt words.old (bad_left words.old definition_parts 0)) }
 {
     let provider = words.provider(alloc)?;
-    let id = words.number()?;
-    let version = words.number()?;
-    let level = words.number()?;
-    let keywords = words.keywords()?;
-    let name = words.name(alloc)?;
-    let fields = words.fields(alloc)?;
-    words.end()?;
+    let (id, version, level, keywords) = read_numbers(words)?;
+    let (name, fields) = read_name_and_fields(alloc, words)?;
     Ok(EventDef {
         provider,
         id,
@@ -62,6 +55,48 @@ fn read_definition(alloc: Global, words: &mut Cursor) -> Result<EventDef, LineFa
         name,
         fields,
     })
+}
+
+// The id, version, level and keywords of a definition.
+fn read_numbers(words: &mut Cursor) -> Result<(u32, u32, u32, u64), LineFault>
+    ensures took { IfOk result (λ read. (i : List ℕ) × (v : List ℕ) × (l : List ℕ) × (k : List ℕ)
+        × TookAll number_parts words.old words.new (i ∷ v ∷ l ∷ k ∷ [])
+        × (number_of i ≡ Some read.0) × (number_of v ≡ Some read.1) × (number_of l ≡ Some read.2)
+        × (hex_in k ≡ Some read.3)) }
+    ensures bad { IfBad result (IsBadAmong number_parts words.old) }
+{
+    let id = words.number()?;
+    let version = words.number()?;
+    let level = words.number()?;
+    let keywords = words.keywords()?;
+    Ok((id, version, level, keywords))
+}
+
+// The name and the fields of an event, and nothing more.
+fn read_name_and_fields(alloc: Global, words: &mut Cursor) -> Result<(Units, FieldList), LineFault>
+    ensures line { OnOk result (words.new.line ≡ words.old.line) }
+    ensures read { IfOk result (λ read. (n : List ℕ) × (f : List ℕ) × (left words.old ≡ n ∷ f ∷ [])
+        × (event_name_in n ≡ Some read.0) × (fields_in f ≡ Some read.1)) }
+    ensures good { OnOk result (bad_left words.old (Name ∷ FieldsPart ∷ []) 0 ≡ None) }
+    ensures bad { IfBad result (IsBadAt words.old (bad_left words.old (Name ∷ FieldsPart ∷ []) 0)) }
+{
+    let name = words.name(alloc)?;
+    let fields = words.fields(alloc)?;
+    words.end()?;
+    Ok((name, fields))
+}
+
+// What is wrong with a definition after these.
+fn definition_fault(events: &[EventDef], def: &EventDef) -> Option<LineKind>
+    ensures { result ≡ definition_fault events.now def.now }
+{
+    if !def.is_valid() {
+        return Some(LineKind::Fields);
+    }
+    if is_defined(events, def) {
+        return Some(LineKind::Same);
+    }
+    None
 }
 
 // Whether a definition equals one of these.

@@ -129,8 +129,7 @@ fn put_write(line: &mut Vec<u8>, write: &Write) -> Result<(), AllocError>
     put_id_word(line, &write.activity)?;
     put_id_word(line, &write.related)?;
     put_frames_word(line, write.frames.as_slice())?;
-    put_payload_word(line, write.payload.as_slice())?;
-    Ok(())
+    put_payload_word(line, write.payload.as_slice())
 }
 
 // Appends an id as a word more.

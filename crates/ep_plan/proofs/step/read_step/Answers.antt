@@ -1,7 +1,13 @@
-use Rattle.std.proofs.Common.{sym, ◌∙◌}
+use Rattle.std.proofs.Common.{List, ℕ, ◌∷◌, IfOk, sym, subst, ◌∙◌}
+use Rattle.ep_plan.specs.Lines.{Spells}
 use Rattle.ep_plan.specs.Cursor.{left}
-use Rattle.ep_plan.proofs.Forms.{verb-form, no-verb, good-through, no-word}
+use Rattle.ep_plan.proofs.Forms.{verb-name, verb-form, no-verb, good-through, no-word}
 use Rattle.ep_plan.proofs.step.read_step.Goals as goal
+
+pub returns-in-Some-clause-read : goal.returns-in-Some-clause-read
+returns-in-Some-clause-read c =
+    let whole : List ℕ → Type 0 = λ name. IfOk c.read_words.result (λ step. Spells (name ∷ left c.args.words.now) step) in
+    subst whole (sym (verb-name c.args.first.now c.in-Some.verb (sym c.named.ensures ∙ c.in-Some.is))) c.read_words.ensures.read
 
 pub returns-in-Some-clause-good : goal.returns-in-Some-clause-good
 returns-in-Some-clause-good c =
