@@ -5,7 +5,7 @@ use Rattle.std.specs.BTreeMap.{get}
 use Rattle.std.specs.Ordering.{nat_cmp}
 use Rattle.std.specs.List.{AllByRecursion}
 use Rattle.std.proofs.lemmas.Bool.{eqb-true}
-use Rattle.std.proofs.lemmas.Option.{slice_get_read, same_Some}
+use Rattle.std.proofs.lemmas.Option.{slice_get_read, none-some, same_Some}
 use Rattle.std.proofs.lemmas.List.Quantifiers.{position-Some}
 use Rattle.ep_defs.specs.declared.session.Config.{Config}
 use Rattle.ep_defs.specs.declared.session.Marks.{Marks}
@@ -35,8 +35,8 @@ stands_at tables session place read found reads =
 
 -- What holds of all sessions holds of the one at a place.
 pub one_of : (P : Present → Type 0) (ps : List Present) (place : ℕ) (p : Present) → AllByRecursion P ps → slice_get ps place ≡ Some p → P p
-one_of P [] place p all is = absurd (cc)
-one_of P (q ∷ ps) zero p all is = let same : q ≡ p = cc in subst P same all.0
+one_of P [] place p all is = absurd (none-some p is)
+one_of P (q ∷ ps) zero p all is = subst P (same_Some q p is) all.0
 one_of P (q ∷ ps) (suc place) p all is = one_of P ps place p all.1 is
 
 -- The session at a place makes a step.
@@ -133,7 +133,7 @@ pub closed_now : (old new : Rows) (was now : Present) (row : ℕ) (hand : HandSt
 closed_now old new was now row hand mark number slot opened seat count rows_are sound sets held same marks h =
     let Known : ℕ → Type 0 = λ t. is_some (get nat_cmp was.opened t) ≡ true in
     turn_now old new was now number slot opened seat count rows_are sound
-    (hands_set was.session now.session row None Known sets (λ x is. absurd (cc)) (of_hands was.session Known h.ever))
+    (hands_set was.session now.session row None Known sets (λ x is. absurd (none-some x is)) (of_hands was.session Known h.ever))
     (λ place m is.
     marks_set mark (rest_of was.session).marks Known (subst Known (sym same) (h.ever hand.thread (inl (row, hand, held, refl)))) (of_marks was.session Known h.ever) place m
     (ap (λ (ms : List Marks). slice_get ms place) (sym marks) ∙ is))

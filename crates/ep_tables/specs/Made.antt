@@ -29,7 +29,7 @@ use Rattle.ep_stream.specs.Steps.{ToldRows, Opens, Steals, Closes}
 use Rattle.ep_stream.specs.Sweep.{TellsGive}
 use Rattle.ep_stream.specs.Telling.{IsTelling, IsFront, entries_of}
 use Rattle.ep_stream.specs.Named.{with_number, with_marks, still_open, numbers_of}
-use Rattle.ep_stream.specs.Session.{rest_of, hand_on, writer_of, new_rest, SetsHand, SameHands, Attached, Ended}
+use Rattle.ep_stream.specs.Session.{rest_of, hand_on, writer_of, new_rest, opened_count, fault_of, SetsHand, SameHands, Attached, Ended}
 use Rattle.ep_stream.specs.declared.session.SessionEnd.{SessionEnd}
 use Rattle.ep_stream.specs.declared.session.Fate.TheVariants.{ProgramEnd}
 use Rattle.ep_rows.specs.Rows.{told_of, definitions_of, AreFresh}
@@ -236,6 +236,18 @@ pub record MakesShow (thread session : ℕ) (write : Write) (old new : Tables) :
   pub begins : new.begins ≡ old.begins
 
 -- ---- a session comes and goes
+
+-- A session begins: nothing is told yet, and it is open on no row and was opened on no thread.
+pub record HasBegun (session slot : ℕ) (config : Config) (info : TraceInfo) (now : Present) : Type 0 where
+  pub number : now.number ≡ session
+  pub slot_is : now.slot ≡ slot
+  pub rest : rest_of now.session ≡ new_rest (record { slot = now.slot; id = now.number; conn = 0 }) config
+  pub hands : (row : ℕ) → hand_on now.session row ≡ None
+  pub count : opened_count now.session ≡ 0
+  pub sound : fault_of now.session ≡ None
+  pub ever : (t : ℕ) → get nat_cmp now.opened t ≡ None
+  pub len : btree_map_len now.opened ≡ 0
+  pub begun : (events : List EventDef) → IsTelling (λ (s : SinkState). true) (λ (s : SinkState). s.taken) [] (definition_at events) info [] (writer_of now.session)
 
 -- The session stands first among those that are present, with a slot and its chunks.
 pub record MakesAccept (session : ℕ) (config : Config) (info : TraceInfo) (old new : Tables) : Type 0 where

@@ -1,9 +1,10 @@
 //! Steps that a session makes.
-ghost use Rattle.std.specs.Prelude.{◌≡◌, ◌≢◌, Err, OnOk};
+ghost use Rattle.std.specs.Prelude.{◌≡◌, ◌≢◌, ◌<◌, Err, IfOk, OnOk};
+ghost use Rattle.ep_defs.specs.declared.limits.TheConstants.{SESSIONS};
 ghost use Rattle.nt_write.specs.declared.fault.Fault.TheVariants.{TooLong};
 ghost use Rattle.ep_tables.specs.Judged.{IsReady};
 ghost use Rattle.ep_tables.specs.declared.judged.Judged.TheVariants.{Accept, Open, Steal, Give, Point, Close, Finish};
-ghost use Rattle.ep_tables.specs.Made.{MakesAccept, MakesOpen, MakesSteal, MakesGive, MakesPoint, MakesClose, MakesFinish, RunsOut, PointRunsOut, EndsAs, HasId};
+ghost use Rattle.ep_tables.specs.Made.{MakesAccept, MakesOpen, MakesSteal, MakesGive, MakesPoint, MakesClose, MakesFinish, RunsOut, PointRunsOut, EndsAs, HasId, HasBegun};
 ghost use Rattle.ep_tables.specs.Tied.{AreTied};
 
 use crate::judged::{OfSession, OnBoth};
@@ -39,23 +40,8 @@ impl Tables {
             unreachable!();
         };
         let chunks = config.chunks;
-        let seat = Seat {
-            slot,
-            id: u64::from(session),
-            conn: NO_CONNECTION,
-        };
-        let sink = MemSink::new(Vec::new(alloc));
-        let begun = match Session::start(alloc, sink, &[], seat, config, info, 0) {
-            Ok(begun) => begun,
-            Err((_, fault)) => return Err(fault),
-        };
-        self.rows.seat(alloc, slot, chunks)?;
-        let present = Present {
-            number: session,
-            slot,
-            session: begun,
-            opened: BTreeMap::new(alloc),
-        };
+        let present = begin_session(alloc, session, slot, config, info)?;
+        self.rows.seat(alloc, present.slot, chunks)?;
         if let Err(failed) = self.present.insert(0, present) {
             return Err(AllocError::from(failed).into());
         }
@@ -137,4 +123,34 @@ impl Tables {
         self.table.free(present.slot);
         present.session.finish(alloc, stamp, Fate::ProgramEnd)
     }
+}
+
+// A session that begins in a slot: its stream has its start, and it is open on no thread.
+fn begin_session(
+    alloc: Global,
+    session: u32,
+    slot: u32,
+    config: Config,
+    info: &TraceInfo,
+) -> Result<Present, Fault>
+    requires { slot < SESSIONS }
+    ensures begun { IfOk result (HasBegun session slot config info.now) }
+    ensures not_long { result ≢ Err TooLong }
+{
+    let seat = Seat {
+        slot,
+        id: u64::from(session),
+        conn: NO_CONNECTION,
+    };
+    let sink = MemSink::new(Vec::new(alloc));
+    let begun = match Session::start(alloc, sink, &[], seat, config, info, 0) {
+        Ok(begun) => begun,
+        Err((_, fault)) => return Err(fault),
+    };
+    Ok(Present {
+        number: session,
+        slot,
+        session: begun,
+        opened: BTreeMap::new(alloc),
+    })
 }

@@ -1,12 +1,7 @@
-use Rattle.std.proofs.Common.{◌≡◌, ap, sym, ◌∙◌, subst, arith, ◌<◌, ◌++◌, List, [], length, true, ℕ, refl}
-use Rattle.std.specs.Map.{lookup}
-use Rattle.std.specs.Ordering.{nat_cmp, is_eq}
-use Rattle.ep_defs.specs.Definitions.{definition_at}
-use Rattle.ep_defs.specs.declared.event.EventDef.{EventDef}
-use Rattle.pt_io.specs.Memory.{SinkState}
-use Rattle.ep_table.specs.Sessions.{held_count}
-use Rattle.ep_stream.specs.Telling.{IsTelling}
-use Rattle.ep_stream.specs.Session.{new_rest, writer_of}
+use Rattle.std.proofs.Common.{◌≡◌, ap, sym, ◌∙◌, arith, ◌<◌, length, ℕ, refl}
+use Rattle.ep_table.specs.Sessions.{accepted_by, held_count}
+use Rattle.ep_table.specs.declared.table.Accepted.TheVariants.{Seat as SeatAt}
+use Rattle.ep_stream.specs.Session.{new_rest}
 use Rattle.ep_tables.proofs.TiedComings.{comer_tied, accept_tied}
 use Rattle.ep_tables.proofs.Seats.{seated, free_slot}
 use Rattle.ep_tables.proofs.tables.Tables.accept.Goals as goal
@@ -18,32 +13,37 @@ unreachable-requires c =
     let few : length c.args.self.now.present.items < 64 = c.requires.ready.can.1 in
     omega (arith, full, count, few)
 
-pub start-requires : goal.start-requires
-start-requires c =
+pub begin_session-requires : goal.begin_session-requires
+begin_session-requires c =
     let at = seated c.args.self.now.table c.in-Seat.slot c.in-Seat.id (sym c.accept.ensures.answer ∙ c.in-Seat.is) in
     let less : c.in-Seat.slot < length c.args.self.now.table.seats = at.less in
     let seats : length c.args.self.now.table.seats ≡ 64 = c.requires.tied.seats in
     omega (arith, less, seats)
 
+pub seat-requires-clause-slot : goal.seat-requires-clause-slot
+seat-requires-clause-slot c = c.in_ok-present.present.within
+
 pub seat-requires-clause-off : goal.seat-requires-clause-off
 seat-requires-clause-off c r =
-    c.requires.tied.off r c.in-Seat.slot (sym (c.requires.tied.held c.in-Seat.slot) ∙ free_slot c.args.self.now.table c.in-Seat.slot c.in-Seat.id (sym c.accept.ensures.answer ∙ c.in-Seat.is))
+    let slot = c.in_ok-present.present.slot in
+    let seat : accepted_by c.args.self.now.table ≡ SeatAt slot c.in-Seat.id = sym c.accept.ensures.answer ∙ c.in-Seat.is ∙ ap (λ (s : ℕ). SeatAt s c.in-Seat.id) (sym c.in_ok-present.ensures.begun.slot_is) in
+    c.requires.tied.off r slot (sym (c.requires.tied.held slot) ∙ free_slot c.args.self.now.table slot c.in-Seat.id seat)
 
 pub returns-clause-made : goal.returns-clause-made
 returns-clause-made c =
-    let Telling : List EventDef → List ℕ → Type 0 = λ events before. IsTelling (λ (s : SinkState). true) (λ (s : SinkState). s.taken) before (definition_at events) c.args.info.now [] (writer_of c.in-Ok.begun) in
-    let nothing = c.in-Ok.ensures.started.reply_is refl ∙ ap (λ (s : SinkState). s.taken ++ []) c.new-sink.ensures in
+    let now = c.in_ok-present.present in
+    let begun = c.in_ok-present.ensures.begun in
     record {
-      now = _;
+      now = now;
       id = c.in-Seat.id;
-      seat = sym c.accept.ensures.answer ∙ c.in-Seat.is;
+      seat = sym c.accept.ensures.answer ∙ c.in-Seat.is ∙ ap (λ (s : ℕ). SeatAt s c.in-Seat.id) (sym begun.slot_is);
       table = c.accept.ensures.after;
-      number = refl;
-      rest = (0, c.in-Ok.ensures.rest ∙ ap (λ (n : ℕ). new_rest (record { slot = c.in-Seat.slot; id = n; conn = 0 }) c.args.config) c.from.ensures);
-      hands = c.in-Ok.ensures.hands;
-      ever = λ t. ap (lookup (λ k. is_eq (nat_cmp t k))) c.new-2.ensures.empty;
-      count = c.new-2.ensures.len;
-      begun = λ events. subst (Telling events) nothing (c.in-Ok.ensures.started.telling events);
+      number = begun.number;
+      rest = (0, begun.rest ∙ ap (λ (n : ℕ). new_rest (record { slot = now.slot; id = n; conn = 0 }) c.args.config) begun.number);
+      hands = begun.hands;
+      ever = begun.ever;
+      count = begun.len;
+      begun = begun.begun;
       sessions = c.in_default-insert.ensures.items;
       rows = c.in_ok-seat.ensures.seated;
       last_session = refl;
@@ -54,11 +54,12 @@ returns-clause-made c =
 
 pub returns-clause-tied : goal.returns-clause-tied
 returns-clause-tied c =
-    let seated = c.in_ok-seat.ensures in
-    let begun = c.in-Ok.ensures in
     let old = c.args.self.now in
-    let seat = sym c.accept.ensures.answer ∙ c.in-Seat.is in
-    accept_tied old _ _ c.in-Seat.id seat c.accept.ensures.after c.in_default-insert.ensures.items refl seated.definitions seated.seated.slots seated.cleared
-    (comer_tied old.rows c.seat.new.self _ _ _ begun.rest refl c.from.ensures begun.hands begun.count begun.sound c.new-2.ensures.len
-    (λ r. c.requires.tied.off r c.in-Seat.slot (sym (c.requires.tied.held c.in-Seat.slot) ∙ free_slot old.table c.in-Seat.slot c.in-Seat.id seat)) seated.seated.slots seated.cleared)
+    let now = c.in_ok-present.present in
+    let begun = c.in_ok-present.ensures.begun in
+    let seated = c.in_ok-seat.ensures in
+    let seat : accepted_by old.table ≡ SeatAt now.slot c.in-Seat.id = sym c.accept.ensures.answer ∙ c.in-Seat.is ∙ ap (λ (s : ℕ). SeatAt s c.in-Seat.id) (sym begun.slot_is) in
+    accept_tied old _ now c.in-Seat.id seat c.accept.ensures.after c.in_default-insert.ensures.items refl seated.definitions seated.seated.slots seated.cleared
+    (comer_tied old.rows c.seat.new.self now _ _ begun.rest refl refl begun.hands begun.count begun.sound begun.len
+    (λ r. c.requires.tied.off r now.slot (sym (c.requires.tied.held now.slot) ∙ free_slot old.table now.slot c.in-Seat.id seat)) seated.seated.slots seated.cleared)
     c.requires.tied
