@@ -81,7 +81,13 @@ pub(crate) fn without_waiting<I: Source, O: Sink>(
         Some(Command::Report) => write_report(alloc, input, output),
         Some(Command::Events(form)) => write_events(alloc, *form, input, output),
         Some(Command::Gen(asked)) => generate(alloc, *asked, output),
-        Some(Command::Trace(_) | Command::Watch(_) | Command::Run(_) | Command::Client(_)) | None =>
-            { say(output, b"error: words\n", End::Words) }
+        Some(
+            Command::Trace(_)
+            | Command::Watch(_)
+            | Command::Run(_)
+            | Command::Client(_)
+            | Command::Greet(_),
+        )
+        | None => say(output, b"error: words\n", End::Words),
     }
 }

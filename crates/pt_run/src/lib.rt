@@ -14,6 +14,7 @@
 mod command;
 pub mod limits;
 mod plan;
+mod reverse;
 mod summary;
 #[cfg(test)]
 mod tests;
@@ -21,4 +22,4 @@ mod words;
 
 pub use command::{Ran, run};
 pub use plan::{number_from, plan_of};
-pub use words::{Asked, asked_of};
+pub use words::{Asked, Reverse, asked_of};

@@ -14,6 +14,7 @@ ghost use Rattle.std.specs.Prelude.{IfOk, IsTrue};
 ghost use Rattle.ep_defs.specs.Session.{is_valid_facts};
 
 mod arguments;
+mod caller;
 mod clock;
 mod dock;
 mod facts;
@@ -24,17 +25,19 @@ mod standard;
 mod tests;
 
 use arguments::words;
+use caller::SocketCaller;
 use clock::SystemClock;
 use dock::SocketDock;
 use ep_defs::Facts;
 use facts::facts_of;
 use name::socket_path;
 use pt_cli::tracepipe;
+use pt_client::greet_of;
 use pt_command::status;
 use pt_io::OpenGate;
-use socket::SocketCaller;
+use pt_run::{Asked, Reverse, asked_of};
 use standard::{StandardInput, StandardOutput};
-use std::alloc::AllocError;
+use std::alloc::{AllocError, Global};
 use std::process::ExitCode;
 use std::{io, process, thread};
 
@@ -46,12 +49,19 @@ fn main(rt: HostRuntime) -> ExitCode {
         Ok(count) => u32::try_from(count.get()).unwrap_or(u32::MAX),
         Err(_) => 1,
     };
-    // It listens once it is asked for a peer, so for `run` alone.
-    let mut dock = SocketDock::new(rt, socket_path(&rt, process).ok());
-    let mut caller = SocketCaller::new(rt);
     let clock = SystemClock::new(rt);
-    let status = match words_and_facts(&rt, process, processors) {
-        Ok((words, facts)) => {
+    let status = match scene_of(&rt, process, processors) {
+        Ok(
+            Scene {
+                words,
+                facts,
+                path,
+                tries,
+            },
+        ) => {
+            // It listens once it is asked for a peer, so for `run` and `greet` alone.
+            let mut dock = SocketDock::new(rt, path);
+            let mut caller = SocketCaller::new(rt, tries);
             tracepipe(
                 &rt,
                 rt.alloc(),
@@ -71,13 +81,54 @@ fn main(rt: HostRuntime) -> ExitCode {
     ExitCode::from(status)
 }
 
-// What the program was asked, and what it says of itself.
-fn words_and_facts(
-    rt: &HostRuntime,
-    process: u32,
-    processors: u32,
-) -> Result<(Vec<String>, Facts), AllocError>
-    ensures { IfOk result (λ both. IsTrue (is_valid_facts both.1)) }
+// What the program is asked, and what it goes by.
+#[derive(Drop)]
+struct Scene {
+    words: Vec<String>,
+    // What it says of itself.
+    facts: Facts,
+    // Where it listens, if there is such a place.
+    path: Option<String>,
+    // How often it calls a tool that is not there yet, where its server calls one.
+    tries: Option<u32>,
+}
+
+fn scene_of(rt: &HostRuntime, process: u32, processors: u32) -> Result<Scene, AllocError>
+    ensures { IfOk result (λ scene. IsTrue (is_valid_facts scene.facts)) }
 {
-    Ok((words(rt)?, facts_of(rt, process, processors)?))
+    let words = words(rt)?;
+    let path = path_for(rt, &words, process)?;
+    let tries = tries_for(rt.alloc(), &words)?;
+    let facts = facts_of(rt, process, processors)?;
+    Ok(Scene {
+        words,
+        facts,
+        path,
+        tries,
+    })
+}
+
+// The path that the words name for a program that is to call, or else that of the process.
+fn path_for(
+    rt: &HostRuntime,
+    words: &[String],
+    process: u32,
+) -> Result<Option<String>, AllocError> {
+    match greet_of(rt.alloc(), words)? {
+        Some(target) => Ok(Some(String::from_str(rt.alloc(), target.path())?)),
+        None => Ok(socket_path(rt, process).ok()),
+    }
+}
+
+// As often as there are to be links to the tool at most.
+fn tries_for(alloc: Global, words: &[String]) -> Result<Option<u32>, AllocError> {
+    match asked_of(alloc, words)? {
+        Some(
+            Asked {
+                reverse: Some(Reverse { calls, .. }),
+                ..
+            },
+        ) => Ok(Some(calls)),
+        _ => Ok(None),
+    }
 }

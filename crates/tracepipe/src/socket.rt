@@ -1,11 +1,13 @@
-//! Unix sockets as links, and the way to them. They are trusted: no clause can say what the system gives or takes.
+//! Unix sockets as links. They are trusted: no clause can say what the system gives or takes.
 ghost use Rattle.std.specs.Prelude.{◌≡◌, ◌+◌, ◌^◌, ◌<◌, ◌≤◌, [], length, false, IsErr, IfOk, IfSome, OnOk, OnErr};
 ghost use Rattle.pt_io.specs.Faults.{HasRisen};
 
-use pt_io::{Caller, Failed, Link, Sink, Source};
+use ipc_reverse::Advertise;
+use ipc_reverse::limits::ADVERT_BYTES;
+use pt_io::{Failed, Link, Sink, Source};
 use std::io::{ErrorKind, Read, Write};
 use std::marker::Model;
-use std::net::{Net, Shutdown};
+use std::net::Shutdown;
 use std::os::unix::net::UnixStream;
 use std::time::{Clock, Duration, Instant};
 
@@ -15,13 +17,15 @@ const MOST: u64 = (1 << 63) - 1;
 /// How long a read waits at least, in milliseconds: what is there is read, however late its reader is.
 const LEAST_WAIT: u64 = 1;
 
-/// A Unix stream socket as a link. It tells nothing of its bytes.
+/// A Unix stream socket as a link. It tells nothing of its bytes, but for the message that it took first, if it took one.
 #[derive(Drop)]
 pub struct SocketLink<C: Clock> {
     stream: UnixStream,
     clock: C,
     /// By when its peer has to have sent what is read, if it may not take its time.
     until: Option<Instant>,
+    /// What it took first, if that was to be known.
+    advert: Option<[u8; ADVERT_BYTES]>,
     may_give: u64,
     read_faults: u64,
     write_faults: u64,
@@ -29,11 +33,12 @@ pub struct SocketLink<C: Clock> {
 
 impl<C: Clock> Model for SocketLink<C> {
     ghost use Rattle.std.specs.Prelude.{◌<◌, ◌^◌};
-    ghost use Rattle.tracepipe.specs.Sockets.{SocketState};
+    ghost use Rattle.tracepipe.specs.Sockets.{SocketState, first_of};
 
     ghost Value = { SocketState };
 
     ghost view = { λ s. record {
+      taken = first_of s.advert;
       may_give = s.may_give;
       read_faults = s.read_faults;
       write_faults = s.write_faults;
@@ -55,6 +60,7 @@ impl<C: Clock> SocketLink<C> {
             stream,
             clock,
             until,
+            advert: None,
             may_give: MOST,
             read_faults: 0,
             write_faults: 0,
@@ -73,7 +79,7 @@ impl<C: Clock> Source for SocketLink<C> {
 
     ghost read_faults = { λ s. s.read_faults };
 
-    ghost write_side = { λ s. record { tells = false; taken = []; faults = s.write_faults } };
+    ghost write_side = { λ s. record { tells = false; taken = s.taken; faults = s.write_faults } };
 
     /// Gives what the socket gives. It fails where the socket does, where nothing is there by the time by which it is to be,
     /// and where all that it may give was given.
@@ -82,6 +88,7 @@ impl<C: Clock> Source for SocketLink<C> {
 
         ensures spent { self.old.may_give ≡ 0 → IsErr result }
         ensures writes { self.new.write_faults ≡ self.old.write_faults }
+        ensures taken { self.new.taken ≡ self.old.taken }
 
         // What the trait says.
         ensures within { IfOk result (λ n. n ≤ length buf.new) }
@@ -134,7 +141,7 @@ fn read_once<C: Clock>(
 impl<C: Clock> Sink for SocketLink<C> {
     ghost tells_taken = { λ _. false };
 
-    ghost taken = { λ _. [] };
+    ghost taken = { λ s. s.taken };
 
     ghost write_faults = { λ s. s.write_faults };
 
@@ -150,6 +157,7 @@ impl<C: Clock> Sink for SocketLink<C> {
     fn write(&mut self, piece: &[u8]) -> Result<(), Failed>
         ensures gives { self.new.may_give ≡ self.old.may_give }
         ensures reads { self.new.read_faults ≡ self.old.read_faults }
+        ensures first { self.new.taken ≡ self.old.taken }
 
         // What the trait says.
         ensures failed { OnErr result (HasRisen self.old.write_faults self.new.write_faults) }
@@ -179,69 +187,23 @@ impl<C: Clock + Send> Link for SocketLink<C> {
     ghost writes = { λ _. refl };
 }
 
-/// The way to the Unix sockets of this machine. A target is the path of one.
-#[derive(Drop)]
-pub struct SocketCaller<N: Net + Send> {
-    network: N,
-    links: u64,
-    faults: u64,
-}
+impl<C: Clock + Send> Advertise for SocketLink<C> {
+    /// Writes the message, as all else is written, and keeps it as what the socket took first.
+    fn advertise(&mut self, advert: &[u8; ADVERT_BYTES]) -> Result<(), Failed>
+        requires { self.old.taken ≡ [] }
 
-impl<N: Net + Send> Model for SocketCaller<N> {
-    ghost use Rattle.tracepipe.specs.Sockets.{CallerState};
-
-    ghost Value = { CallerState };
-
-    ghost view = { λ s. record { links = s.links; faults = s.faults } };
-}
-
-impl<N: Net + Send> SocketCaller<N> {
-    ghost use Rattle.tracepipe.specs.Sockets.{fresh_caller};
-
-    /// A caller that has called nobody.
-    pub fn new(network: N) -> SocketCaller<N>
-        ensures { result ≡ fresh_caller }
-    {
-        SocketCaller {
-            network,
-            links: 0,
-            faults: 0,
-        }
-    }
-}
-
-impl<N: Net + Clock + Copy + Drop + Send> Caller for SocketCaller<N> {
-    ghost use Rattle.tracepipe.specs.Sockets.{fresh_socket, MOST_LINKS};
-
-    type Link = SocketLink<N>;
-
-    ghost leads_to = { λ _ _. Unit {0} };
-
-    ghost links = { λ s. s.links };
-
-    ghost call_faults = { λ s. s.faults };
-
-    /// Connects to the socket at a path. It fails where no socket listens there, where the path is no path of a socket,
-    /// and where no more links can be counted.
-    fn call(&mut self, target: &str) -> Result<SocketLink<N>, Failed>
-        ensures full { self.old.links ≡ MOST_LINKS → IsErr result }
-        ensures fresh { IfOk result (λ link. link ≡ fresh_socket) }
+        ensures gives { self.new.may_give ≡ self.old.may_give }
+        ensures reads { self.new.read_faults ≡ self.old.read_faults }
 
         // What the trait says.
-        ensures counted { OnOk result (self.new.links ≡ self.old.links + 1) }
-        ensures uncounted { OnErr result (self.new.links ≡ self.old.links) }
-        ensures failed { OnErr result (HasRisen self.old.faults self.new.faults) }
-        ensures called { OnOk result (self.new.faults ≡ self.old.faults) }
-        ensures later { self.old.faults ≤ self.new.faults }
+        ensures took { OnOk result (self.new.taken ≡ advert.now) }
+        ensures failed { OnErr result (HasRisen self.old.write_faults self.new.write_faults) }
+        ensures wrote { OnOk result (self.new.write_faults ≡ self.old.write_faults) }
+        ensures later { self.old.write_faults ≤ self.new.write_faults }
     {
-        if let Some(links) = self.links.checked_add(1) {
-            if let Ok(stream) = UnixStream::connect(&self.network, target) {
-                self.links = links;
-                return Ok(SocketLink::new(stream, self.network, None));
-            }
-        }
-        self.faults = self.faults.saturating_add(1);
-        Err(Failed)
+        self.write(advert)?;
+        self.advert = Some(*advert);
+        Ok(())
     }
 }
 

@@ -1,11 +1,15 @@
-//! The program's `run` on a real socket, to which its own clients come from threads of their own.
+//! The program's `run` on a real socket, to which its own clients come from threads of their own, or which calls its own
+//! `greet`.
+use crate::caller::SocketCaller;
 use crate::dock::SocketDock;
 use crate::facts::facts_of;
-use crate::socket::SocketCaller;
 use pt_cli::tracepipe;
 use pt_command::status;
 use pt_io::{Gate, MemSink, MemSource, Moment, StepClock};
 use std::alloc::{AllocError, Global};
+use std::io::{Read, Write};
+use std::net::Shutdown;
+use std::os::unix::net::UnixStream;
 use std::sync::Wait;
 use std::sync::atomic::{AtomicU64, Ordering};
 use std::thread::Threads;
@@ -59,6 +63,8 @@ connections          5
 struct Scene {
     rt: HostRuntime,
     path: String,
+    // How often a tool that is not there yet is called.
+    tries: Option<u32>,
     made: AtomicU64,
 }
 
@@ -119,7 +125,7 @@ impl<'a, R: Threads + Wait + Timer + Sync> Tools<'a, R> {
         let Ok(facts) = facts_of(&rt, 1, 1) else {
             return status::OUT_OF_MEMORY;
         };
-        let mut caller = SocketCaller::new(rt);
+        let mut caller = SocketCaller::new(rt, self.scene.tries);
         let clock = StepClock::new(7);
         tracepipe(
             self.threads,
@@ -225,19 +231,20 @@ impl<'a, R: Threads + Wait + Timer + Sync> Tools<'a, R> {
 }
 
 // Where a run of these words listens whose file has this name, which no other test and no other run of the tests has.
-fn scene_of(rt: HostRuntime, name: &str) -> io::Result<Scene> {
+fn scene_of(rt: HostRuntime, name: &str, tries: Option<u32>) -> io::Result<Scene> {
     let folder = env::temp_dir(&rt)?;
     let process = process::id(rt.process());
     Ok(Scene {
         rt,
         path: format!(in rt.alloc(); "{}/run-{process}-{name}", folder.display())?,
+        tries,
         made: AtomicU64::new(0),
     })
 }
 
 #[test]
 fn tools_come_to_a_run_over_its_socket(rt: HostRuntime) -> io::Result<()> {
-    let scene = scene_of(rt, "whole")?;
+    let scene = scene_of(rt, "whole", None)?;
     let tools = Tools {
         threads: &rt,
         scene: &scene,
@@ -252,7 +259,7 @@ fn tools_come_to_a_run_over_its_socket(rt: HostRuntime) -> io::Result<()> {
 // Something stands where it would listen.
 #[test]
 fn a_run_that_cannot_listen_is_a_link_fault(rt: HostRuntime) -> io::Result<()> {
-    let scene = scene_of(rt, "held")?;
+    let scene = scene_of(rt, "held", None)?;
     fs::write(&rt, &scene.path, "mine")?;
     let tools = Tools {
         threads: &rt,
@@ -269,4 +276,115 @@ fn a_run_that_cannot_listen_is_a_link_fault(rt: HostRuntime) -> io::Result<()> {
         (status::LINK_FAULT, lines.as_slice(), "mine")
     );
     fs::remove_file(&rt, &scene.path)
+}
+
+// The 34 bytes with which a program of process id 1 says who it is, whose cookie is of zeros.
+const ADVERT: [u8; 34] = *b"ADVR_V1\0\0\0\0\0\0\0\0\0\0\0\0\0\0\0\0\0\x01\0\0\0\0\0\0\0\0\0";
+
+impl<'a, R: Threads + Wait + Timer + Sync> Tools<'a, R> {
+    // Whether a run calls the tool at the path, and ends as done once that has asked what it is.
+    fn call_the_tool(&self) -> bool {
+        let path = self.scene.path.as_str();
+        let Ok(words) = format!(in self.scene.rt.alloc(); "run 1 0 --reverse {path} --calls 1")
+        else {
+            return false;
+        };
+        match self.carried_out(words.as_str(), &[]) {
+            Ok((status::DONE, lines)) => {
+                lines.as_slice() == b"run          1          0\nconnections          1\n"
+            }
+            _ => false,
+        }
+    }
+
+    // Whether the tool at the path hears of process 1 what it is.
+    fn greet_the_run(&self) -> bool {
+        match self.asked("greet", "") {
+            Some(line) => line.starts_with(b"process          1 "),
+            None => false,
+        }
+    }
+
+    // How the tool at the path ends, and what it writes.
+    fn greeted(&self) -> Option<(u8, Vec<u8>)> {
+        let path = self.scene.path.as_str();
+        let words = format!(in self.scene.rt.alloc(); "greet {path}").ok()?;
+        self.carried_out(words.as_str(), &[]).ok()
+    }
+
+    // Connects to the tool once it is there, sends these bytes and no more, and reads until the tool has gone.
+    fn send(&self, bytes: &[u8]) -> bool {
+        let rt = self.scene.rt;
+        for _look in 0..LOOKS {
+            if let Ok(stream) = UnixStream::connect(&rt, &self.scene.path) {
+                return send_over(stream, bytes).is_ok();
+            }
+            thread::sleep(&rt, Duration::from_millis(PAUSE));
+        }
+        false
+    }
+
+    // Whether the tool says of a stranger, who sends these bytes and no more, that its reply is wrong at this offset.
+    fn is_refused(&self, bytes: &[u8], at: usize) -> io::Result<bool> {
+        let rt = self.scene.rt;
+        let line = format!(in rt.alloc(); "error: reply at {at}\n")?;
+        let did = thread::map_indices(
+            self.threads,
+            rt.alloc(),
+            2,
+            &|place| match place {
+                0 => match self.greeted() {
+                    Some((status::BAD_REPLY, written)) => written.as_slice() == line.as_bytes(),
+                    _ => false,
+                },
+                _ => self.send(bytes),
+            },
+        )?;
+        Ok(did.as_slice() == [true; 2])
+    }
+}
+
+fn send_over(mut stream: UnixStream, bytes: &[u8]) -> io::Result<()> {
+    stream.write_all(bytes)?;
+    stream.shutdown(Shutdown::Write)?;
+    let mut buf = [0; 64];
+    while stream.read(&mut buf)? > 0 {}
+    Ok(())
+}
+
+#[test]
+fn a_run_calls_a_tool_that_asks_what_it_is(rt: HostRuntime) -> io::Result<()> {
+    let scene = scene_of(rt, "called", Some(500))?;
+    let tools = Tools {
+        threads: &rt,
+        scene: &scene,
+    };
+    let did = thread::map_indices(
+        &rt,
+        rt.alloc(),
+        2,
+        &|place| match place {
+            0 => tools.call_the_tool(),
+            _ => tools.greet_the_run(),
+        },
+    )?;
+    assert_eq!(rt; did.as_slice(), [true; 2].as_slice());
+    Ok(())
+}
+
+// As many bytes of who it is as there are: with all of them it is asked, and its reply has none.
+#[test]
+fn a_stranger_that_calls_is_refused(rt: HostRuntime) -> io::Result<()> {
+    let scene = scene_of(rt, "stranger", None)?;
+    let tools = Tools {
+        threads: &rt,
+        scene: &scene,
+    };
+    for there in 0..35 {
+        let at = if there < ADVERT.len() { there } else { 0 };
+        let bytes = ADVERT.get(..there).unwrap_or(&[]);
+        assert!(rt; tools.is_refused(bytes, at)?);
+    }
+    assert!(rt; tools.is_refused(b"GET / HTTP/1.1", 0)?);
+    Ok(())
 }

@@ -1,6 +1,6 @@
 -- A run's sessions have marks as few as its threads.
 use Rattle.pt_run.proofs.Few.{sessions-few}
-use Rattle.pt_run.proofs.command.run.Goals as goal
+use Rattle.pt_run.proofs.command.run_at.Goals as goal
 
 pub told-end-requires : goal.told-end-requires
 told-end-requires g c =
