@@ -70,7 +70,7 @@ use std::time;
 /// start-up text TEXT asks for, and writes the session's stream as it comes. Stamps are what `clock` says; the threads pass
 /// `gate` at their moments. With `watch` and the same words it hands the session's events to a callback that counts them, and
 /// writes in one write how many of each thread were heard and refused, and how often each event was heard. These three may
-/// wait for their threads and locks; no other command waits.
+/// wait for their threads and locks, as `greet` waits for a program; no other command waits.
 pub fn tracepipe<
     R: Threads + Wait + time::Clock + Sync,
     L: Advertise + Drop,

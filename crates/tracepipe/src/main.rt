@@ -1,9 +1,9 @@
 //! The program: it makes the real objects of the outside and hands them to the logic.
 //!
-//! It stands on pt_cli, whose call `tracepipe` it makes, on pt_command, for the statuses, and on pt_io, whose traits it
-//! fulfils. What it adds is the trusted edge: standard input and output as a source and a sink, Unix sockets as links,
-//! that tell nothing of content, and the system's clock. Everything that can be said of bytes is said below it, over any
-//! source, sink and link.
+//! It stands on pt_cli, whose call `tracepipe` it makes, on pt_client and pt_run, whose words say where it listens and how often
+//! it calls, on pt_command, for the statuses, and on pt_io and ipc_reverse, whose traits it fulfils. What it adds is the trusted
+//! edge: standard input and output as a source and a sink, Unix sockets as links, that tell nothing of content, and the system's
+//! clock. Everything that can be said of bytes is said below it, over any source, sink and link.
 //!
 //! Its one contract: the adapters keep the clauses of the traits.
 //!
