@@ -10,10 +10,9 @@ use Rattle.pt_command.specs.Says.{TookText, BrokeOff}
 use Rattle.pt_report.specs.declared.errors.Flaw.{Flaw}
 use Rattle.pt_report.specs.declared.errors.Flaw.TheVariants as flaw
 use Rattle.pt_report.specs.declared.errors.Refusal.{Refusal}
-use Rattle.pt_report.specs.Errors.{refusal_error}
 use Rattle.pt_report.specs.Found.{IsWhole, IsFlaw}
 use Rattle.pt_report.proofs.Whole.{flaw-not_whole}
-use Rattle.pt_events.specs.Found.{IsListed, IsCut, IsError}
+use Rattle.pt_events.specs.Found.{IsListed, IsCut, IsError, error_line}
 use Rattle.pt_lines.specs.declared.form.Form.{Form}
 use Rattle.pt_events.specs.Command.{Lists, SoFar}
 use Rattle.pt_command.specs.declared.limits.TheConstants.{PIECE_BYTES}
@@ -55,11 +54,11 @@ module _ {I O : Type 0} (source : Source I) (sink : Sink O) (form : Form) (input
   -- An error line follows.
   pub refused : (bytes text : List ℕ) (result : End) (refusal : Refusal) → ReadWhole source input_old input_new bytes → source.read_faults input_new ≡ source.read_faults input_old
       → sink.tells_taken output_mid ≡ sink.tells_taken output_old → TookText sink output_old output_mid text → IsCut form bytes refusal.at refusal.flaw text
-      → result ≡ ends.Refused refusal.at → TookText sink output_mid output_new (refusal_error refusal)
+      → result ≡ ends.Refused refusal.at → TookText sink output_mid output_new (error_line form refusal)
       → Lists source sink form input_old input_new output_old output_new result
   refused bytes text result refusal read sound told took cut is put =
-      let all = text ++ refusal_error refusal in
-      let taken : TookText sink output_old output_new all = took-more sink output_old output_mid output_new text (refusal_error refusal) told took put in
+      let all = text ++ error_line form refusal in
+      let taken : TookText sink output_old output_new all = took-more sink output_old output_mid output_new text (error_line form refusal) told took put in
       let error : IsError form bytes refusal.at all = record { refusal = refusal; lines = text; cut = cut; place = refl; text_is = refl } in
       record {
         done = λ other. absurd (cc);
@@ -78,11 +77,11 @@ module _ {I O : Type 0} (source : Source I) (sink : Sink O) (form : Form) (input
   -- The error line was not written whole.
   pub broke : (bytes text : List ℕ) (result : End) (refusal : Refusal) → ReadWhole source input_old input_new bytes → source.read_faults input_new ≡ source.read_faults input_old
       → sink.tells_taken output_mid ≡ sink.tells_taken output_old → TookText sink output_old output_mid text → IsCut form bytes refusal.at refusal.flaw text
-      → result ≡ ends.WriteFault → BrokeOff sink output_mid output_new (refusal_error refusal)
+      → result ≡ ends.WriteFault → BrokeOff sink output_mid output_new (error_line form refusal)
       → Lists source sink form input_old input_new output_old output_new result
   broke bytes text result refusal read sound told took cut is put =
-      let all = text ++ refusal_error refusal in
-      let broken : BrokeOff sink output_old output_new all = broke-more sink output_old output_mid output_new text (refusal_error refusal) told took put in
+      let all = text ++ error_line form refusal in
+      let broken : BrokeOff sink output_old output_new all = broke-more sink output_old output_mid output_new text (error_line form refusal) told took put in
       let error : IsError form bytes refusal.at all = record { refusal = refusal; lines = text; cut = cut; place = refl; text_is = refl } in
       record {
         done = λ other. absurd (cc);

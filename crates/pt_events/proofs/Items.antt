@@ -20,7 +20,7 @@ use Rattle.pt_events.specs.declared.listing.Listing.{Listing}
 use Rattle.pt_lines.specs.Line.{Line, Event}
 use Rattle.pt_events.specs.Lines.{sighted, lost_lines, address_after, entries_in, entry_lines, item_lines}
 use Rattle.pt_lines.specs.declared.form.Form.{Form}
-use Rattle.pt_lines.specs.Texts.{AreLines, IsLine}
+use Rattle.pt_lines.specs.Forms.{AreLines, IsLine}
 use Rattle.pt_lines.specs.Appends.{Appends}
 use Rattle.pt_events.specs.state.Known.{Knows, HasSeen, IsFound}
 use Rattle.pt_events.specs.state.Listed.{HasListed, event_lines}

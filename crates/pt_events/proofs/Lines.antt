@@ -10,7 +10,7 @@ use Rattle.pt_lines.specs.Line.{Line, lost_if}
 use Rattle.pt_events.specs.Lines.{sighted, last_of, left_out, lost_lines, address_after, item_lines, lines_after, lines_of}
 use Rattle.pt_events.specs.state.Listed.{address_at}
 use Rattle.pt_lines.specs.declared.form.Form.{Form}
-use Rattle.pt_lines.specs.Texts.{AreLines}
+use Rattle.pt_lines.specs.Forms.{AreLines}
 use Rattle.pt_lines.proofs.Lines.{lines-append}
 
 -- The lines after these names and numbers.

@@ -11,7 +11,7 @@ use Rattle.pt_lines.specs.declared.form.Form.{Form}
 use Rattle.pt_events.specs.declared.listing.Listing.{Listing}
 use Rattle.pt_events.specs.declared.reading.Misplaced.{Misplaced}
 use Rattle.pt_events.specs.Lines.{lines_of}
-use Rattle.pt_lines.specs.Texts.{AreLines}
+use Rattle.pt_lines.specs.Forms.{AreLines}
 use Rattle.pt_events.specs.Found.{AreLinesOf}
 use Rattle.pt_lines.specs.Appends.{Appends}
 use Rattle.pt_events.specs.state.Listed.{HasListed, ListsOne}

@@ -10,10 +10,12 @@ use Rattle.pt_report.specs.declared.errors.Flaw.{Flaw}
 use Rattle.pt_report.specs.declared.errors.Flaw.TheVariants as flaw
 use Rattle.pt_report.specs.declared.errors.Refusal.{Refusal}
 use Rattle.pt_report.specs.Found.{IsMisplaced}
-use Rattle.pt_report.specs.Errors.{refusal_error}
+use Rattle.pt_report.specs.Errors.{flaw_name, refusal_error}
 use Rattle.pt_lines.specs.declared.form.Form.{Form}
+use Rattle.pt_lines.specs.declared.form.Form.TheVariants as forms
 use Rattle.pt_events.specs.Lines.{lines_of}
-use Rattle.pt_lines.specs.Texts.{AreLines}
+use Rattle.pt_lines.specs.Forms.{AreLines}
+use Rattle.pt_lines.specs.Json.{error_object}
 
 -- The text is the lines of these items, in this form.
 abbrev pub AreLinesOf : Form → List Item → List ℕ → Type 0
@@ -42,10 +44,15 @@ IsSoFar form bytes text =
     (AreOrdered (items_of (verdict bytes)) × AreLinesOf form (items_of (verdict bytes)) text)
     ⊎ ((at : ℕ) × (kind : CheckKind) × StandsBefore form (items_of (verdict bytes)) at kind text)
 
+-- The error line of a refusal, in this form: that of a report, or an object with the same words.
+abbrev pub error_line : Form → Refusal → List ℕ
+error_line forms.Lines refusal = refusal_error refusal
+error_line forms.Json refusal = error_object refusal.at (flaw_name refusal.flaw)
+
 -- The text is the lines before what is wrong with the bytes at this offset, and the error line.
 pub record IsError (form : Form) (bytes : List ℕ) (at : ℕ) (text : List ℕ) : Type 0 where
   pub refusal : Refusal
   pub lines : List ℕ
   pub cut : IsCut form bytes refusal.at refusal.flaw lines
   pub place : at ≡ refusal.at
-  pub text_is : text ≡ lines ++ refusal_error refusal
+  pub text_is : text ≡ lines ++ error_line form refusal

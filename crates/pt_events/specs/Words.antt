@@ -1,10 +1,11 @@
 -- The words of the command (this project's profile).
-use Rattle.std.specs.Prelude.{ℕ, if◌then◌else◌, List, [], ◌∷◌, codes, Option, Some, None}
+use Rattle.std.specs.Prelude.{ℕ, ◌&&◌, if◌then◌else◌, List, [], ◌∷◌, codes, Option, Some, None}
 use Rattle.ep_defs.specs.Event.{is_same_text}
 use Rattle.pt_lines.specs.declared.form.Form.{Form}
 use Rattle.pt_lines.specs.declared.form.Form.TheVariants as forms
 
--- The words are `events`.
+-- The words are `events`, or `events` and `--json`.
 abbrev pub form_in : List (List ℕ) → Option Form
 form_in (name ∷ []) = if is_same_text name (codes "events") then Some forms.Lines else None
+form_in (name ∷ option ∷ []) = if is_same_text name (codes "events") && is_same_text option (codes "--json") then Some forms.Json else None
 form_in words = None

@@ -1,20 +1,22 @@
 //! The command `events`.
-ghost use Rattle.std.specs.Prelude.{◌≡◌, ◌≢◌, ◌⊎◌, ◌<◌, ◌^◌, ℕ, [], List, IfErr, OnOk, OnErr, Err};
+ghost use Rattle.std.specs.Prelude.{◌≡◌, ◌≢◌, ◌⊎◌, ◌<◌, ◌^◌, ℕ, [], List, IfOk, IfErr, OnOk, OnErr, Err};
 ghost use Rattle.pt_io.specs.Faults.{HasRisen};
 ghost use Rattle.pt_command.specs.declared.limits.TheConstants.{PIECE_BYTES};
 ghost use Rattle.pt_command.specs.declared.end.End.TheVariants as ends;
 ghost use Rattle.pt_command.specs.Input.{ReadWhole};
-ghost use Rattle.pt_command.specs.Says.{TookText, BrokeOff};
+ghost use Rattle.pt_command.specs.Says.{TookText, BrokeOff, SaysLine};
+ghost use Rattle.pt_lines.specs.declared.form.Form.TheVariants as forms;
+ghost use Rattle.pt_events.specs.Found.{error_line};
 ghost use Rattle.pt_events.specs.Command.{Lists, SoFar};
 ghost use Rattle.pt_events.specs.state.Read.{HasRead, used};
 ghost use Rattle.pt_events.specs.state.Ends.{EndsBytes};
 
 use crate::reading::Reading;
 use pt_command::limits::PIECE_BYTES;
-use pt_command::{End, say_line};
+use pt_command::{End, say};
 use pt_io::{Failed, Sink, Source};
-use pt_lines::Form;
-use pt_report::refusal_text;
+use pt_lines::{Form, put_error};
+use pt_report::{Refusal, flaw_text, refusal_text};
 use std::alloc::{AllocError, Global};
 
 /// Reads a stream from `input` to its end, and writes the lines of its events, its points and of what is lost to `output` as
@@ -30,7 +32,7 @@ pub fn write_events<I: Source, O: Sink>(
 {
     let mut reading = Reading::new(alloc);
     match write_pieces(alloc, form, input, &mut reading, output) {
-        Ok(()) => write_end(alloc, &reading, output),
+        Ok(()) => write_end(alloc, form, &reading, output),
         Err(end) => end,
     }
 }
@@ -92,16 +94,44 @@ fn write_lines<O: Sink>(lines: &[u8], output: &mut O) -> Result<(), End>
 }
 
 // Says what is wrong with the bytes that were read, where something is.
-fn write_end<O: Sink>(alloc: Global, reading: &Reading, output: &mut O) -> End
-    ensures { (form : Form) (bytes text : List ℕ) → HasRead form bytes text reading.now
+fn write_end<O: Sink>(alloc: Global, form: Form, reading: &Reading, output: &mut O) -> End
+    ensures { (bytes text : List ℕ) → HasRead form bytes text reading.now
         → EndsBytes O.Sink form output.old output.new bytes text result }
 {
     match reading.end() {
         Ok(None) => End::Done,
-        Ok(Some(refusal)) => {
-            let end = End::Refused { at: refusal.at };
-            say_line(output, refusal_text(alloc, &refusal), end)
-        }
+        Ok(Some(refusal)) => write_error(alloc, form, &refusal, output),
         Err(AllocError) => End::OutOfMemory,
     }
+}
+
+// Writes the error line of a refusal.
+fn write_error<O: Sink>(alloc: Global, form: Form, refusal: &Refusal, output: &mut O) -> End
+    ensures { SaysLine O.Sink output.old output.new (error_line form refusal.now) (ends.Refused refusal.now.at) result }
+{
+    let end = End::Refused { at: refusal.at };
+    match error_text(alloc, form, refusal) {
+        Ok(line) => say(output, line.as_slice(), end),
+        Err(AllocError) => End::OutOfMemory,
+    }
+}
+
+// The error line of a refusal, with its line feed.
+fn error_text(alloc: Global, form: Form, refusal: &Refusal) -> Result<Vec<u8>, AllocError>
+    ensures { IfOk result (λ line. line.items ≡ error_line form refusal.now) }
+{
+    match form {
+        Form::Lines => Ok(refusal_text(alloc, refusal)?.into_bytes()),
+        Form::Json => error_object(alloc, refusal),
+    }
+}
+
+// The error line as an object.
+fn error_object(alloc: Global, refusal: &Refusal) -> Result<Vec<u8>, AllocError>
+    ensures { IfOk result (λ line. line.items ≡ error_line forms.Json refusal.now) }
+{
+    let words = flaw_text(alloc, refusal.flaw)?;
+    let mut line = Vec::new(alloc);
+    put_error(&mut line, refusal.at, &words)?;
+    Ok(line)
 }

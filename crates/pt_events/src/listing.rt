@@ -9,7 +9,7 @@ ghost use Rattle.nt_check.specs.declared.checker.CheckKind.{CheckKind};
 ghost use Rattle.nt_check.specs.declared.checker.CheckFault.TheVariants.{Bad, OutOfMemory};
 ghost use Rattle.nt_check.specs.Faults.{disorder_of};
 ghost use Rattle.pt_events.specs.Lines.{lost_lines, known_by};
-ghost use Rattle.pt_lines.specs.Texts.{AreLines};
+ghost use Rattle.pt_lines.specs.Forms.{AreLines};
 ghost use Rattle.pt_lines.specs.Appends.{Appends, Tells};
 ghost use Rattle.pt_events.specs.state.Known.{HasSeen};
 ghost use Rattle.pt_events.specs.state.Listed.{HasListed, ListsOne, event_lines};

@@ -20,11 +20,11 @@ pub record Going (fields : List FieldDef) (payload : List ℕ) (old : List ℕ) 
   pub stops : values_at left bytes ≡ Err DoesNotFit → values_at fields payload ≡ Err DoesNotFit
 
 -- A field and those after it.
-values-on : (field : FieldDef) (others : List FieldDef) (bytes next rest : List ℕ) (kind : FieldKind) (value : FieldValue) (values : List FieldValue) → kind_of field.code ≡ Some kind → value_at kind bytes ≡ Ok (value, next) → values_at others next ≡ Ok (values, rest) → values_at (field ∷ others) bytes ≡ Ok (value ∷ values, rest)
+pub values-on : (field : FieldDef) (others : List FieldDef) (bytes next rest : List ℕ) (kind : FieldKind) (value : FieldValue) (values : List FieldValue) → kind_of field.code ≡ Some kind → value_at kind bytes ≡ Ok (value, next) → values_at others next ≡ Ok (values, rest) → values_at (field ∷ others) bytes ≡ Ok (value ∷ values, rest)
 unfolding values_at
 values-on field others bytes next rest kind value values known read later = rw (known, read, later) refl
 
-values-off : (field : FieldDef) (others : List FieldDef) (bytes next : List ℕ) (kind : FieldKind) (value : FieldValue) → kind_of field.code ≡ Some kind → value_at kind bytes ≡ Ok (value, next) → values_at others next ≡ Err DoesNotFit → values_at (field ∷ others) bytes ≡ Err DoesNotFit
+pub values-off : (field : FieldDef) (others : List FieldDef) (bytes next : List ℕ) (kind : FieldKind) (value : FieldValue) → kind_of field.code ≡ Some kind → value_at kind bytes ≡ Ok (value, next) → values_at others next ≡ Err DoesNotFit → values_at (field ∷ others) bytes ≡ Err DoesNotFit
 unfolding values_at
 values-off field others bytes next kind value known read later = rw (known, read, later) refl
 
@@ -75,7 +75,7 @@ ends-misfit fields payload old left bytes opened out going misfit =
     let none : values_at fields payload ≡ Err DoesNotFit = going.stops misfit in
     misfit-puts fields payload old out (rw none refl) (keeps-front old going.text out going.put)
 
-no-fields : (bytes : List ℕ) → values_at [] bytes ≡ Ok ([], bytes)
+pub no-fields : (bytes : List ℕ) → values_at [] bytes ≡ Ok ([], bytes)
 unfolding values_at
 no-fields bytes = refl
 

@@ -4,14 +4,9 @@ use Rattle.std.specs.Prelude.{OnOk}
 use Rattle.std.proofs.lemmas.List.{append-nil}
 use Rattle.std.proofs.lemmas.Result.{on_ok_weaker}
 use Rattle.pt_lines.specs.declared.form.Form.{Form}
-use Rattle.pt_lines.specs.declared.form.Form.TheVariants as forms
 use Rattle.pt_lines.specs.Line.{Line, Lost, lost_if}
-use Rattle.pt_lines.specs.Texts.{IsLine, AreLines}
+use Rattle.pt_lines.specs.Forms.{IsLine, AreLines}
 use Rattle.pt_lines.specs.Appends.{Appends}
-
--- There is one form.
-pub one-form : (form : Form) → form ≡ forms.Lines
-one-form forms.Lines = refl
 
 -- One line is lines.
 pub line-one : (form : Form) (line : Line) (text : List ℕ) → IsLine form line text → AreLines form (line ∷ []) text

@@ -6,7 +6,9 @@ use Rattle.ep_defs.specs.Entry.{EventEntry}
 use Rattle.nt_fields.specs.Values.{payload_at}
 use Rattle.pt_lines.specs.declared.form.Form.TheVariants as forms
 use Rattle.pt_lines.specs.Line.{Event}
-use Rattle.pt_lines.specs.Texts.{IsLine, IsPayload, event_start, closes}
+use Rattle.pt_lines.specs.Texts.{IsPayload, event_start, closes}
+use Rattle.pt_lines.specs.Forms.{IsLine}
+use Rattle.std.specs.List.{concat}
 use Rattle.std.proofs.lemmas.List.{append-nil}
 use Rattle.std.proofs.lemmas.Result.{on_ok_weaker}
 use Rattle.pt_lines.specs.Appends.{Appends}
@@ -56,3 +58,31 @@ event-put address processor thread event fields payload old start mid new same s
           ∙ ap (λ (xs : List ℕ). xs ++ 10 ∷ []) (put ∙ ap (λ (xs : List ℕ). xs ++ text) begun ∙ append_assoc old (event_start event) text)
           ∙ append_assoc old (event_start event ++ text) (10 ∷ []),
     )
+
+-- ---- pieces
+
+-- A piece more.
+pub then : {mid text new : List ℕ} (piece : List ℕ) → mid ≡ text → new ≡ mid ++ piece → new ≡ text ++ piece
+then piece before now = now ∙ ap (λ (xs : List ℕ). xs ++ piece) before
+
+-- So it is where the piece is told otherwise.
+pub then-by : {A : Type 0} {mid text new : List ℕ} (f : A → List ℕ) (x y : A) → x ≡ y → mid ≡ text → new ≡ mid ++ f x → new ≡ text ++ f y
+then-by {A} {mid} {text} {new} f x y same before now = then (f y) before (subst (λ (z : A). new ≡ mid ++ f z) same now)
+
+-- Pieces behind a text, one after another.
+abbrev pub behind : List ℕ → List (List ℕ) → List ℕ
+behind old [] = old
+behind old (piece ∷ pieces) = behind (old ++ piece) pieces
+
+-- They are one piece.
+pub onto : (old : List ℕ) (pieces : List (List ℕ)) → behind old pieces ≡ old ++ concat pieces
+onto old [] = sym (append-nil old)
+onto old (piece ∷ pieces) = onto (old ++ piece) pieces ∙ append_assoc old piece (concat pieces)
+
+-- An object was closed, and its line.
+pub closed : {mid new : List ℕ} (old text : List ℕ) → mid ≡ old ++ text → new ≡ mid ++ codes "}\n" → new ≡ old ++ (text ++ codes "}" ++ 10 ∷ [])
+closed old text before end =
+    end
+    ∙ ap (λ (xs : List ℕ). xs ++ codes "}\n") before
+    ∙ append_assoc old text (codes "}\n")
+    ∙ ap (λ (xs : List ℕ). old ++ xs) (sym (append_assoc text (codes "}") (10 ∷ [])))

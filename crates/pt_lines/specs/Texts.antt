@@ -1,5 +1,5 @@
--- The text of a line (this project's profile).
-use Rattle.std.specs.Prelude.{◌≡◌, ℕ, ◌+◌, ◌-◌, ◌/◌, ◌%◌, ◌^◌, Bool, true, false, ◌&&◌, not, ◌==◌, nat_lt, if◌then◌else◌, List, [], ◌∷◌, ◌++◌, length, replicate, slice_index, codes, Some, Result, Ok, Err, from_bits}
+-- The text of a line in the form of a report, and of values in either form (this project's profile).
+use Rattle.std.specs.Prelude.{◌≡◌, ℕ, ◌-◌, ◌/◌, ◌%◌, ◌^◌, Bool, true, false, ◌&&◌, not, ◌==◌, nat_lt, if◌then◌else◌, List, [], ◌∷◌, ◌++◌, length, replicate, slice_index, codes, Some, Result, Ok, Err, from_bits}
 use Rattle.std.specs.List.{concat, flat_map}
 use Rattle.std.specs.Int.{is_in_range}
 use Rattle.std.specs.Fmt.{decimal, signed_decimal}
@@ -14,10 +14,7 @@ use Rattle.ep_defs.specs.declared.event.FieldDef.{FieldDef}
 use Rattle.ep_defs.specs.Entry.{EventEntry}
 use Rattle.ep_defs.specs.Event.{deepest_after}
 use Rattle.nt_fields.specs.declared.value.Value.TheVariants as value
-use Rattle.nt_fields.specs.Values.{FieldValue, Misfit, payload_at}
-use Rattle.pt_lines.specs.declared.form.Form.{Form}
-use Rattle.pt_lines.specs.declared.form.Form.TheVariants as forms
-use Rattle.pt_lines.specs.Line.{Line, Lost, Event, Point}
+use Rattle.nt_fields.specs.Values.{FieldValue, Misfit}
 
 -- ---- names and texts
 
@@ -137,17 +134,3 @@ event_start event =
     ∷ units_part event.def.provider
     ∷ units_part event.def.name
     ∷ [])
-
--- The text is the line, in this form.
-abbrev pub IsLine : Form → Line → List ℕ → Type 0
-IsLine forms.Lines (Lost thread count) text = text ≡ lost_line thread count
-IsLine forms.Lines (Event address processor thread event) text =
-    (fields : List ℕ)
-    × IsPayload event.def.fields event.payload (payload_at event.def.fields event.payload) fields
-    × (text ≡ event_start event ++ fields ++ 10 ∷ [])
-IsLine forms.Lines (Point point) text = text ≡ point_text point.stamp (length point.threads)
-
--- The text is these lines, one after another.
-abbrev pub AreLines : Form → List Line → List ℕ → Type 0
-AreLines form [] text = text ≡ []
-AreLines form (line ∷ lines) text = (first rest : List ℕ) × IsLine form line first × AreLines form lines rest × (text ≡ first ++ rest)

@@ -5,4 +5,6 @@
 pub enum Form {
     /// A word, numbers, names and values, as in a report.
     Lines,
+    /// An object of JSON.
+    Json,
 }

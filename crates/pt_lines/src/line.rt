@@ -3,11 +3,13 @@ ghost use Rattle.std.specs.Prelude.{◌≡◌, ◌++◌, ℕ, OnOk};
 ghost use Rattle.ep_defs.specs.Entry.{EventEntry};
 ghost use Rattle.pt_lines.specs.declared.form.Form.TheVariants as forms;
 ghost use Rattle.pt_lines.specs.Line.{Event, Lost, Point, lost_if};
-ghost use Rattle.pt_lines.specs.Texts.{AreLines, IsLine, event_start, lost_line, point_text};
+ghost use Rattle.pt_lines.specs.Texts.{event_start, lost_line, point_text};
+ghost use Rattle.pt_lines.specs.Forms.{AreLines, IsLine};
 ghost use Rattle.pt_lines.specs.Appends.{Appends, Tells};
 
 use crate::fields::put_payload;
 use crate::form::Form;
+use crate::json;
 use ep_defs::EventDef;
 use pt_print::{put_end, put_number, put_units, put_word};
 use std::alloc::{AllocError, Global};
@@ -46,6 +48,7 @@ fn put_one_lost(out: &mut Vec<u8>, form: Form, thread: u64, count: u32) -> Resul
 {
     match form {
         Form::Lines => put_lost_line(out, thread, count),
+        Form::Json => json::line::put_lost(out, thread, count),
     }
 }
 
@@ -69,6 +72,7 @@ pub fn put_point(
 {
     match form {
         Form::Lines => put_point_line(out, stamp, threads.len()),
+        Form::Json => json::line::put_point(out, stamp, threads),
     }
 }
 
@@ -93,6 +97,7 @@ pub fn put_event(
 {
     match form {
         Form::Lines => put_event_line(out, alloc, event),
+        Form::Json => json::line::put_event(out, alloc, event),
     }
 }
 

@@ -27,6 +27,17 @@ fn put_name_unit(out: &mut Vec<u8>, unit: u16) -> Result<(), AllocError>
     put_escape(out, unit)
 }
 
+/// Appends a text between quotes.
+pub fn put_quoted(out: &mut Vec<u8>, units: &[u16]) -> Result<(), AllocError>
+    ensures { OnOk result (out.new.items ≡ out.old.items ++ quoted units.now) }
+{
+    out.push(b'"')?;
+    for unit in units {
+        put_text_unit(out, *unit)?;
+    }
+    Ok(out.push(b'"')?)
+}
+
 /// Appends a unit between quotes.
 pub fn put_unit(out: &mut Vec<u8>, unit: u16) -> Result<(), AllocError>
     ensures { OnOk result (out.new.items ≡ out.old.items ++ quoted (unit ∷ [])) }
@@ -89,8 +100,8 @@ fn is_text_unit(unit: u16) -> bool
     (32..=126).contains(&unit) && unit != u16::from(b'\\') && unit != u16::from(b'"')
 }
 
-// A digit below 16, in lower case.
-fn digit_text(digit: u16) -> u8
+/// A digit below 16, in lower case.
+pub fn digit_text(digit: u16) -> u8
     requires { digit < 16 }
     ensures { result ≡ hex_digit digit }
 {

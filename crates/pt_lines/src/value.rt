@@ -39,7 +39,8 @@ pub fn put_value(
     }
 }
 
-fn put_truth(out: &mut Vec<u8>, truth: bool) -> Result<(), AllocError>
+/// Appends a Boolean.
+pub fn put_truth(out: &mut Vec<u8>, truth: bool) -> Result<(), AllocError>
     ensures { OnOk result (out.new.items ≡ out.old.items ++ truth_text truth) }
 {
     if truth {
@@ -49,24 +50,27 @@ fn put_truth(out: &mut Vec<u8>, truth: bool) -> Result<(), AllocError>
     }
 }
 
-fn put_signed(out: &mut Vec<u8>, number: i64) -> Result<(), AllocError>
+/// Appends a number with its sign.
+pub fn put_signed(out: &mut Vec<u8>, number: i64) -> Result<(), AllocError>
     ensures { OnOk result (out.new.items ≡ out.old.items ++ signed_decimal number) }
 {
     let mut buffer = itoa::Buffer::new();
     out.extend_from_slice(buffer.format(number).as_bytes())
 }
 
-fn put_digits(out: &mut Vec<u8>, number: u64) -> Result<(), AllocError>
+/// Appends a number.
+pub fn put_digits(out: &mut Vec<u8>, number: u64) -> Result<(), AllocError>
     ensures { OnOk result (out.new.items ≡ out.old.items ++ decimal number) }
 {
     let mut buffer = itoa::Buffer::new();
     out.extend_from_slice(buffer.format(number).as_bytes())
 }
 
-// The bits of the exponent, all of them set: above them, without the sign, stands no number.
-const SINGLE_INFINITE: u32 = 0x7f80_0000;
+/// The bits of the exponent, all of them set: above them, without the sign, stands no number.
+pub const SINGLE_INFINITE: u32 = 0x7f80_0000;
 
-const DOUBLE_INFINITE: u64 = 0x7ff0_0000_0000_0000;
+/// So it is with a float of 64 bits.
+pub const DOUBLE_INFINITE: u64 = 0x7ff0_0000_0000_0000;
 
 fn put_single(out: &mut Vec<u8>, bits: u32) -> Result<(), AllocError>
     ensures { OnOk result (Appends (IsFloat binary32 (2 ^ 31) 0x7f800000 bits) out.old.items out.new.items) }
@@ -95,7 +99,8 @@ pub fn put_hex(out: &mut Vec<u8>, alloc: Global, bytes: &[u8]) -> Result<(), All
     out.extend_from_slice(hex::encode(alloc, bytes)?.as_bytes())
 }
 
-fn put_guid(out: &mut Vec<u8>, bytes: [u8; 16]) -> Result<(), AllocError>
+/// Appends sixteen bytes as a UUID, of which the first three parts have their low byte first.
+pub fn put_guid(out: &mut Vec<u8>, bytes: [u8; 16]) -> Result<(), AllocError>
     ensures { OnOk result (out.new.items ≡ out.old.items ++ hyphenated_text lower (swap_fields bytes)) }
 {
     let mut buffer = Uuid::encode_buffer();
@@ -105,7 +110,8 @@ fn put_guid(out: &mut Vec<u8>, bytes: [u8; 16]) -> Result<(), AllocError>
     out.extend_from_slice(text.as_bytes())
 }
 
-fn put_date(out: &mut Vec<u8>, numbers: &[u16; 8]) -> Result<(), AllocError>
+/// Appends a date.
+pub fn put_date(out: &mut Vec<u8>, numbers: &[u16; 8]) -> Result<(), AllocError>
     ensures { OnOk result (out.new.items ≡ out.old.items ++ date_text numbers.now) }
 {
     put_day(out, numbers)?;

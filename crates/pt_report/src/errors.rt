@@ -52,7 +52,8 @@ fn check_text(alloc: Global, kind: CheckKind) -> Result<String, AllocError>
     }
 }
 
-fn flaw_text(alloc: Global, flaw: Flaw) -> Result<String, AllocError>
+/// What is wrong, in the words of an error line.
+pub fn flaw_text(alloc: Global, flaw: Flaw) -> Result<String, AllocError>
     ensures { IfOk result (λ text. string_bytes text ≡ flaw_name flaw) }
 {
     match flaw {

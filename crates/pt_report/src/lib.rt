@@ -28,5 +28,5 @@ mod stacks;
 mod tally;
 
 pub use command::write_report;
-pub use errors::{Flaw, Refusal, refusal_text};
+pub use errors::{Flaw, Refusal, flaw_text, refusal_text};
 pub use report::Report;

@@ -10,7 +10,7 @@ use Rattle.ep_defs.specs.Gaps.{Sighting, Seen}
 use Rattle.pt_lines.specs.Line.{Line, Event, lost_if}
 use Rattle.pt_events.specs.Lines.{sighted, last_of, left_out, address_after, item_lines}
 use Rattle.pt_lines.specs.declared.form.Form.{Form}
-use Rattle.pt_lines.specs.Texts.{AreLines}
+use Rattle.pt_lines.specs.Forms.{AreLines}
 use Rattle.pt_lines.specs.Appends.{Appends}
 use Rattle.pt_events.specs.state.Known.{Knows, HasSeen}
 

@@ -20,7 +20,7 @@ returns-in-Ok g c =
     let told = c.write_pieces.ensures.told in
     let is = c.in-Ok.is in
     let sound = c.write_pieces.ensures.read (λ wrong. cc) in
-    elim (c.write_end.ensures form bytes text all.2) [
+    elim (c.write_end.ensures bytes text all.2) [
       | inl end ↦ done source sink form c.args.input.now input c.args.output.now output c.write_end.new.output bytes text _ all.3 sound all.4 end.0 end.1 end.2
       | inr (inl end) ↦
           elim end.2 [

@@ -2,7 +2,7 @@ use Rattle.std.proofs.Common.{ℕ, subst}
 use Rattle.std.proofs.lemmas.Result.{on_ok_weaker}
 use Rattle.ep_defs.specs.Gaps.{Seen}
 use Rattle.pt_lines.specs.Line.{Event, lost_if}
-use Rattle.pt_lines.specs.Texts.{AreLines}
+use Rattle.pt_lines.specs.Forms.{AreLines}
 use Rattle.pt_lines.specs.Appends.{Appends}
 use Rattle.pt_events.specs.Lines.{last_of, left_out}
 use Rattle.pt_events.proofs.Items.{lines-put}

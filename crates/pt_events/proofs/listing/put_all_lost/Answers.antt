@@ -4,7 +4,7 @@ use Rattle.std.proofs.lemmas.List.{append-nil, map-append, take_all}
 use Rattle.ep_defs.specs.Gaps.{Sighting, Known}
 use Rattle.pt_lines.specs.Line.{Line, lost_if}
 use Rattle.pt_events.specs.Lines.{known_by, last_of, left_out, lost_lines}
-use Rattle.pt_lines.specs.Texts.{AreLines}
+use Rattle.pt_lines.specs.Forms.{AreLines}
 use Rattle.pt_lines.specs.Appends.{Appends}
 use Rattle.pt_events.specs.state.Known.{HasSeen}
 use Rattle.pt_events.proofs.Lines.{lost-more}

@@ -2,7 +2,7 @@
 use Rattle.std.proofs.Common.{ℕ, List, ◌++◌, take}
 use Rattle.ep_defs.specs.Gaps.{Sighting}
 use Rattle.pt_events.specs.Lines.{known_by, lost_lines}
-use Rattle.pt_lines.specs.Texts.{AreLines}
+use Rattle.pt_lines.specs.Forms.{AreLines}
 use Rattle.pt_lines.specs.Appends.{Appends}
 use Rattle.pt_events.specs.state.Known.{HasSeen}
 use Rattle.pt_events.proofs.listing.put_all_lost.Given as goal

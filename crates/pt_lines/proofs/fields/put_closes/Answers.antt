@@ -1,4 +1,4 @@
-use Rattle.std.proofs.Common.{◌≡◌, ℕ, List, ◌++◌, ap, sym, ◌∙◌, append_assoc, add-one}
+use Rattle.std.proofs.Common.{ℕ, List, ◌++◌, ap, sym, ◌∙◌, append_assoc, add-one}
 use Rattle.std.specs.Prelude.{codes}
 use Rattle.pt_lines.specs.Texts.{closes}
 use Rattle.pt_lines.proofs.Steps.{closes-more}

@@ -1,5 +1,5 @@
 -- A field and those after it.
-use Rattle.std.proofs.Common.{◌≡◌, ℕ, ◌+◌, ◌<◌, List, [], ◌∷◌, length, drop, get_or, suc, None, refl, sym, ap, ◌∙◌, subst, add-one, drop-cons, rules}
+use Rattle.std.proofs.Common.{◌≡◌, ℕ, ◌+◌, ◌<◌, List, ◌∷◌, length, drop, get_or, suc, None, sym, ap, ◌∙◌, subst, add-one, drop-cons, rules}
 use Rattle.std.proofs.lemmas.List.{drop_all}
 use Rattle.pt_num.proofs.Joined.{rest_is}
 use Rattle.ep_defs.specs.declared.event.FieldDef.{FieldDef}

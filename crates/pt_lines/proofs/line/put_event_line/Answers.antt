@@ -1,6 +1,5 @@
-use Rattle.std.proofs.Common.{ℕ, ◌∙◌}
+use Rattle.std.proofs.Common.{◌∙◌}
 use Rattle.std.proofs.lemmas.Result.{on_ok_weaker}
-use Rattle.ep_defs.specs.Entry.{EventEntry}
 use Rattle.ep_defs.specs.declared.event.EventDef.{EventDef}
 use Rattle.std.proofs.Common.{ap}
 use Rattle.pt_lines.proofs.Steps.{event-put}

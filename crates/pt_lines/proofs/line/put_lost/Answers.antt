@@ -1,6 +1,6 @@
 use Rattle.std.proofs.Common.{[], refl}
 use Rattle.std.proofs.lemmas.Bool.{ne_eqb}
-use Rattle.pt_lines.specs.Texts.{AreLines}
+use Rattle.pt_lines.specs.Forms.{AreLines}
 use Rattle.pt_lines.proofs.Lines.{lost-put}
 use Rattle.pt_lines.proofs.Steps.{nothing}
 use Rattle.pt_lines.proofs.line.put_lost.Goals as goal

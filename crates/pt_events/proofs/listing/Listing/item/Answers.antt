@@ -7,7 +7,7 @@ use Rattle.ep_defs.specs.Entry.{EventEntry}
 use Rattle.nt_blocks.specs.Ordered.{no_names, tell}
 use Rattle.nt_check.specs.Faults.{disorder_of}
 use Rattle.nt_check.specs.state.Took.{names_at}
-use Rattle.pt_lines.specs.Texts.{AreLines}
+use Rattle.pt_lines.specs.Forms.{AreLines}
 use Rattle.pt_lines.proofs.Steps.{nothing}
 use Rattle.pt_events.specs.Lines.{sighted}
 use Rattle.pt_events.specs.state.Listed.{address_at}

@@ -1,0 +1,6 @@
+//! Lines as objects of JSON (RFC 8259).
+pub mod fields;
+pub mod line;
+mod nest;
+mod stack;
+mod value;

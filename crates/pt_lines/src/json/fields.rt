@@ -1,0 +1,62 @@
+//! The fields of an event.
+ghost use Rattle.std.specs.Prelude.{◌≡◌, IfOk, OnOk, List, ℕ, map};
+ghost use Rattle.nt_fields.specs.Values.{payload_at};
+ghost use Rattle.pt_lines.specs.Json.{IsPayloadMember, commas};
+ghost use Rattle.pt_lines.specs.Appends.{Appends};
+ghost use Rattle.pt_lines.specs.state.Nest.{PutsMembers, still};
+
+use crate::json::nest::Nest;
+use crate::json::value::put_quoted_hex;
+use ep_defs::FieldDef;
+use nt_fields::FieldKind;
+use pt_print::put_word;
+use std::alloc::{AllocError, Global};
+
+/// Appends the object of a payload's fields, or all of it in hexadecimal where it does not fit the fields.
+pub fn put_payload(
+    out: &mut Vec<u8>,
+    alloc: Global,
+    fields: &[FieldDef],
+    payload: &[u8],
+) -> Result<(), AllocError>
+    ensures { OnOk result (Appends (IsPayloadMember fields.now payload.now (payload_at fields.now payload.now)) out.old.items out.new.items) }
+{
+    let start = out.len();
+    put_word(out, "\"fields\":{")?;
+    let mut nest = Nest::new(alloc);
+    if put_members(out, alloc, &mut nest, fields, payload)? {
+        return Ok(out.push(b'}')?);
+    }
+    out.truncate(start);
+    put_word(out, "\"payload\":")?;
+    put_quoted_hex(out, alloc, payload)
+}
+
+// Appends the members of the fields, and answers whether the payload fits them. Nothing is open before.
+fn put_members(
+    out: &mut Vec<u8>,
+    alloc: Global,
+    nest: &mut Nest,
+    fields: &[FieldDef],
+    payload: &[u8],
+) -> Result<bool, AllocError>
+    requires { (members : List (ℕ × List ℕ)) → still nest.old members ≡ commas (map (λ member. member.1) members) }
+    ensures { IfOk result (λ fits. PutsMembers fields.now (payload_at fields.now payload.now) fits out.old.items out.new.items) }
+{
+    let mut bytes = payload;
+    for field in fields {
+        let Some(kind) = FieldKind::of(field.code) else {
+            return Ok(false);
+        };
+        let Some(taken) = kind.take(bytes) else {
+            return Ok(false);
+        };
+        nest.put_field(out, alloc, field, &taken.value, bytes)?;
+        bytes = &bytes[taken.used..];
+    }
+    if !bytes.is_empty() {
+        return Ok(false);
+    }
+    nest.close_all(out)?;
+    Ok(true)
+}

@@ -1,0 +1,156 @@
+//! Whole lines.
+ghost use Rattle.std.specs.Prelude.{◌≡◌, ◌∷◌, [], ◌++◌, ℕ, codes, map, OnOk};
+ghost use Rattle.ep_defs.specs.Entry.{EventEntry};
+ghost use Rattle.pt_lines.specs.declared.form.Form.TheVariants as forms;
+ghost use Rattle.pt_lines.specs.Line.{Event};
+ghost use Rattle.pt_lines.specs.Forms.{IsLine};
+ghost use Rattle.pt_lines.specs.Json.{activity_members, array, behind_commas, commas, definition_members, error_object, known_object, lost_object, place_members, point_object};
+ghost use Rattle.pt_lines.specs.Appends.{Appends, Tells};
+ghost use Rattle.pt_lines.specs.state.Nest.{comma};
+
+use crate::json::fields::put_payload;
+use crate::json::stack::{put_stack, width_of};
+use crate::json::value::{put_integer, put_plain, put_uuid};
+use crate::line::EventLine;
+use crate::text::put_quoted;
+use ep_defs::EventDef;
+use pt_print::put_word;
+use std::alloc::{AllocError, Global};
+
+/// Appends the object of numbers that a thread leaves out.
+pub fn put_lost(out: &mut Vec<u8>, thread: u64, count: u32) -> Result<(), AllocError>
+    ensures { OnOk result (out.new.items ≡ out.old.items ++ lost_object thread count) }
+{
+    put_word(out, "{\"kind\":\"lost\",\"thread\":")?;
+    put_integer(out, thread)?;
+    put_word(out, ",\"count\":")?;
+    put_integer(out, u64::from(count))?;
+    put_word(out, "}\n")
+}
+
+/// Appends the object of a point.
+pub fn put_point(out: &mut Vec<u8>, stamp: u64, threads: &[(u64, u32)]) -> Result<(), AllocError>
+    ensures { OnOk result (out.new.items ≡ out.old.items ++ point_object (record { stamp = stamp; threads = threads.now })) }
+{
+    put_word(out, "{\"kind\":\"point\",\"stamp\":")?;
+    put_integer(out, stamp)?;
+    put_word(out, ",\"threads\":")?;
+    put_known(out, threads)?;
+    put_word(out, "}\n")
+}
+
+// Appends the threads of a point.
+fn put_known(out: &mut Vec<u8>, threads: &[(u64, u32)]) -> Result<(), AllocError>
+    ensures { OnOk result (out.new.items ≡ out.old.items ++ array (map known_object threads.now)) }
+{
+    out.push(b'[')?;
+    put_threads(out, threads)?;
+    Ok(out.push(b']')?)
+}
+
+// Appends them with commas between them.
+fn put_threads(out: &mut Vec<u8>, threads: &[(u64, u32)]) -> Result<(), AllocError>
+    ensures { OnOk result (out.new.items ≡ out.old.items ++ commas (map known_object threads.now)) }
+{
+    let mut is_first = true;
+    for (thread, number) in threads {
+        put_thread(out, is_first, *thread, *number)?;
+        is_first = false;
+    }
+    Ok(())
+}
+
+// Appends a thread of a point, behind a comma where another one stands before it.
+fn put_thread(out: &mut Vec<u8>, is_first: bool, thread: u64, number: u32) -> Result<(), AllocError>
+    ensures { OnOk result (out.new.items ≡ out.old.items ++ comma is_first ++ known_object (thread, number)) }
+{
+    if !is_first {
+        out.push(b',')?;
+    }
+    put_word(out, "{\"thread\":")?;
+    put_integer(out, thread)?;
+    put_word(out, ",\"number\":")?;
+    put_integer(out, u64::from(number))?;
+    Ok(out.push(b'}')?)
+}
+
+/// Appends the object of an event.
+pub fn put_event(out: &mut Vec<u8>, alloc: Global, event: &EventLine<'_>) -> Result<(), AllocError>
+    ensures { (address processor thread : ℕ) (entry : EventEntry) → Tells event.now address processor thread entry
+        → OnOk result (Appends (IsLine forms.Json (Event address processor thread entry)) out.old.items out.new.items) }
+{
+    put_head(out, event)?;
+    put_word(out, ",\"stack\":")?;
+    put_stack(out, width_of(event.address), event.stack)?;
+    out.push(b',')?;
+    put_payload(out, alloc, event.def.fields.as_slice(), event.payload)?;
+    put_word(out, "}\n")
+}
+
+// Appends an event up to its stack.
+fn put_head(out: &mut Vec<u8>, event: &EventLine<'_>) -> Result<(), AllocError>
+    ensures { (address processor thread : ℕ) (entry : EventEntry) → Tells event.now address processor thread entry
+        → OnOk result (out.new.items ≡ out.old.items ++ (codes "{" ++ commas (place_members processor thread entry
+        ++ definition_members entry.def ++ activity_members entry))) }
+{
+    put_place(out, event)?;
+    put_definition(out, event.def)?;
+    put_activities(out, event)
+}
+
+// Appends when and where an event was written.
+fn put_place(out: &mut Vec<u8>, event: &EventLine<'_>) -> Result<(), AllocError>
+    ensures { (address processor thread : ℕ) (entry : EventEntry) → Tells event.now address processor thread entry
+        → OnOk result (out.new.items ≡ out.old.items ++ (codes "{" ++ commas (place_members processor thread entry))) }
+{
+    put_word(out, "{\"kind\":\"event\",\"stamp\":")?;
+    put_integer(out, event.stamp)?;
+    put_word(out, ",\"thread\":")?;
+    put_integer(out, event.thread)?;
+    put_word(out, ",\"number\":")?;
+    put_integer(out, u64::from(event.number))?;
+    put_word(out, ",\"processor\":")?;
+    put_integer(out, u64::from(event.processor))?;
+    put_word(out, ",\"thread_id\":")?;
+    put_integer(out, event.thread_id)
+}
+
+// Appends what a definition says of its events.
+fn put_definition(out: &mut Vec<u8>, def: &EventDef) -> Result<(), AllocError>
+    ensures { OnOk result (out.new.items ≡ out.old.items ++ behind_commas (definition_members def.now)) }
+{
+    put_word(out, ",\"provider\":")?;
+    put_quoted(out, def.provider.as_slice())?;
+    put_word(out, ",\"name\":")?;
+    put_quoted(out, def.name.as_slice())?;
+    put_word(out, ",\"id\":")?;
+    put_integer(out, u64::from(def.id))?;
+    put_word(out, ",\"version\":")?;
+    put_integer(out, u64::from(def.version))?;
+    put_word(out, ",\"level\":")?;
+    put_integer(out, u64::from(def.level))?;
+    put_word(out, ",\"keywords\":")?;
+    put_integer(out, def.keywords)
+}
+
+// Appends the activities of an event.
+fn put_activities(out: &mut Vec<u8>, event: &EventLine<'_>) -> Result<(), AllocError>
+    ensures { (address processor thread : ℕ) (entry : EventEntry) → Tells event.now address processor thread entry
+        → OnOk result (out.new.items ≡ out.old.items ++ behind_commas (activity_members entry)) }
+{
+    put_word(out, ",\"activity\":")?;
+    put_uuid(out, *event.activity)?;
+    put_word(out, ",\"related\":")?;
+    put_uuid(out, *event.related)
+}
+
+/// Appends the object of what is wrong with a stream, at this offset of its bytes, in words in which nothing has to be escaped.
+pub fn put_error(out: &mut Vec<u8>, at: u64, words: &str) -> Result<(), AllocError>
+    ensures { OnOk result (out.new.items ≡ out.old.items ++ error_object at words.now) }
+{
+    put_word(out, "{\"kind\":\"error\",\"offset\":")?;
+    put_integer(out, at)?;
+    put_word(out, ",\"error\":")?;
+    put_plain(out, words.as_bytes())?;
+    put_word(out, "}\n")
+}
