@@ -49,7 +49,8 @@ use std::time;
 /// Nothing is written before the input was read.
 ///
 /// With `events` it reads a stream from `input` to its end and writes a line for each event, each point and each place where
-/// events are missing, as it reads them, and an error line behind them where the stream is refused.
+/// events are missing, as it reads them, and an error line behind them where the stream is refused. With `events --json` each
+/// line is an object of JSON, the error line too.
 ///
 /// With `gen SEED N` it makes a schedule of N writes, which the seed determines, and writes how many of them each session
 /// admitted, wrote and refused, in one write. It reads no input then.
