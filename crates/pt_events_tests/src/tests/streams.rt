@@ -25,14 +25,15 @@ struct Run {
 // fail, and the write takes four bytes.
 fn run_events(
     alloc: Global,
+    form: Form,
     bytes: &[u8],
     most: usize,
-    read: u64,
-    write: u64,
+    fails: (u64, u64),
 ) -> Result<Run, AllocError> {
+    let (read, write) = fails;
     let mut input = MemSource::new(bytes.to_vec(alloc)?, most.max(1), [read].to_vec(alloc)?);
     let mut output = MemSink::partial([write].to_vec(alloc)?, 4);
-    let end = write_events(alloc, Form::Lines, &mut input, &mut output);
+    let end = write_events(alloc, form, &mut input, &mut output);
     Ok(Run {
         end: (end.status(), end.at()),
         written: output.taken().to_vec(alloc)?,
@@ -68,7 +69,7 @@ fn tells(
     fails: (u64, u64),
     want: Want,
 ) -> Result<bool, AllocError> {
-    let run = run_events(alloc, bytes, most, fails.0, fails.1)?;
+    let run = run_events(alloc, Form::Lines, bytes, most, fails)?;
     is_so(alloc, &run, want)
 }
 
@@ -143,6 +144,50 @@ fn each_read_and_each_write_fail(rt: HostRuntime) -> Result<(), Fail> {
     for (most, fails, status, offset, last) in cases {
         let is_told = tells(rt.alloc(), &STREAM, most, fails, (status, 0, offset, last))?;
         assert!(rt; is_told, "read and write {fails:?}");
+    }
+    Ok(())
+}
+
+// The object of the event, and that of the point.
+const EVENT_OBJECT: &str =
+    r#"{"kind":"event","stamp":100,"thread":1,"number":1,"processor":0,"thread_id":1,"provider":"P","name":"E","id":1,"version":0,"level":4,"keywords":1,"activity":"00000000-0000-0000-0000-000000000000","related":"00000000-0000-0000-0000-000000000000","stack":[],"fields":{}}
+"#;
+
+const POINT_OBJECT: &str = r#"{"kind":"point","stamp":200,"threads":[{"thread":1,"number":1}]}
+"#;
+
+// The objects of what ends before this offset.
+fn objects_before(offset: usize) -> (&'static str, &'static str) {
+    if offset < 256 {
+        ("", "")
+    } else if offset < 309 {
+        (EVENT_OBJECT, "")
+    } else {
+        (EVENT_OBJECT, POINT_OBJECT)
+    }
+}
+
+// Whether this much of the stream comes to its objects, and, where it is cut there, to one that says so.
+fn has_objects(alloc: Global, length: usize) -> Result<bool, AllocError> {
+    let run = run_events(alloc, Form::Json, &STREAM[..length.min(310)], 310, (0, 0))?;
+    let (event, point) = objects_before(length);
+    if length == 310 {
+        let text = format!(in alloc; "{event}{point}")?;
+        return Ok((run.end, run.written.as_slice()) == ((DONE, 0), text.as_bytes()));
+    }
+    let text = format!(in alloc;
+        "{event}{point}{{\"kind\":\"error\",\"offset\":{length},\"error\":\"Truncated\"}}\n"
+    )?;
+    Ok((run.end, run.written.as_slice()) == ((REFUSED, length as u64), text.as_bytes()))
+}
+
+#[test]
+fn a_stream_that_is_cut_has_the_objects_of_what_stands_before(rt: HostRuntime) -> Result<(), Fail> {
+    for length in 0..=310 {
+        assert!(rt;
+            has_objects(rt.alloc(), length)?,
+            "cut after {length} bytes"
+        );
     }
     Ok(())
 }

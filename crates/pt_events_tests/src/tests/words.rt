@@ -13,8 +13,12 @@ fn asked(alloc: Global, texts: &[&str]) -> Result<Option<Form>, AllocError> {
 
 #[test]
 fn the_words_of_events_are_told_from_others(rt: HostRuntime) -> Result<(), Fail> {
-    let cases: [(&[&str], Option<Form>); 6] = [
+    let cases: [(&[&str], Option<Form>); 10] = [
         (&["events"], Some(Form::Lines)),
+        (&["events", "--json"], Some(Form::Json)),
+        (&["--json", "events"], None),
+        (&["events", "--json", "--json"], None),
+        (&["events", "--JSON"], None),
         (&[], None),
         (&["event"], None),
         (&["Events"], None),
