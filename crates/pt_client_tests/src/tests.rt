@@ -1,6 +1,5 @@
 //! Words, and the bytes of a peer.
 ghost use Rattle.std.specs.Prelude.{IfOk};
-ghost use Rattle.std.specs.List.{All};
 ghost use Rattle.pt_io.specs.Memory.{IsUnused};
 
 use pt_client::{Called, client, command_of, greet, greet_of};
@@ -244,30 +243,23 @@ fn a_command_sends_what_its_words_say_and_writes_what_comes_of_it(
     Ok(())
 }
 
-// A dock of these links, whose turn with this number fails, behind three quiet turns.
-fn dock_of(alloc: Global, links: &[[&[u8]; 2]], failing: u64) -> Result<MemDock, AllocError> {
+// A dock of two links that give these bytes, behind three quiet turns, whose turn with this number fails.
+fn dock_of(
+    alloc: Global,
+    first: [&[u8]; 2],
+    second: [&[u8]; 2],
+    failing: u64,
+) -> Result<MemDock, AllocError> {
     let fails = [failing].to_vec(alloc)?;
-    Ok(MemDock::new(links_of(alloc, links)?, 3, fails))
-}
-
-fn links_of(alloc: Global, links: &[[&[u8]; 2]]) -> Result<VecDeque<MemLink>, AllocError>
-    ensures { IfOk result (λ links. All IsUnused links.items) }
-{
-    let mut owned = VecDeque::new(alloc);
-    for bytes in links {
-        owned.push_back(link_of(alloc, *bytes)?)?;
-    }
-    Ok(owned)
+    let mut links = VecDeque::new(alloc);
+    links.push_back(link_of(alloc, first)?)?;
+    links.push_back(link_of(alloc, second)?)?;
+    Ok(MemDock::new(links, 3, fails))
 }
 
 // What comes of who calls first.
-fn greeted<R: Wait>(
-    rt: &R,
-    alloc: Global,
-    links: &[[&[u8]; 2]],
-    failing: u64,
-) -> Result<Told, AllocError> {
-    let mut dock = dock_of(alloc, links, failing)?;
+fn greeted<R: Wait>(rt: &R, alloc: Global, dock: MemDock) -> Result<Told, AllocError> {
+    let mut dock = dock;
     let mut output = MemSink::new(Vec::new(alloc));
     let called = Some(greet(rt, alloc, &mut output, &mut dock));
     told_of(alloc, &called, &output)
@@ -276,7 +268,8 @@ fn greeted<R: Wait>(
 #[test]
 fn the_first_program_that_calls_is_asked_what_it_is(rt: HostRuntime) -> Result<(), Fail> {
     for (bytes, ended, written, sent) in GREETED {
-        let told = greeted(&rt, rt.alloc(), &[bytes, [ADVERT, PROGRAM]], 0)?;
+        let dock = dock_of(rt.alloc(), bytes, [ADVERT, PROGRAM], 0)?;
+        let told = greeted(&rt, rt.alloc(), dock)?;
         assert_eq!(rt;
             (told.ended, told.written.as_slice(), told.sent.as_slice()),
             (ended, written, sent)
@@ -287,8 +280,11 @@ fn the_first_program_that_calls_is_asked_what_it_is(rt: HostRuntime) -> Result<(
 
 #[test]
 fn nobody_calls(rt: HostRuntime) -> Result<(), Fail> {
-    let nobody = greeted(&rt, rt.alloc(), &[], 0)?;
-    let failed = greeted(&rt, rt.alloc(), &[[ADVERT, PROGRAM]], 2)?;
+    let alloc = rt.alloc();
+    let empty = MemDock::new(VecDeque::new(alloc), 3, Vec::new(alloc));
+    let nobody = greeted(&rt, alloc, empty)?;
+    let calls = [ADVERT, PROGRAM];
+    let failed = greeted(&rt, alloc, dock_of(alloc, calls, calls, 2)?)?;
     assert_eq!(rt;
         (
             nobody.ended,

@@ -153,12 +153,12 @@ fn each_link_takes_the_message_before_it_comes(rt: HostRuntime) -> Result<(), Fa
     assert_eq!(rt;
         (
             both.turns.as_slice(),
-            both.taken.split_at(34),
+            (both.taken.get(..34), both.taken.get(34..)),
             both.kept.is_none()
         ),
         (
             b"LLCC".as_slice(),
-            (MESSAGE.as_slice(), MESSAGE.as_slice()),
+            (Some(MESSAGE.as_slice()), Some(MESSAGE.as_slice())),
             true
         )
     );
