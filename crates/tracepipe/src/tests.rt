@@ -291,7 +291,8 @@ impl<'a, R: Threads + Wait + Timer + Sync> Tools<'a, R> {
         };
         match self.carried_out(words.as_str(), &[]) {
             Ok((status::DONE, lines)) => {
-                lines.as_slice() == b"run          1          0\nconnections          1\n"
+                lines.as_slice()
+                    == b"run          1          0\nconnections          1\n".as_slice()
             }
             _ => false,
         }
@@ -340,7 +341,7 @@ impl<'a, R: Threads + Wait + Timer + Sync> Tools<'a, R> {
                 _ => self.send(bytes),
             },
         )?;
-        Ok(did.as_slice() == [true; 2])
+        Ok(did.as_slice() == [true; 2].as_slice())
     }
 }
 
