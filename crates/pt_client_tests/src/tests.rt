@@ -283,7 +283,7 @@ fn nobody_calls(rt: HostRuntime) -> Result<(), Fail> {
     let alloc = rt.alloc();
     let empty = MemDock::new(VecDeque::new(alloc), 3, Vec::new(alloc));
     let nobody = greeted(&rt, alloc, empty)?;
-    let calls = [ADVERT, PROGRAM];
+    let calls: [&[u8]; 2] = [ADVERT, PROGRAM];
     let failed = greeted(&rt, alloc, dock_of(alloc, calls, calls, 2)?)?;
     assert_eq!(rt;
         (
