@@ -17,7 +17,7 @@ here, program = sys.argv[1], os.path.abspath(sys.argv[2])
 README = f"{here}/README.md"
 DOCUMENTS = [README, f"{here}/CONTRIBUTING.md", *sorted(glob.glob(f"{here}/docs/*.md"))]
 CRATES = {os.path.basename(it) for it in glob.glob(f"{here}/crates/*")}
-OURS = re.compile(r"\./tracepipe (?!(run|ps|collect|stop) )|xxd ")
+OURS = re.compile(r"\./tracepipe (?!(run|greet|ps|collect|stop) )|xxd ")
 # README.md is to be read at once.
 MOST_LINES, MOST_BYTES = 200, 14_000
 # Limits that documents say: the document, the words around the number, the file of the constant and its name.
