@@ -36,7 +36,7 @@ impl Drafts {
         let mut drafts = Vec::with_capacity(alloc, lives as usize)?;
         for made in 0..lives {
             let thread = thread_of(plan.threads, number, lives - 1 - made);
-            drafts.push(Draft::new(alloc, plan, thread)?)?;
+            drafts.push_reserved(Draft::new(alloc, plan, thread)?);
         }
         Ok(Drafts { lives: drafts })
     }
@@ -72,7 +72,7 @@ pub fn drafts_of(alloc: Global, plan: &Plan, lives: u32) -> Result<Vec<Drafts>, 
 {
     let mut drafts = Vec::with_capacity(alloc, plan.threads as usize)?;
     for number in 0..plan.threads {
-        drafts.push(Drafts::new(alloc, plan, number, lives)?)?;
+        drafts.push_reserved(Drafts::new(alloc, plan, number, lives)?);
     }
     Ok(drafts)
 }

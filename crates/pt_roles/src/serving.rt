@@ -11,6 +11,7 @@ ghost use Rattle.pt_roles.specs.Serving.{IsLastOf, IsLeftOf, KeepsSession};
 ghost use Rattle.pt_roles.specs.Table.{Fits};
 
 use crate::finale::Finale;
+use crate::hints::Hints;
 use crate::live_end::LiveSession;
 use crate::scene::Scene;
 use crate::shared::Shared;
@@ -18,6 +19,7 @@ use crate::table::{Held, Telling};
 use crate::world::{Holds, World};
 use ep_guarded::NotOpened;
 use ep_journal::Fate as Kept;
+use ep_live::Live;
 use ep_live_laws::{a_part_is_found, a_traced_stream_is_found};
 use ep_pool::PoolSeat;
 use ep_registry::{Handed, Holder};
@@ -65,7 +67,7 @@ fn go_on<'a, W: World, R: Wait, L: Link + Drop, C: Clock, G: Gate>(
     requires complete { is_complete stream ≡ true }
     requires fits { Fits W.writes holder stream }
 {
-    let (stream, opened) = follow(scene, shared, stream);
+    let (stream, opened) = follow(scene, &shared.live, &shared.hints, stream);
     if !opened {
         end(scene, shared, holder, stream, Fate::OutOfMemory);
         return (None, true);
@@ -86,7 +88,8 @@ fn go_on<'a, W: World, R: Wait, L: Link + Drop, C: Clock, G: Gate>(
 // memory for that.
 fn follow<'a, W: World, R: Wait, L: Link, C, G>(
     scene: &Scene<'_, W, R, C, G>,
-    shared: &Shared<'a, W, L>,
+    live: &Live<'a, W>,
+    hints: &Hints<W>,
     stream: Telling<'a, W, L>,
 ) -> (Telling<'a, W, L>, bool)
     requires complete { is_complete stream ≡ true }
@@ -101,7 +104,7 @@ fn follow<'a, W: World, R: Wait, L: Link, C, G>(
         return (stream, true);
     }
     for number in 0..scene.plan.threads {
-        let (next, opened) = follow_row(scene, shared, stream, number);
+        let (next, opened) = follow_row(scene, live, hints, stream, number);
         stream = next;
         if !opened {
             return (stream, false);
@@ -113,7 +116,8 @@ fn follow<'a, W: World, R: Wait, L: Link, C, G>(
 // The same on one row, by its number from 0.
 fn follow_row<'a, W: World, R: Wait, L: Link, C, G>(
     scene: &Scene<'_, W, R, C, G>,
-    shared: &Shared<'a, W, L>,
+    live: &Live<'a, W>,
+    hints: &Hints<W>,
     stream: Telling<'a, W, L>,
     number: u32,
 ) -> (Telling<'a, W, L>, bool)
@@ -127,12 +131,12 @@ fn follow_row<'a, W: World, R: Wait, L: Link, C, G>(
 {
     let row = number + 1;
     let place = stream.place(row);
-    let life = shared.hints.life(number as usize, scene.lives);
+    let life = hints.life(number as usize, scene.lives);
     if place.is_open {
         if life.is_some() {
             return (stream, true);
         }
-        return (close_done_at(scene, shared, stream, number), true);
+        return (close_done_at(scene, live, stream, number), true);
     }
     let Some(life) = life else {
         return (stream, true);
@@ -141,9 +145,9 @@ fn follow_row<'a, W: World, R: Wait, L: Link, C, G>(
         return (stream, true);
     }
     let slot = stream.slot();
-    match stream.open_row(scene.alloc, scene.rt, &shared.live, row, life) {
+    match stream.open_row(scene.alloc, scene.rt, live, row, life) {
         (stream, Ok(())) => {
-            shared.hints.opened(number as usize, slot);
+            hints.opened(number as usize, slot);
             (stream, true)
         }
         (stream, Err(NotOpened::Away)) => (stream, true),
@@ -164,7 +168,7 @@ fn end_done<'a, W: World, R: Wait, L: Link + Drop, C: Clock, G: Gate>(
 {
     let mut stream = stream;
     for number in 0..scene.plan.threads {
-        stream = close_done_at(scene, shared, stream, number);
+        stream = close_done_at(scene, &shared.live, stream, number);
     }
     finish(scene, shared, holder, stream, Fate::ProgramEnd);
 }
@@ -185,7 +189,7 @@ fn end<'a, W: World, R: Wait, L: Link + Drop, C: Clock, G: Gate>(
 {
     let mut stream = stream;
     for number in 0..scene.plan.threads {
-        stream = close_at(scene, shared, stream, number);
+        stream = close_at(scene, &shared.live, stream, number);
     }
     finish(scene, shared, holder, stream, fate);
 }
@@ -193,7 +197,7 @@ fn end<'a, W: World, R: Wait, L: Link + Drop, C: Clock, G: Gate>(
 // Closes it on a row, by its number from 0, where it is open there.
 fn close_at<'a, W: World, R: Wait, L: Link, C, G>(
     scene: &Scene<'_, W, R, C, G>,
-    shared: &Shared<'a, W, L>,
+    live: &Live<'a, W>,
     stream: Telling<'a, W, L>,
     number: u32,
 ) -> Telling<'a, W, L>
@@ -206,13 +210,13 @@ fn close_at<'a, W: World, R: Wait, L: Link, C, G>(
     if !stream.place(row).is_open {
         return stream;
     }
-    stream.close_row(scene.alloc, scene.rt, &shared.live, row)
+    stream.close_row(scene.alloc, scene.rt, live, row)
 }
 
 // The same once the row's thread has made all its writes, for which it waits.
 fn close_done_at<'a, W: World, R: Wait, L: Link, C, G>(
     scene: &Scene<'_, W, R, C, G>,
-    shared: &Shared<'a, W, L>,
+    live: &Live<'a, W>,
     stream: Telling<'a, W, L>,
     number: u32,
 ) -> Telling<'a, W, L>
@@ -229,7 +233,7 @@ fn close_done_at<'a, W: World, R: Wait, L: Link, C, G>(
         return stream;
     }
     let writes = scene.plan.writes;
-    stream.close_done(scene.alloc, scene.rt, &shared.live, row, writes)
+    stream.close_done(scene.alloc, scene.rt, live, row, writes)
 }
 
 // Ends its stream, which is open on no row, and gives back what it had.

@@ -10,10 +10,11 @@ use crate::scene::Scene;
 use crate::shared::Shared;
 use crate::world::World;
 use ep_guarded::{Agreed, Program};
+use ep_live::Live;
 use ep_tie::Right;
 use pt_io::{Clock, Gate, Link, Moment};
 use pt_load::laws::{sample_events_are_valid, sample_writes_can_be_made};
-use std::marker::Model;
+use std::marker::{Model, PhantomData};
 use std::sync::Wait;
 use std::thread;
 use std::thread::Threads;
@@ -25,9 +26,11 @@ const REST: u64 = 1;
 /// A row's thread: its half of the tie to the row, and what gives its writes and those of the threads after it.
 #[derive(Drop)]
 pub struct Writer<'t, 'a, P: World, L: Link> {
-    shared: &'t Shared<'a, P, L>,
+    live: &'t Live<'a, P>,
+    hints: &'t Hints<P>,
     half: Right<P, Agreed<'a>>,
     drafts: Drafts,
+    links: PhantomData<L>,
 }
 
 impl<'t, 'a, P: World, L: Link> Model for Writer<'t, 'a, P, L> {
@@ -55,9 +58,11 @@ pub fn writers_of<'t, 'a, P: World, L: Link>(
 {
     for (half, drafts) in halves.into_iter().zip(drafts) {
         writers.push_reserved(Writer {
-            shared,
+            live: &shared.live,
+            hints: &shared.hints,
             half,
             drafts,
+            links: PhantomData,
         });
     }
 }
@@ -77,7 +82,7 @@ impl<'t, 'a, P: World, L: Link + Drop> Writer<'t, 'a, P, L> {
         for life in 1..scene.lives {
             self.leave(scene, number, life - 1);
             self.enter(scene, number, life - 1);
-            wait_for_sessions(scene.rt, &self.shared.hints, number);
+            wait_for_sessions(scene.rt, self.hints, number);
             self.write_life(scene, number, life);
         }
     }
@@ -98,7 +103,7 @@ impl<'t, 'a, P: World, L: Link + Drop> Writer<'t, 'a, P, L> {
         sample_writes_can_be_made();
         let mut draft = self.drafts.next();
         let thread = thread_of(scene.plan.threads, number as u32, life);
-        let live = &self.shared.live;
+        let live = self.live;
         for index in 0..scene.plan.writes {
             let begun = Moment::Begun { thread, index };
             let write = draft.nth(index);
@@ -123,11 +128,9 @@ impl<'t, 'a, P: World, L: Link + Drop> Writer<'t, 'a, P, L> {
         ensures left { HasLeft P.world.plan number life self.new.half }
         ensures drafts { self.new.drafts ≡ self.old.drafts }
     {
-        let reopen = self.shared.hints.reopen(number);
-        self.shared
-            .live
-            .leave(scene.rt, number, &mut self.half, reopen);
-        self.shared.hints.leaves(number, life);
+        let reopen = self.hints.reopen(number);
+        self.live.leave(scene.rt, number, &mut self.half, reopen);
+        self.hints.leaves(number, life);
     }
 
     // The thread of the life after this one enters the row, once no session is open on it.
@@ -144,8 +147,8 @@ impl<'t, 'a, P: World, L: Link + Drop> Writer<'t, 'a, P, L> {
         ensures drafts { self.new.drafts ≡ self.old.drafts }
     {
         for _ in scene.rt.forever() {
-            if self.shared.live.enter(scene.rt, number, &mut self.half) {
-                self.shared.hints.enters(number, life + 1);
+            if self.live.enter(scene.rt, number, &mut self.half) {
+                self.hints.enters(number, life + 1);
                 return;
             }
             thread::sleep(scene.rt, Duration::from_millis(REST));
@@ -214,13 +217,9 @@ pub fn give_back<'t, 'a, P: World, L: Link, R: Wait, C, G>(
     let mut halves = halves;
     let mut number = 0;
     for writer in writers {
-        let Writer {
-            shared,
-            half,
-            drafts: _,
-        } = writer;
+        let Writer { live, half, .. } = writer;
         let mut half = half;
-        let stand = shared.live.stand(scene.rt, number, &mut half);
+        let stand = live.stand(scene.rt, number, &mut half);
         rows.push_reserved((stand.thread, stand.index));
         halves.push_reserved(half);
         number += 1;
