@@ -151,7 +151,7 @@ pub fn play_each<
     C: Clock,
     G: Gate,
 >(scene: &Scene<'_, W, R, C, G>, streamers: &mut [Streamer<'t, 'a, W, L>])
-    requires { AreThere streamers.old }
+    requires there { AreThere streamers.old }
     ensures { AreLeft streamers.new }
 {
     let playing = |_number: usize, streamer: &mut Streamer<'_, '_, W, L>|
@@ -178,8 +178,9 @@ pub fn streamers_of<'t, 'a, W: World, L: Link + Drop>(
     let mut streamers = Vec::with_capacity(alloc, count as usize)?;
     let mut number = 0;
     for half in halves {
+        let places = no_sessions(alloc)?;
         let role = Role::new(number, count, half);
-        streamers.push(Streamer::new(shared, role, no_sessions(alloc)?))?;
+        streamers.push_reserved(Streamer::new(shared, role, places));
         number += 1;
     }
     Ok(streamers)

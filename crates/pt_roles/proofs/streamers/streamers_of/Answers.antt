@@ -12,6 +12,16 @@ use Rattle.ep_live.proofs.Pushing.{each-push}
 use Rattle.pt_roles.proofs.Numbers.{AreFirst, are-there, count-halves, half-at}
 use Rattle.pt_roles.proofs.streamers.streamers_of.Goals as goal
 
+pub new-role-requires-clause-some : goal.new-role-requires-clause-some
+new-role-requires-clause-some g c =
+    let gives = c.into_iter-half-iterator.ensures.into_iter_gives in
+    let halves : List (Tied Mark) = c.truncate.new.self.items in
+    let turn = YieldsList-turn (YieldsList-from_vec {s = c.into_iter-half-iterator.result} c.truncate.new.self.items gives.0 (gives.1 ∙ c.truncate.new.self.ok.0)) c.loop-half.yielded c.loop-half.half-iterator c.loop-half.yielded_by c.next.result c.next.new.self c.in-Some.half c.in-Some.is c.next.ensures.steps in
+    let are : halves ≡ take c.args.count (numbered SLOTS (mark.Role c.args.count false)) = c.truncate.ensures.items ∙ ap (take c.args.count) c.requires.halves in
+    let long = count-halves halves SLOTS c.args.count (mark.Role c.args.count false) are c.requires.some.1 in
+    let inv = c.loop-half.invariant in
+    (omega (arith, long, turn.0, inv.number), c.requires.some.1)
+
 pub new-role-requires-clause-half : goal.new-role-requires-clause-half
 new-role-requires-clause-half g c =
     let gives = c.into_iter-half-iterator.ensures.into_iter_gives in
@@ -25,6 +35,16 @@ new-role-requires-clause-half g c =
       ap (λ (h : Tied Mark). h.value) at,
     )
 
+pub push_reserved-requires : goal.push_reserved-requires
+push_reserved-requires g c =
+    let gives = c.into_iter-half-iterator.ensures.into_iter_gives in
+    let halves : List (Tied Mark) = c.truncate.new.self.items in
+    let turn = YieldsList-turn (YieldsList-from_vec {s = c.into_iter-half-iterator.result} c.truncate.new.self.items gives.0 (gives.1 ∙ c.truncate.new.self.ok.0)) c.loop-half.yielded c.loop-half.half-iterator c.loop-half.yielded_by c.next.result c.next.new.self c.in-Some.half c.in-Some.is c.next.ensures.steps in
+    let are : halves ≡ take c.args.count (numbered SLOTS (mark.Role c.args.count false)) = c.truncate.ensures.items ∙ ap (take c.args.count) c.requires.halves in
+    let long = count-halves halves SLOTS c.args.count (mark.Role c.args.count false) are c.requires.some.1 in
+    let inv = c.loop-half.invariant in
+    omega (arith, long, turn.0, inv.number, inv.count, inv.room)
+
 pub loop-half-preserved : goal.loop-half-preserved
 loop-half-preserved g c =
     let roles : List RoleHalf = c.loop-half.streamers.items in
@@ -32,8 +52,9 @@ loop-half-preserved g c =
     let place : c.loop-half.number ≡ length roles = sym inv.count ∙ c.loop-half.streamers.ok.0 in
     record {
       number = omega (arith, inv.number, length-append c.loop-half.yielded (c.in-Some.half ∷ []));
-      count = omega (arith, c.in_ok-push.ensures.len, inv.count);
-      each = subst (AreFirst c.args.count) (sym c.in_ok-push.ensures.items)
+      count = omega (arith, c.push_reserved.ensures.len, inv.count);
+      room = omega (arith, c.push_reserved.ensures.capacity, inv.room);
+      each = subst (AreFirst c.args.count) (sym c.push_reserved.ensures.items)
           (each-push (λ (k : ℕ) (role : RoleHalf). role ≡ record { number = k; roles = c.args.count; left = false }) roles c.new.result inv.each
           (c.new.ensures ∙ c.new-role.ensures ∙ ap (λ (k : ℕ). record { number = k; roles = c.args.count; left = false }) place));
     }

@@ -1,5 +1,5 @@
-use Rattle.std.proofs.Common.{◌≡◌, length}
-use Rattle.std.specs.Prelude.{vec_len}
+use Rattle.std.proofs.Common.{◌≡◌, ◌≤◌, length}
+use Rattle.std.specs.Prelude.{vec_len, vec_capacity}
 use Rattle.pt_roles.proofs.Numbers.{AreFirst}
 use Rattle.pt_roles.proofs.streamers.streamers_of.Given as goal
 
@@ -9,5 +9,6 @@ invariant-loop-half g l =
     record {
       number : l.number ≡ length l.yielded;
       count : vec_len l.streamers ≡ l.number;
+      room : l.count ≤ vec_capacity l.streamers;
       each : AreFirst l.count l.streamers.items;
     }

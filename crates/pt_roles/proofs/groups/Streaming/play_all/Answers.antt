@@ -1,13 +1,11 @@
-use Rattle.std.proofs.Common.{◌≡◌, ◌∙◌, ℕ, List, ◌++◌, length, take, drop, sym, ap, subst, arith, rules}
+use Rattle.std.proofs.Common.{◌≡◌, ◌∙◌, ℕ, List, ◌++◌, length, take, drop, sym, ap, subst, arith}
 use Rattle.std.proofs.Math.Seq.{take-append_seam}
 use Rattle.ep_registry.specs.Registered.{AreLeft, RoleHalf}
 use Rattle.pt_roles.specs.Streamers.{AreThere}
 use Rattle.pt_roles.proofs.groups.Streaming.play_all.Goals as goal
 
-pub play_each-requires : goal.play_each-requires
-play_each-requires g c =
-    let there = subst AreThere (sym c.as_mut_slice.ensures.value) c.args.self.there in
-    search (rules, there)
+pub play_each-requires-clause-there : goal.play_each-requires-clause-there
+play_each-requires-clause-there g c κs within = subst AreThere (sym c.as_mut_slice.ensures.value) c.args.self.there
 
 pub all_left-requires-clause-left : goal.all_left-requires-clause-left
 all_left-requires-clause-left g c κs within =
