@@ -215,24 +215,53 @@ fn begin<'r, 't, 'a, W: World, R: Wait + Timer, L: Link + Drop, C: Clock, G: Gat
     } = asked;
     let rows = scene.plan.threads;
     let events = shared.live.events();
-    let Some((grant, seat)) = granted(scene.rt, scene.alloc, shelf, config, rows, events) else {
-        desk.fail(scene.gate, begun, link, Unstarted::Silent);
-        return;
-    };
-    let Begun {
-        id,
-        slot,
-        holder,
-        free,
-    } = begun;
-    let accepted = Accepted {
-        free,
-        grant,
-        pool: seat,
-        sink: Served::new(link, &grant.config),
-        id,
-        conn,
-    };
+    match granted(scene.rt, scene.alloc, shelf, config, rows, events) {
+        Some((grant, pool)) => {
+            let Begun {
+                id,
+                holder,
+                free,
+                ..
+            } = begun;
+            let accepted = Accepted {
+                free,
+                grant,
+                pool,
+                sink: Served::new(link, &grant.config),
+                id,
+                conn,
+            };
+            start(scene, shared, desk, stands, holder, accepted, early);
+        }
+        None => desk.fail(scene.gate, begun, link, Unstarted::Silent),
+    }
+}
+
+// Starts the stream of a session that was granted, and opens it on all rows.
+fn start<'r, 't, 'a, W: World, R: Wait + Timer, L: Link + Drop, C: Clock, G: Gate>(
+    scene: &Scene<'_, W, R, C, G>,
+    shared: &Shared<'a, W, L>,
+    desk: &mut LiveDesk<'r, 't, 'a, W, R, L>,
+    stands: &mut Stands<'a, W>,
+    holder: Holder<Holds<W>>,
+    accepted: Accepted<'a, W, Served<'a, W, L>>,
+    early: bool,
+)
+    requires last { IsTrue (is_last desk.old.decider.decisions accepted.id) }
+    requires begun { IsBegun desk.old.decider.decisions accepted.id accepted.free holder accepted.free }
+    requires conn { accepted.conn ≡ length desk.old.decider.decisions }
+    requires granted { IsGrantFor W.events accepted.grant.now }
+    requires pool { accepted.pool ≡ first_seat accepted.grant.now.pool (W.rows + 1) }
+    requires asked { HasAsked (L.read_side accepted.sink.link) (request.Collect accepted.grant.now.config) }
+    requires greeted { IsTrue (L.tells_taken accepted.sink.link)
+        → L.taken accepted.sink.link ≡ W.greeting }
+    requires sound { L.write_faults accepted.sink.link ≡ 0 }
+    requires stands { stands.old ≡ lent_if early }
+    ensures same { length desk.new.decider.decisions ≡ length desk.old.decider.decisions }
+    ensures goes { GoesOn early desk.old.decider desk.new.decider }
+    ensures stands { stands.new ≡ stands.old }
+{
+    let (id, conn) = (accepted.id, accepted.conn);
     let reply = session_reply(id);
     let started = Stream::start(
         scene.alloc,
@@ -249,6 +278,7 @@ fn begin<'r, 't, 'a, W: World, R: Wait + Timer, L: Link + Drop, C: Clock, G: Gat
         }
         Err(NotStarted { free, sink, fault }) => {
             let (link, why) = sink.unstarted(fault);
+            let slot = free.slot();
             let begun = Begun {
                 id,
                 slot,

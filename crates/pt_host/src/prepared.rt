@@ -3,6 +3,7 @@ ghost use Rattle.std.specs.Prelude.{◌≡◌, ◌+◌, ◌*◌, ◌<◌, ◌≤
 ghost use Rattle.pt_load.specs.Sample.{sample};
 ghost use Rattle.ep_registry.specs.declared.server.Mark.TheVariants as mark;
 ghost use Rattle.ep_registry.specs.Places.{numbered};
+ghost use Rattle.ep_live.specs.Made.{AreSlots};
 ghost use Rattle.pt_roles.specs.World.{IsWorldOf};
 ghost use Rattle.ep_table.specs.declared.limits.TheConstants.{SLOTS};
 ghost use Rattle.ep_journal.specs.declared.limits.TheConstants.{CONNECTIONS};
@@ -12,38 +13,60 @@ use ep_defs::EventDef;
 use ep_guarded::Agreed;
 use ep_journal::limits::CONNECTIONS;
 use ep_journal::{Decision, Log};
-use ep_live::{Live, ROW_TIES, Stands, free_slots};
-use ep_registry::{Hold, Kinds, Mark, Opening, Registry, Server};
+use ep_live::{Free, Live, ROW_TIES, Stands, free_slots};
+use ep_registry::{Hold, Mark, Opening, Registry, Server};
 use ep_table::limits::SLOTS;
-use ep_tie::{Blank, Named, Right};
+use ep_tie::{Blank, Right};
 use pt_io::Link;
 use pt_load::laws::sample_events_are_valid;
 use pt_load::{Plan, sample_events};
-use pt_roles::{Books, Hints, LiveSession, RoleMarks, Shared, World};
+use pt_roles::{Books, Hints, LiveSession, RoleMarks, Shared, Table, World};
 use std::alloc::{AllocError, Global};
 
 /// The ties of a run before they have a name, and the definitions of its events.
 #[derive(Drop)]
 pub(crate) struct Blanks<'a> {
     pub(crate) rows: Blank<Agreed<'a>>,
-    pub(crate) books: Blank<Log<Decision>>,
-    pub(crate) holds: Blank<Option<Hold>>,
-    pub(crate) marks: Blank<Mark>,
     pub(crate) events: Vec<EventDef>,
+    pub(crate) table: TableBlanks,
 }
 
 impl<'a> Blanks<'a> {
     pub(crate) fn new(alloc: Global, rows: u32) -> Result<Blanks<'a>, AllocError>
         requires { (0 < rows) × (rows ≤ 256) }
-        ensures { IfOk result (λ blanks. (blanks.rows.places ≡ rows + 128 * rows)
-            × (blanks.events.items ≡ sample) × (blanks.books.places ≡ 1) × (blanks.holds.places ≡ CONNECTIONS) × (blanks.marks.places ≡ SLOTS + 1)) }
+        ensures rows { IfOk result (λ blanks. blanks.rows.places ≡ rows + 128 * rows) }
+        ensures events { IfOk result (λ blanks. blanks.events.items ≡ sample) }
     {
+        let rows = Blank::new(alloc, rows + ROW_TIES as u32 * rows)?;
+        let events = sample_events(alloc)?;
+        let table = TableBlanks::new(alloc)?;
         Ok(Blanks {
-            rows: Blank::new(alloc, rows + ROW_TIES as u32 * rows)?,
-            books: Blank::new(alloc, 1)?,
-            holds: Blank::new(alloc, CONNECTIONS as u32)?,
-            marks: Blank::new(alloc, SLOTS as u32 + 1)?,
-            events: sample_events(alloc)?,
+            rows,
+            events,
+            table,
+        })
+    }
+}
+
+/// The ties of a run's table before they have a name.
+#[derive(Drop)]
+pub(crate) struct TableBlanks {
+    pub(crate) books: Blank<Log<Decision>>,
+    pub(crate) holds: Blank<Option<Hold>>,
+    pub(crate) marks: Blank<Mark>,
+    ghost places: { (books.places ≡ 1) × (holds.places ≡ CONNECTIONS)
+        × (marks.places ≡ SLOTS + 1) },
+}
+
+impl TableBlanks {
+    fn new(alloc: Global) -> Result<TableBlanks, AllocError> {
+        let books = Blank::new(alloc, 1)?;
+        let holds = Blank::new(alloc, CONNECTIONS as u32)?;
+        let marks = Blank::new(alloc, SLOTS as u32 + 1)?;
+        Ok(TableBlanks {
+            books,
+            holds,
+            marks,
         })
     }
 }
@@ -75,51 +98,79 @@ impl<'a, W: World, L: Link + Drop> Prepared<'a, W, L> {
         requires plan { plan.now ≡ W.world.plan }
         requires options { streamers ≡ W.world.options.streamers }
         requires rows { (blanks.rows.ties ≡ W.ties) × (blanks.rows.places ≡ W.rows + 128 * W.rows) }
-        requires table { (blanks.books.ties ≡ W.books) × (blanks.holds.ties ≡ W.holds)
-            × (blanks.marks.ties ≡ W.marks) }
-        requires places { (blanks.books.places ≡ 1) × (blanks.holds.places ≡ CONNECTIONS)
-            × (blanks.marks.places ≡ SLOTS + 1) }
+        requires table { (blanks.table.books.ties ≡ W.books) × (blanks.table.holds.ties ≡ W.holds)
+            × (blanks.table.marks.ties ≡ W.marks) }
         requires events { blanks.events.items ≡ W.events }
     {
-        sample_events_are_valid();
+        let sessions = Vec::with_capacity(alloc, CONNECTIONS)?;
         let Blanks {
             rows,
-            books,
-            holds,
-            marks,
             events,
+            table,
         } = blanks;
-        let hints = Hints::new(alloc, plan.threads)?;
-        let sessions = Vec::with_capacity(alloc, CONNECTIONS)?;
-        let (live, stands, hands) = Live::<W>::new(alloc, rows, plan.threads, events)?;
-        let free = free_slots(alloc, hands)?;
-        let (table, server, roles) = parts_of(Registry::new(
-            alloc, books, holds, marks, streamers, free,
-        )?);
+        let (live, hints, stands, free) = rows_of::<W>(alloc, plan.threads, rows, events)?;
+        let (table, server, roles) = table_of::<W, L>(alloc, table, streamers, free)?;
         Ok(Prepared {
             shared: Shared::new(live, hints, table),
             sessions,
             server,
             roles,
-            stands: Stands::new(stands, 0),
+            stands,
         })
     }
 }
 
-// A registry and the halves of the others apart.
-fn parts_of<B: Named, S: Named, R: Named, P: Kinds<F, W, E, G>, F: Drop, W: Drop, E: Drop, G: Drop>(
-    opening: Opening<B, S, R, P, F, W, E, G>,
-) -> (
-    Registry<B, S, R, P, F, W, E, G>,
-    Server<B, R>,
-    Vec<Right<R, Mark>>,
-)
-    ensures { (result.0 ≡ opening.registry) × (result.1 ≡ opening.server) × (result.2 ≡ opening.roles) }
+// The rows of a run, their hints, the halves of their threads, and the free slots.
+fn rows_of<'a, W: World>(
+    alloc: Global,
+    threads: u32,
+    rows: Blank<Agreed<'a>>,
+    events: Vec<EventDef>,
+) -> Result<(Live<'a, W>, Hints<W>, Stands<'a, W>, Vec<Free<'a, W>>), AllocError>
+    requires rows { threads ≡ W.rows }
+    requires ties { (rows.ties ≡ W.ties) × (rows.places ≡ W.rows + 128 * W.rows) }
+    requires events { (events.items ≡ W.events) × (W.events ≡ sample) }
+    ensures stands { IfOk result (λ made. made.2 ≡ Some 0) }
+    ensures free { IfOk result (λ made. (length made.3.items ≡ SLOTS) × AreSlots made.3.items) }
 {
+    sample_events_are_valid();
+    let (live, stands, hands) = Live::<W>::new(alloc, rows, threads, events)?;
+    let stands = Stands::new(stands, 0);
+    let free = free_slots(alloc, hands)?;
+    let hints = Hints::new(alloc, threads)?;
+    Ok((live, hints, stands, free))
+}
+
+// The table of a run, and the halves of its server and its roles.
+fn table_of<'a, W: World, L: Link + Drop>(
+    alloc: Global,
+    blanks: TableBlanks,
+    streamers: u32,
+    free: Vec<Free<'a, W>>,
+) -> Result<
+    (
+        Table<'a, W, L>,
+        Server<Books<W>, RoleMarks<W>>,
+        Vec<Right<RoleMarks<W>, Mark>>,
+    ),
+    AllocError,
+>
+    requires ties { (blanks.books.ties ≡ W.books) × (blanks.holds.ties ≡ W.holds)
+        × (blanks.marks.ties ≡ W.marks) }
+    requires roles { (0 < streamers) × (streamers ≤ SLOTS) }
+    requires free { (length free.items ≡ SLOTS) × AreSlots free.items }
+    ensures server { IfOk result (λ made. made.1 ≡ no_server) }
+    ensures roles { IfOk result (λ made. made.2.items ≡ numbered SLOTS (mark.Role streamers false)) }
+{
+    let TableBlanks {
+        books,
+        holds,
+        marks,
+    } = blanks;
     let Opening {
         registry,
         server,
         roles,
-    } = opening;
-    (registry, server, roles)
+    } = Registry::new(alloc, books, holds, marks, streamers, free)?;
+    Ok((registry, server, roles))
 }

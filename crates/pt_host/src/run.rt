@@ -1,10 +1,9 @@
 //! A run with its server, from its first turn to its end.
-ghost use Rattle.std.specs.Prelude.{◌≡◌, ◌+◌, ◌*◌, ◌<◌, ◌≤◌, ℕ, [], length, None, Some, true, false, vec_capacity, vec_len, IfOk, IfErr, IfNone, IfSome, OnErr, IsTrue};
+ghost use Rattle.std.specs.Prelude.{◌≡◌, ◌+◌, ◌*◌, ◌<◌, ◌≤◌, ℕ, [], length, None, Some, true, false, vec_capacity, IfOk, IfErr, IfNone, IfSome, OnErr, IsTrue};
 ghost use Rattle.ep_journal.specs.declared.limits.TheConstants.{CONNECTIONS};
 ghost use Rattle.ep_table.specs.declared.limits.TheConstants.{SLOTS};
 ghost use Rattle.ep_registry.specs.declared.server.Mark.TheVariants as mark;
 ghost use Rattle.ep_registry.specs.Places.{numbered};
-ghost use Rattle.ep_live.specs.Made.{AreStands};
 ghost use Rattle.pt_host.specs.declared.exit.Exit.TheVariants as exit;
 ghost use Rattle.pt_host.specs.Ending.{AreLeftOver, IsAllOver, has_failed};
 ghost use Rattle.pt_host.specs.Server.{GoesOnFrom, HasServed, HasTurned, no_server};
@@ -24,7 +23,7 @@ use crate::host::{LiveDesk, close, serve_early, serve_late};
 use crate::locked::Locked;
 use crate::prepared::{Blanks, Prepared};
 use ep_defs::Facts;
-use ep_guarded::{Agreed, Grant};
+use ep_guarded::Grant;
 use ep_journal::limits::CONNECTIONS;
 use ep_journal::{Entry, Log};
 use ep_live::Stands;
@@ -126,10 +125,8 @@ fn run_named<
     requires plan { (parts.plan.now ≡ W.world.plan) × (parts.options ≡ W.world.options) }
     requires facts { (parts.facts.now ≡ W.world.facts) × IsTrue (is_valid_facts parts.facts.now) }
     requires rows { (blanks.rows.ties ≡ W.ties) × (blanks.rows.places ≡ W.rows + 128 * W.rows) }
-    requires table { (blanks.books.ties ≡ W.books) × (blanks.holds.ties ≡ W.holds)
-        × (blanks.marks.ties ≡ W.marks) }
-    requires places { (blanks.books.places ≡ 1) × (blanks.holds.places ≡ CONNECTIONS)
-        × (blanks.marks.places ≡ SLOTS + 1) }
+    requires table { (blanks.table.books.ties ≡ W.books) × (blanks.table.holds.ties ≡ W.holds)
+        × (blanks.table.marks.ties ≡ W.marks) }
     requires events { blanks.events.items ≡ W.events }
     requires greeting { D.greeting held.dock.now ≡ W.world.greeting }
     ensures same { result.dock.ghost_name ≡ held.entry.dock.ghost_name }
@@ -254,31 +251,82 @@ fn groups_of<'r, 't, 'a, W: World, R: Wait, L: Link + Drop, C, G>(
     ensures { IfOk result (λ groups. (groups.0.serving.desk.decider ≡ no_server)
         × (groups.0.serving.stands ≡ Some 0)) }
 {
+    let streaming = streaming_of(parts, shared, roles)?;
+    let kit = kit_of(parts, shared)?;
+    let serving = serving_of(parts, shelf, shared, server, stands)?;
+    Ok((Front { serving, kit }, streaming))
+}
+
+// The streaming roles.
+fn streaming_of<'r, 't, 'a, W: World, R: Wait, L: Link + Drop, C, G>(
+    parts: &Parts<'r, R, C, G>,
+    shared: &'t Shared<'a, W, L>,
+    roles: Vec<Right<RoleMarks<W>, Mark>>,
+) -> Result<Streaming<'r, 't, 'a, W, R, L, C, G>, AllocError>
+    requires world { IsWorldOf W.world W.rows W.events W.writes W.setting W.facts W.greeting }
+    requires plan { (parts.now.plan.now ≡ W.world.plan) × (parts.now.options ≡ W.world.options) }
+    requires facts { (parts.now.facts.now ≡ W.world.facts) × IsTrue (is_valid_facts parts.now.facts.now) }
+    requires roles { roles.items ≡ numbered SLOTS (mark.Role W.world.options.streamers false) }
+{
+    let alloc = parts.alloc;
+    let count = parts.options.streamers;
+    let streamers = streamers_of(alloc, shared, roles, count)?;
+    let roles = Vec::with_capacity(alloc, count as usize)?;
+    Ok(Streaming {
+        scene: scene(parts),
+        streamers,
+        roles,
+    })
+}
+
+// What the writers are made of.
+fn kit_of<'r, 't, 'a, W: World, R: Wait, L: Link + Drop, C, G>(
+    parts: &Parts<'r, R, C, G>,
+    shared: &'t Shared<'a, W, L>,
+) -> Result<WritersKit<'r, 't, 'a, W, R, L, C, G>, AllocError>
+    requires world { IsWorldOf W.world W.rows W.events W.writes W.setting W.facts W.greeting }
+    requires plan { (parts.now.plan.now ≡ W.world.plan) × (parts.now.options ≡ W.world.options) }
+    requires facts { (parts.now.facts.now ≡ W.world.facts) × IsTrue (is_valid_facts parts.now.facts.now) }
+{
     let alloc = parts.alloc;
     let threads = parts.plan.threads as usize;
-    let count = parts.options.streamers;
-    let streaming = Streaming {
-        scene: scene(parts),
-        streamers: streamers_of(alloc, shared, roles, count)?,
-        roles: Vec::with_capacity(alloc, count as usize)?,
-    };
-    let kit = WritersKit {
+    let drafts = drafts_of(alloc, parts.plan, parts.options.lives)?;
+    let writers = Vec::with_capacity(alloc, threads)?;
+    let rows = Vec::with_capacity(alloc, threads)?;
+    let halves = Vec::with_capacity(alloc, threads)?;
+    Ok(WritersKit {
         scene: scene(parts),
         shared,
-        drafts: drafts_of(alloc, parts.plan, parts.options.lives)?,
-        writers: Vec::with_capacity(alloc, threads)?,
-        rows: Vec::with_capacity(alloc, threads)?,
-        halves: Vec::with_capacity(alloc, threads)?,
-    };
-    let desk = Desk::new(alloc, Locked::new(parts.rt, shared, server))?;
-    let serving = Serving {
+        drafts,
+        writers,
+        rows,
+        halves,
+    })
+}
+
+// The server, which has decided on no connection.
+fn serving_of<'r, 't, 'a, W: World, R: Wait, L: Link + Drop, C, G>(
+    parts: &Parts<'r, R, C, G>,
+    shelf: &'a Shelf<Grant>,
+    shared: &'t Shared<'a, W, L>,
+    server: Server<Books<W>, RoleMarks<W>>,
+    stands: Stands<'a, W>,
+) -> Result<Serving<'r, 't, 'a, W, R, L, C, G>, AllocError>
+    requires world { IsWorldOf W.world W.rows W.events W.writes W.setting W.facts W.greeting }
+    requires plan { (parts.now.plan.now ≡ W.world.plan) × (parts.now.options ≡ W.world.options) }
+    requires facts { (parts.now.facts.now ≡ W.world.facts) × IsTrue (is_valid_facts parts.now.facts.now) }
+    requires server { server ≡ no_server }
+    ensures desk { IfOk result (λ serving. serving.desk.decider ≡ no_server) }
+    ensures stands { IfOk result (λ serving. serving.stands ≡ stands.entry) }
+{
+    let desk = Desk::new(parts.alloc, Locked::new(parts.rt, shared, server))?;
+    Ok(Serving {
         scene: scene(parts),
         shared,
         shelf,
         desk,
         stands,
-    };
-    Ok((Front { serving, kit }, streaming))
+    })
 }
 
 // What never changes in the run.
@@ -373,7 +421,9 @@ fn run_groups<
                     return (held, Err(AllocError));
                 }
             };
-            let (held, first, serving, writing) = serve_until_ready(front, held, wait);
+            let Front { mut serving, kit } = front;
+            let mut held = held;
+            let (first, writing) = serve_until_ready(&mut serving, kit, &mut held, wait);
             let write = move ||
                 ensures { result.rows.items ≡ rows_of W.world.plan W.world.options.lives }
             { writing.write_all() };
@@ -381,7 +431,7 @@ fn run_groups<
                 Ok(handle) => Ok(handle),
                 Err(refused) => Err((refused.value)()),
             };
-            let (held, exit, serving) = serve_on(serving, held, first);
+            let exit = serve_on(&mut serving, &mut held, first);
             let end = match writers {
                 Ok(handle) => handle.join(rt),
                 Err(end) => end,
@@ -404,20 +454,11 @@ fn run_groups<
 fn give_up<'r, 't, 'a, W: World, R: Wait, L: Link + Drop, C, G>(
     front: Front<'r, 't, 'a, W, R, L, C, G>,
 ) {
-    let Front { serving, kit: _ } = front;
-    let Serving {
-        scene: _,
-        shared: _,
-        shelf: _,
-        desk,
-        stands: _,
-    } = serving;
-    let _ended = close(desk);
+    let _ended = close(front.serving.desk);
 }
 
 // The server takes connections until the writers are to begin, and lends them the threads' halves.
 fn serve_until_ready<
-    'd,
     'r,
     't,
     'a,
@@ -428,117 +469,34 @@ fn serve_until_ready<
     C: Clock,
     G: Gate,
 >(
-    front: Front<'r, 't, 'a, W, R, L, C, G>,
-    held: HeldDock<'d, D>,
+    serving: &mut Serving<'r, 't, 'a, W, R, L, C, G>,
+    kit: WritersKit<'r, 't, 'a, W, R, L, C, G>,
+    held: &mut HeldDock<'_, D>,
     wait: u32,
-) -> (
-    HeldDock<'d, D>,
-    Exit,
-    Serving<'r, 't, 'a, W, R, L, C, G>,
-    Writing<'r, 't, 'a, W, R, L, C, G>,
-)
-    requires open { front.serving.desk.decider.left ≡ false }
-    requires stands { front.serving.stands ≡ Some 0 }
-    requires greeting { D.greeting held.dock.now ≡ W.greeting }
-    ensures turned { HasTurned D.Dock true (Some result.1) held.entry.dock.now result.0.dock.now
-        front.entry.serving.desk.decider result.2.desk.decider }
-    ensures enough { result.1 ≡ exit.Enough → wait ≤ result.2.desk.decider.early }
-    ensures stands { result.2.stands ≡ None }
-    ensures same { result.0.dock.ghost_name ≡ held.entry.dock.ghost_name }
+) -> (Exit, Writing<'r, 't, 'a, W, R, L, C, G>)
+    requires open { serving.old.desk.decider.left ≡ false }
+    requires stands { serving.old.stands ≡ Some 0 }
+    requires greeting { D.greeting held.old.dock.now ≡ W.greeting }
+    ensures turned { HasTurned D.Dock true (Some result.0) held.old.dock.now held.new.dock.now
+        serving.old.desk.decider serving.new.desk.decider }
+    ensures enough { result.0 ≡ exit.Enough → wait ≤ serving.new.desk.decider.early }
+    ensures stands { serving.new.stands ≡ None }
+    ensures same { held.new.dock.ghost_name ≡ held.old.dock.ghost_name }
 {
-    let Front { serving, kit } = front;
-    let (held, first, serving) = serve_first(serving, held, wait);
-    let (serving, stands) = lend(serving);
-    (held, first, serving, kit.ready(stands))
-}
-
-// The server takes connections until the writers are to begin.
-fn serve_first<
-    'd,
-    'r,
-    't,
-    'a,
-    W: World,
-    R: Wait + Timer,
-    L: Link + Drop,
-    D: Dock<Link = L>,
-    C: Clock,
-    G: Gate,
->(
-    serving: Serving<'r, 't, 'a, W, R, L, C, G>,
-    held: HeldDock<'d, D>,
-    wait: u32,
-) -> (HeldDock<'d, D>, Exit, Serving<'r, 't, 'a, W, R, L, C, G>)
-    requires open { serving.desk.decider.left ≡ false }
-    requires stands { serving.stands ≡ Some 0 }
-    requires greeting { D.greeting held.dock.now ≡ W.greeting }
-    ensures turned { HasTurned D.Dock true (Some result.1) held.entry.dock.now result.0.dock.now
-        serving.entry.desk.decider result.2.desk.decider }
-    ensures enough { result.1 ≡ exit.Enough → wait ≤ result.2.desk.decider.early }
-    ensures stands { result.2.stands ≡ Some 0 }
-    ensures same { result.0.dock.ghost_name ≡ held.entry.dock.ghost_name }
-{
-    let Serving {
-        scene,
-        shared,
-        shelf,
-        mut desk,
-        mut stands,
-    } = serving;
-    let mut held = held;
-    let exit = serve_early(
-        &scene,
-        shared,
-        shelf,
-        &mut desk,
-        &mut stands,
-        &mut held,
+    let first = serve_early(
+        &serving.scene,
+        serving.shared,
+        serving.shelf,
+        &mut serving.desk,
+        &mut serving.stands,
+        held,
         wait,
     );
-    let serving = Serving {
-        scene,
-        shared,
-        shelf,
-        desk,
-        stands,
-    };
-    (held, exit, serving)
-}
-
-// The server lends the threads' halves to the writers.
-fn lend<'r, 't, 'a, W: World, R: Wait, L: Link + Drop, C, G>(
-    serving: Serving<'r, 't, 'a, W, R, L, C, G>,
-) -> (
-    Serving<'r, 't, 'a, W, R, L, C, G>,
-    Vec<Right<W, Agreed<'a>>>,
-)
-    requires { serving.stands ≡ Some 0 }
-    ensures desk { result.0.desk ≡ serving.entry.desk }
-    ensures none { result.0.stands ≡ None }
-    ensures count { vec_len result.1 ≡ W.rows }
-    ensures halves { AreStands 0 result.1.items }
-{
-    let Serving {
-        scene,
-        shared,
-        shelf,
-        desk,
-        mut stands,
-    } = serving;
-    let halves = stands.lend();
-    let serving = Serving {
-        scene,
-        shared,
-        shelf,
-        desk,
-        stands,
-    };
-    (serving, halves)
+    (first, kit.ready(serving.stands.lend()))
 }
 
 // The server goes on while the writers write, unless nobody comes in any more.
 fn serve_on<
-    'd,
     'r,
     't,
     'a,
@@ -548,38 +506,25 @@ fn serve_on<
     D: Dock<Link = L>,
     C: Clock,
     G: Gate,
->(
-    serving: Serving<'r, 't, 'a, W, R, L, C, G>,
-    held: HeldDock<'d, D>,
-    first: Exit,
-) -> (HeldDock<'d, D>, Exit, Serving<'r, 't, 'a, W, R, L, C, G>)
-    requires open { serving.desk.decider.left ≡ false }
-    requires stands { serving.stands ≡ None }
-    requires greeting { D.greeting held.dock.now ≡ W.greeting }
-    ensures turned { GoesOnFrom D.Dock first result.1 held.entry.dock.now result.0.dock.now
-        serving.entry.desk.decider result.2.desk.decider }
-    ensures same { result.0.dock.ghost_name ≡ held.entry.dock.ghost_name }
+>(serving: &mut Serving<'r, 't, 'a, W, R, L, C, G>, held: &mut HeldDock<'_, D>, first: Exit) -> Exit
+    requires open { serving.old.desk.decider.left ≡ false }
+    requires stands { serving.old.stands ≡ None }
+    requires greeting { D.greeting held.old.dock.now ≡ W.greeting }
+    ensures turned { GoesOnFrom D.Dock first result held.old.dock.now held.new.dock.now
+        serving.old.desk.decider serving.new.desk.decider }
+    ensures same { held.new.dock.ghost_name ≡ held.old.dock.ghost_name }
 {
     let Exit::Enough = first else {
-        return (held, first, serving);
+        return first;
     };
-    let Serving {
-        scene,
-        shared,
-        shelf,
-        mut desk,
-        mut stands,
-    } = serving;
-    let mut held = held;
-    let exit = serve_late(&scene, shared, shelf, &mut desk, &mut stands, &mut held);
-    let serving = Serving {
-        scene,
-        shared,
-        shelf,
-        desk,
-        stands,
-    };
-    (held, exit, serving)
+    serve_late(
+        &serving.scene,
+        serving.shared,
+        serving.shelf,
+        &mut serving.desk,
+        &mut serving.stands,
+        held,
+    )
 }
 
 // What the run comes to, in memory that is there.

@@ -24,7 +24,7 @@ abbrev pub ghosts-run_named-W-World : goal.ghosts-run_named-W-World
 ghosts-run_named-W-World g a =
     record {
       world = world_of a.parts.plan.now a.parts.options a.parts.facts.now (g.D.Dock.greeting a.held.dock.now);
-      books = a.blanks.books.ties;
-      holds = a.blanks.holds.ties;
-      marks = a.blanks.marks.ties;
+      books = a.blanks.table.books.ties;
+      holds = a.blanks.table.holds.ties;
+      marks = a.blanks.table.marks.ties;
     }

@@ -1,15 +1,9 @@
 use Rattle.std.proofs.Common.{arith}
 use Rattle.pt_host.proofs.prepared.Prepared.new.Goals as goal
 
-pub new-requires-3-clause-free : goal.new-requires-3-clause-free
-new-requires-3-clause-free g c =
-    let free = c.in_ok-free.free in
-    (omega (arith, free.ok.0, c.in_ok-free.ensures.count), λ place slot at. c.in_ok-free.ensures.slots place slot at)
-
 pub invariant_of-result-clause-fresh : goal.invariant_of-result-clause-fresh
-invariant_of-result-clause-fresh g c =
-    first_of (rw (c.parts_of-table.ensures.1, c.in_ok-new.ensures.server), cc (c.parts_of-table.ensures.1, c.in_ok-new.ensures.server), grind (arith, c.parts_of-table.ensures.1, c.in_ok-new.ensures.server))
+invariant_of-result-clause-fresh g c = c.in_ok-table.ensures.server
 
 pub invariant_of-result-clause-roles_are : goal.invariant_of-result-clause-roles_are
 invariant_of-result-clause-roles_are g c =
-    first_of (rw (c.parts_of-table.ensures.2, c.in_ok-new.ensures.roles, c.requires.options), cc (c.parts_of-table.ensures.2, c.in_ok-new.ensures.roles, c.requires.options), grind (arith, c.parts_of-table.ensures.2, c.in_ok-new.ensures.roles, c.requires.options))
+    first_of (rw (c.in_ok-table.ensures.roles, c.requires.options), cc (c.in_ok-table.ensures.roles, c.requires.options), grind (arith, c.in_ok-table.ensures.roles, c.requires.options))
