@@ -1,17 +1,17 @@
 //! A run whose threads write while a callback hears what its one session gets of them.
-ghost use Rattle.std.specs.Prelude.{◌≡◌, ℕ, ◌+◌, ◌*◌, ◌<◌, ◌≤◌, [], false, Some, IfOk, IsTrue, List, vec_len};
-ghost use Rattle.ep_defs.specs.declared.limits.TheConstants.{SESSIONS, THREADS as MOST_THREADS, WRITES};
+ghost use Rattle.std.specs.Prelude.{◌≡◌, ℕ, ◌+◌, ◌*◌, ◌<◌, ◌≤◌, [], false, Some, IfOk, IsTrue, List, length, vec_len};
+ghost use Rattle.ep_defs.specs.declared.limits.TheConstants.{EVENTS, SESSIONS, THREADS as MOST_THREADS, WRITES};
 ghost use Rattle.ep_defs.specs.Session.{is_valid_config};
 ghost use Rattle.ep_guarded.specs.Granted.{IsGrantFor};
 ghost use Rattle.ep_listen.specs.Heard.{HeardEvent};
 ghost use Rattle.ep_listen.specs.Listening.{callback_of, has_failed, marks_in, room_of};
-ghost use Rattle.ep_live.specs.Made.{AreHandTies};
+ghost use Rattle.ep_live.specs.Made.{AreHandTies, AreStands};
 ghost use Rattle.ep_live.specs.RowSet.{AreFresh, life_at};
 ghost use Rattle.pt_writers.specs.Written.{IsRunOf, writes_of};
 ghost use Rattle.pt_listen.specs.Watched.{Watched, WatchedFrom};
 ghost use Rattle.pt_listen.specs.state.Hearing.{first_seat};
 
-use crate::hearing::{SESSION, open_all};
+use crate::hearing::{Hearing, SESSION, open_all};
 use crate::run::WatchRun;
 use crate::threads::run_both;
 use ep_defs::{Config, EventDef};
@@ -127,7 +127,7 @@ fn run_named<
         blank,
         events,
     } = parts;
-    let (live, threads, hands) = Live::<P>::new(alloc, blank, plan.threads, events)?;
+    let (live, threads, free) = new_rows::<P>(alloc, blank, plan.threads, events)?;
     let around = Around {
         rt,
         clock,
@@ -135,12 +135,32 @@ fn run_named<
         plan,
         name: PhantomData,
     };
-    let free = first_slot(alloc, hands)?;
     let lives = vec![in alloc; 0u32; plan.threads as usize]?;
     let slot = free.slot();
     let stands = Stands::new(threads, 0);
     let rows = LiveRows::new(rt, &live, free, grant, seat, stands, lives);
     run_over(alloc, &around, &live, rows, slot, grant, listener)
+}
+
+// So many rows that no thread and no session has used, the halves of their threads, by row, and the slot of the run's one
+// session.
+fn new_rows<'g, P: WatchRun>(
+    alloc: Global,
+    blank: Blank<Agreed<'g>>,
+    count: u32,
+    events: Vec<EventDef>,
+) -> Result<(Live<'g, P>, Vec<Right<P, Agreed<'g>>>, Free<'g, P>), AllocError>
+    requires rows { count ≡ P.rows }
+    requires ties { (blank.ties ≡ P.ties) × (blank.places ≡ P.rows + 128 * P.rows) }
+    requires events { events.items ≡ P.events }
+    requires few { length events.items ≤ EVENTS }
+    ensures count { IfOk result (λ made. vec_len made.1 ≡ P.rows) }
+    ensures threads { IfOk result (λ made. AreStands 0 made.1.items) }
+    ensures slot { IfOk result (λ made. made.2 ≡ 0) }
+{
+    let (live, threads, hands) = Live::<P>::new(alloc, blank, count, events)?;
+    let free = first_slot(alloc, hands)?;
+    Ok((live, threads, free))
 }
 
 // The slot of the run's one session.
@@ -187,9 +207,33 @@ fn run_over<
     requires sound { has_failed listener ≡ false }
     ensures { IfOk result (WatchedFrom K.has_heard P.at_first P.plan P.config) }
 {
-    all_is_heard_but_what_is_missing();
     let kit = Kit::new(alloc, around, live)?;
     let hearing = open_all(alloc, rows, slot, grant, listener)?;
+    Ok(with_threads(alloc, around, live, hearing, kit))
+}
+
+// Lets the threads make their writes while this one hands over what the session gets of them, and ends it.
+fn with_threads<
+    'r,
+    'w,
+    'g,
+    P: WatchRun + Send + Sync,
+    R: Threads + Wait + Timer + Sync,
+    K: Callback + Drop,
+    C: Clock,
+    G: Gate,
+>(
+    alloc: Global,
+    around: &Around<'_, P, R, C, G>,
+    live: &'w Live<'g, P>,
+    hearing: Hearing<'r, 'g, P, R, K>,
+    kit: Kit<'w, 'g, P>,
+) -> WatchEnd<K>
+    requires writes { P.writes ≡ writes_of P.plan }
+    requires stands { hearing ≡ Some 0 }
+    ensures { WatchedFrom K.has_heard P.at_first P.plan P.config result }
+{
+    all_is_heard_but_what_is_missing();
     let Kit {
         live: _,
         drafts,
@@ -205,9 +249,9 @@ fn run_over<
     let writes = around.plan.writes;
     let hearing = hearing.take_back(halves, writes);
     let (listened, seat) = hearing.end(alloc, writes);
-    Ok(WatchEnd {
+    WatchEnd {
         rows: ends,
         listened,
         seat,
-    })
+    }
 }

@@ -1,6 +1,6 @@
 //! A run whose threads write while the stream of its one session goes to an output.
-ghost use Rattle.std.specs.Prelude.{◌≡◌, ◌+◌, ◌*◌, ◌<◌, ◌≤◌, Some, IfOk, IsTrue, replicate, vec_len};
-ghost use Rattle.ep_defs.specs.declared.limits.TheConstants.{SESSIONS, THREADS as MOST_THREADS, WRITES};
+ghost use Rattle.std.specs.Prelude.{◌≡◌, ◌+◌, ◌*◌, ◌<◌, ◌≤◌, Some, IfOk, IsTrue, length, replicate, vec_len};
+ghost use Rattle.ep_defs.specs.declared.limits.TheConstants.{EVENTS, SESSIONS, THREADS as MOST_THREADS, WRITES};
 ghost use Rattle.ep_defs.specs.Session.{is_valid_config};
 ghost use Rattle.ep_guarded.specs.Granted.{IsGrantFor};
 ghost use Rattle.ep_live.specs.Made.{AreHandTies, AreStands};
@@ -133,7 +133,7 @@ fn run_named<
         blank,
         events,
     } = parts;
-    let (live, stands, hands) = match Live::<P>::new(alloc, blank, plan.threads, events) {
+    let (live, threads, free) = match new_rows::<P>(alloc, blank, plan.threads, events) {
         Ok(made) => made,
         Err(error) => {
             *answer = Err(error);
@@ -147,22 +147,36 @@ fn run_named<
         plan,
         name: PhantomData,
     };
-    let free = match first_slot(alloc, hands) {
-        Ok(free) => free,
-        Err(error) => {
-            *answer = Err(error);
-            return lent;
-        }
-    };
     let started = Started {
         free,
         grant,
         pool: seat,
-        threads: stands,
+        threads,
     };
     let (lent, end) = run_over(alloc, &around, &live, started, info, lent);
     *answer = end;
     lent
+}
+
+// So many rows that no thread and no session has used, the halves of their threads, by row, and the slot of the run's one
+// session.
+fn new_rows<'g, P: TraceRun>(
+    alloc: Global,
+    blank: Blank<Agreed<'g>>,
+    count: u32,
+    events: Vec<EventDef>,
+) -> Result<(Live<'g, P>, Vec<Right<P, Agreed<'g>>>, Free<'g, P>), AllocError>
+    requires rows { count ≡ P.rows }
+    requires ties { (blank.ties ≡ P.ties) × (blank.places ≡ P.rows + 128 * P.rows) }
+    requires events { events.items ≡ P.events }
+    requires few { length events.items ≤ EVENTS }
+    ensures count { IfOk result (λ made. vec_len made.1 ≡ P.rows) }
+    ensures threads { IfOk result (λ made. AreStands 0 made.1.items) }
+    ensures slot { IfOk result (λ made. made.2 ≡ 0) }
+{
+    let (live, threads, hands) = Live::<P>::new(alloc, blank, count, events)?;
+    let free = first_slot(alloc, hands)?;
+    Ok((live, threads, free))
 }
 
 // The slot of the run's one session.
@@ -216,12 +230,43 @@ fn run_over<
     ensures same { result.0.output.ghost_name ≡ lent.entry.output.ghost_name }
     ensures traces { TracesOver O.Sink P.run P.plan lent.entry.output.now result.0.output.now result.1 }
 {
-    a_traced_stream_is_found();
-    a_part_is_found();
     let kit = match Kit::new(alloc, around, live) {
         Ok(kit) => kit,
         Err(error) => return (lent, Err(error)),
     };
+    run_session(alloc, around, live, started, kit, info, lent)
+}
+
+// The same with all that its threads need.
+fn run_session<
+    'o,
+    'w,
+    'g,
+    P: TraceRun + Send + Sync,
+    R: Threads + Wait + Timer + Sync,
+    O: Sink,
+    C: Clock,
+    G: Gate,
+>(
+    alloc: Global,
+    around: &Around<'_, P, R, C, G>,
+    live: &'w Live<'g, P>,
+    started: Started<'g, P>,
+    kit: Kit<'w, 'g, P>,
+    info: &TraceInfo,
+    lent: Lent<'o, O>,
+) -> (Lent<'o, O>, Result<TraceEnd, AllocError>)
+    requires writes { P.writes ≡ writes_of P.plan }
+    requires setting { P.setting ≡ setting_of P.run }
+    requires lent { IsLentTo O.Sink P.run lent.output.ghost_name lent.output.now }
+    requires asked { (info.now ≡ P.run.info) × (started.grant.now.config ≡ P.run.config) }
+    requires admitted { IsGrantFor P.events started.grant.now }
+    requires pool { started.pool ≡ first_seat started.grant.now.pool (P.rows + 1) }
+    ensures same { result.0.output.ghost_name ≡ lent.entry.output.ghost_name }
+    ensures traces { TracesOver O.Sink P.run P.plan lent.entry.output.now result.0.output.now result.1 }
+{
+    a_traced_stream_is_found();
+    a_part_is_found();
     let Started {
         free,
         grant,

@@ -10,8 +10,8 @@ all-zero zero (suc k) = refl
 all-zero (suc n) zero = refl
 all-zero (suc n) (suc k) = all-zero n k
 
-pub new-requires-clause-few : goal.new-requires-clause-few
-new-requires-clause-few g c = rw (c.requires.events, c.requires.run.events_are) c.sample_events_are_valid.ensures.few
+pub new_rows-requires-clause-few : goal.new_rows-requires-clause-few
+new_rows-requires-clause-few g c = rw (c.requires.events, c.requires.run.events_are) c.sample_events_are_valid.ensures.few
 
 pub run_over-requires-clause-fresh : goal.run_over-requires-clause-fresh
 run_over-requires-clause-fresh g c κs within =
