@@ -1,3 +1,4 @@
+use crate::tests::{same, same_bytes};
 use ep_defs::{Bytes, Item, ItemKind};
 use nt_blocks::limits::WRITTEN_BYTES;
 use nt_blocks::{BlobBlock, BodyFault, put_point, take_body};
@@ -5,7 +6,6 @@ use nt_head::HeadState;
 use nt_head::limits::HEAD_BYTES;
 use nt_object::BlockKind;
 use std::alloc::{AllocError, Global};
-use std::test::Fail;
 
 // The body of a point at the stamp 200, at which thread 1 has this number.
 fn point_body(alloc: Global, number: u32) -> Result<Vec<u8>, AllocError> {
@@ -15,13 +15,11 @@ fn point_body(alloc: Global, number: u32) -> Result<Vec<u8>, AllocError> {
 }
 
 #[test]
-fn a_point_has_its_stamp_and_its_threads(rt: HostRuntime) -> Result<(), Fail> {
-    let body = point_body(rt.alloc(), 7)?;
+fn a_point_has_its_stamp_and_its_threads(rt: HostRuntime) {
     let expected = [
         0xc8, 0, 0, 0, 0, 0, 0, 0, 1, 0, 0, 0, 1, 0, 0, 0, 0, 0, 0, 0, 7, 0, 0, 0,
     ];
-    assert_eq!(rt; body.as_slice(), expected.as_slice());
-    Ok(())
+    same_bytes(&rt, point_body(rt.alloc(), 7), &expected);
 }
 
 // The body of one event without a payload.
@@ -38,13 +36,11 @@ fn event_body(alloc: Global) -> Result<Vec<u8>, AllocError> {
 }
 
 #[test]
-fn a_first_event_takes_seven_bytes_behind_the_header(rt: HostRuntime) -> Result<(), Fail> {
-    let body = event_body(rt.alloc())?;
+fn a_first_event_takes_seven_bytes_behind_the_header(rt: HostRuntime) {
     let expected = [
         0x14, 0, 1, 0, 0x64, 0, 0, 0, 0, 0, 0, 0, 0x64, 0, 0, 0, 0, 0, 0, 0, 7, 1, 0, 1, 0, 1, 0x64,
     ];
-    assert_eq!(rt; body.as_slice(), expected.as_slice());
-    Ok(())
+    same_bytes(&rt, event_body(rt.alloc()), &expected);
 }
 
 // Takes a short body that stands at the offset 100.
@@ -83,48 +79,41 @@ fn bytes_of(item: &Item) -> &[u8] {
 }
 
 // What is told of items: their numbers, and the bytes of all.
-#[derive(Drop)]
-struct Told {
-    numbers: Vec<(u64, u64, usize)>,
-    bytes: Vec<u8>,
-}
+type Told<'a> = (&'a [(u64, u64, usize)], &'a [u8]);
 
-fn tell(alloc: Global, items: &[Item]) -> Result<Told, AllocError> {
-    let mut told = Told {
-        numbers: Vec::new(alloc),
-        bytes: Vec::new(alloc),
-    };
+// Whether this is told of items.
+fn are(alloc: Global, items: &[Item], told: Told) -> Result<bool, AllocError> {
+    let mut bytes = Vec::new(alloc);
     for item in items {
-        told.numbers.push(numbers_of(item))?;
-        told.bytes.extend_from_slice(bytes_of(item))?;
+        bytes.extend_from_slice(bytes_of(item))?;
     }
-    Ok(told)
+    Ok(items.iter().map(numbers_of).eq(told.0.iter().copied()) && bytes.as_slice() == told.1)
 }
 
-// What is told of the items of these bodies.
-fn told_of(alloc: Global, bodies: &[(BlockKind, &[u8])]) -> Result<Told, BodyFault> {
+// Whether this is told of the items of these bodies.
+fn tell(alloc: Global, bodies: &[(BlockKind, &[u8])], told: Told) -> Result<bool, BodyFault> {
     let mut items = Vec::new(alloc);
     for (kind, body) in bodies {
         take_short(alloc, *kind, body, &mut items)?;
     }
-    Ok(tell(alloc, &items)?)
+    Ok(are(alloc, &items, told)?)
 }
 
 #[test]
-fn equal_stacks_have_ids_of_their_own(rt: HostRuntime) -> Result<(), Fail> {
+fn equal_stacks_have_ids_of_their_own(rt: HostRuntime) {
     let body = [
         1, 0, 0, 0, 2, 0, 0, 0, 8, 0, 0, 0, 1, 2, 3, 4, 5, 6, 7, 8, 8, 0, 0, 0, 1, 2, 3, 4, 5, 6,
         7, 8,
     ];
-    let told = told_of(rt.alloc(), &[(BlockKind::Stack, &body)])?;
-    assert_eq!(rt;
-        (told.numbers.as_slice(), told.bytes.as_slice()),
-        (
-            [(108, 1, 8), (120, 2, 8)].as_slice(),
-            [1, 2, 3, 4, 5, 6, 7, 8, 1, 2, 3, 4, 5, 6, 7, 8].as_slice()
-        )
+    let told: Told = (
+        &[(108, 1, 8), (120, 2, 8)],
+        &[1, 2, 3, 4, 5, 6, 7, 8, 1, 2, 3, 4, 5, 6, 7, 8],
     );
-    Ok(())
+    same(
+        &rt,
+        tell(rt.alloc(), &[(BlockKind::Stack, &body)], told),
+        Ok(true),
+    );
 }
 
 // The body of an event with the payload `ab` and one with the payload `c`, if that fits.
@@ -143,27 +132,18 @@ fn events_body(alloc: Global) -> Result<Vec<u8>, AllocError> {
     block.body(alloc)
 }
 
-// What is told of those events and of a point behind them.
-fn told_of_events_and_a_point(alloc: Global) -> Result<Told, BodyFault> {
+// Whether this is told of those events and of a point behind them.
+fn tell_events_and_a_point(alloc: Global, told: Told) -> Result<bool, BodyFault> {
     let events = events_body(alloc)?;
     let point = point_body(alloc, 2)?;
-    told_of(
-        alloc,
-        &[(BlockKind::Event, &events), (BlockKind::Point, &point)],
-    )
+    let bodies: [(BlockKind, &[u8]); 2] = [(BlockKind::Event, &events), (BlockKind::Point, &point)];
+    tell(alloc, &bodies, told)
 }
 
 #[test]
-fn blobs_and_points_are_taken_back(rt: HostRuntime) -> Result<(), Fail> {
-    let told = told_of_events_and_a_point(rt.alloc())?;
-    assert_eq!(rt;
-        (told.numbers.as_slice(), told.bytes.as_slice()),
-        (
-            [(120, 1, 2), (126, 2, 1), (100, 200, 1)].as_slice(),
-            b"abc".as_slice()
-        )
-    );
-    Ok(())
+fn blobs_and_points_are_taken_back(rt: HostRuntime) {
+    let told: Told = (&[(120, 1, 2), (126, 2, 1), (100, 200, 1)], b"abc");
+    same(&rt, tell_events_and_a_point(rt.alloc(), told), Ok(true));
 }
 
 // One item, at the place 1.
@@ -217,67 +197,72 @@ fn blob_refusal(
 
 // Sizes of the header that are too small and too great, and flags without compression. Then a cut header, a varuint that is
 // too wide, the metadata id 0, a payload past the end, and a second blob that is cut. Last a payload that defines nothing.
+const BLOBS: &[(BlockKind, (u8, u8), &[u8], BodyFault)] = &[
+    (EVENT, (0x13, 1), &[], BodyFault::BadBlock { at: 0 }),
+    (EVENT, (0x15, 1), &[], BodyFault::BadBlock { at: 0 }),
+    (EVENT, (0x14, 2), &[], BodyFault::Uncompressed { at: 2 }),
+    (EVENT, (0x14, 1), &[1], BodyFault::BadHead { at: 20 }),
+    (
+        EVENT,
+        (0x14, 1),
+        &[1, 0xff, 0xff, 0xff, 0xff, 0x1f, 0],
+        BodyFault::BadHead { at: 20 },
+    ),
+    (EVENT, (0x14, 1), &[0, 0], BodyFault::BadHead { at: 20 }),
+    (
+        EVENT,
+        (0x14, 1),
+        &[0x81, 1, 0, 5],
+        BodyFault::BadHead { at: 20 },
+    ),
+    (
+        EVENT,
+        (0x14, 1),
+        &[1, 1, 0, 1],
+        BodyFault::BadHead { at: 23 },
+    ),
+    (
+        BlockKind::Metadata,
+        (0x14, 1),
+        &[0x80, 0, 0],
+        BodyFault::BadMeta { at: 23 },
+    ),
+];
+
+const EVENT: BlockKind = BlockKind::Event;
+
 #[test]
-fn bodies_of_blobs_are_refused_at_their_places(rt: HostRuntime) -> Result<(), Fail> {
-    let event = BlockKind::Event;
-    let table: [(BlockKind, (u8, u8), &[u8], BodyFault); 9] = [
-        (event, (0x13, 1), &[], BodyFault::BadBlock { at: 0 }),
-        (event, (0x15, 1), &[], BodyFault::BadBlock { at: 0 }),
-        (event, (0x14, 2), &[], BodyFault::Uncompressed { at: 2 }),
-        (event, (0x14, 1), &[1], BodyFault::BadHead { at: 20 }),
-        (
-            event,
-            (0x14, 1),
-            &[1, 0xff, 0xff, 0xff, 0xff, 0x1f, 0],
-            BodyFault::BadHead { at: 20 },
-        ),
-        (event, (0x14, 1), &[0, 0], BodyFault::BadHead { at: 20 }),
-        (
-            event,
-            (0x14, 1),
-            &[0x81, 1, 0, 5],
-            BodyFault::BadHead { at: 20 },
-        ),
-        (
-            event,
-            (0x14, 1),
-            &[1, 1, 0, 1],
-            BodyFault::BadHead { at: 23 },
-        ),
-        (
-            BlockKind::Metadata,
-            (0x14, 1),
-            &[0x80, 0, 0],
-            BodyFault::BadMeta { at: 23 },
-        ),
-    ];
-    for (kind, header, blobs, fault) in table {
-        let refused = blob_refusal(rt.alloc(), kind, header, blobs)?;
-        assert_eq!(rt; refused, (Some(fault), Some(1)), "{blobs:?}");
+fn bodies_of_blobs_are_refused_at_their_places(rt: HostRuntime) {
+    for row in BLOBS {
+        let refused = blob_refusal(rt.alloc(), row.0, row.1, row.2);
+        same(&rt, (row.2, refused), (row.2, Ok((Some(row.3), Some(1)))));
     }
-    Ok(())
 }
 
 // A cut header of blobs; then stacks and threads that are cut, too many, or not the whole body.
+const CUTS: &[(BlockKind, &[u8])] = &[
+    (BlockKind::Event, &[0x14, 0, 1]),
+    (BlockKind::Stack, &[1, 0, 0, 0, 0, 0, 0]),
+    (BlockKind::Stack, &[0, 0, 0, 0x80, 0, 0, 0, 0]),
+    (BlockKind::Stack, &[1, 0, 0, 0, 0, 0, 0, 0x80]),
+    (BlockKind::Stack, &[1, 0, 0, 0, 1, 0, 0, 0, 2, 0, 0, 0, 9]),
+    (
+        BlockKind::Stack,
+        &[1, 0, 0, 0, 1, 0, 0, 0, 1, 0, 0, 0, 9, 9],
+    ),
+    (BlockKind::Point, &[1, 0, 0, 0, 0, 0, 0, 0, 0, 0, 0]),
+    (BlockKind::Point, &[1, 0, 0, 0, 0, 0, 0, 0, 1, 0, 0, 0, 1]),
+    (BlockKind::Point, &[1, 0, 0, 0, 0, 0, 0, 0, 0, 0, 0, 0, 1]),
+];
+
 #[test]
-fn headers_and_stacks_and_threads_end_with_their_body(rt: HostRuntime) -> Result<(), Fail> {
-    let bodies: [(BlockKind, &[u8]); 9] = [
-        (BlockKind::Event, &[0x14, 0, 1]),
-        (BlockKind::Stack, &[1, 0, 0, 0, 0, 0, 0]),
-        (BlockKind::Stack, &[0, 0, 0, 0x80, 0, 0, 0, 0]),
-        (BlockKind::Stack, &[1, 0, 0, 0, 0, 0, 0, 0x80]),
-        (BlockKind::Stack, &[1, 0, 0, 0, 1, 0, 0, 0, 2, 0, 0, 0, 9]),
-        (
-            BlockKind::Stack,
-            &[1, 0, 0, 0, 1, 0, 0, 0, 1, 0, 0, 0, 9, 9],
-        ),
-        (BlockKind::Point, &[1, 0, 0, 0, 0, 0, 0, 0, 0, 0, 0]),
-        (BlockKind::Point, &[1, 0, 0, 0, 0, 0, 0, 0, 1, 0, 0, 0, 1]),
-        (BlockKind::Point, &[1, 0, 0, 0, 0, 0, 0, 0, 0, 0, 0, 0, 1]),
-    ];
-    let want = (Some(BodyFault::BadBlock { at: 0 }), Some(1));
-    for (kind, body) in bodies {
-        assert_eq!(rt; refusal(rt.alloc(), kind, body)?, want, "{body:?}");
+fn headers_and_stacks_and_threads_end_with_their_body(rt: HostRuntime) {
+    let want = Ok((Some(BodyFault::BadBlock { at: 0 }), Some(1)));
+    for row in CUTS {
+        same(
+            &rt,
+            (row.1, refusal(rt.alloc(), row.0, row.1)),
+            (row.1, want),
+        );
     }
-    Ok(())
 }

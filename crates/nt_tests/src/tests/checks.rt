@@ -1,8 +1,19 @@
 //! Items that stand in order or not, and the numbers of threads.
 
+use crate::tests::same;
 use ep_defs::{EventDef, ItemKind, Items};
 use nt_check::{CheckFault, CheckKind, Checker, Numbers};
 use std::alloc::{AllocError, Global};
+
+// An item: the definition with this id; an event of a definition, with a stack, a capture thread and a number; a stack; or a
+// point that names threads with their numbers.
+#[derive(Clone, Copy)]
+enum Step {
+    Meta(u32),
+    Event(u32, u32, u64, u32),
+    Stack(u32),
+    Point(&'static [(u64, u32)]),
+}
 
 fn meta(alloc: Global, id: u32) -> ItemKind {
     ItemKind::Meta {
@@ -34,77 +45,81 @@ fn event(alloc: Global, metadata: u32, stack: u32, capture: u64, number: u32) ->
     }
 }
 
-fn stack(alloc: Global, id: u32) -> ItemKind {
-    ItemKind::Stack {
-        id,
-        bytes: Items::new(Vec::new(alloc)),
-    }
-}
-
-fn point(alloc: Global, threads: &[(u64, u32)]) -> Result<ItemKind, AllocError> {
-    let threads = threads.to_vec(alloc)?;
-    Ok(ItemKind::Point {
-        stamp: 0,
-        threads: Items::new(threads),
+fn kind_of(alloc: Global, step: Step) -> Result<ItemKind, AllocError> {
+    Ok(match step {
+        Step::Meta(id) => meta(alloc, id),
+        Step::Event(metadata, stack, capture, number) => {
+            event(alloc, metadata, stack, capture, number)
+        }
+        Step::Stack(id) => ItemKind::Stack {
+            id,
+            bytes: Items::new(Vec::new(alloc)),
+        },
+        Step::Point(threads) => ItemKind::Point {
+            stamp: 0,
+            threads: Items::new(threads.to_vec(alloc)?),
+        },
     })
 }
 
-// What a checker answers to these items one after another.
-fn answers(
+// What a checker answers to this item.
+fn answer(
     alloc: Global,
     checker: &mut Checker,
-    kinds: &[ItemKind],
-) -> Result<Vec<Result<(), CheckFault>>, AllocError> {
-    let mut answers = Vec::new(alloc);
-    for kind in kinds {
-        answers.push(checker.item(kind))?;
-    }
-    Ok(answers)
+    step: Step,
+) -> Result<Result<(), CheckFault>, AllocError> {
+    let kind = kind_of(alloc, step)?;
+    Ok(checker.item(&kind))
 }
 
 fn bad(kind: CheckKind) -> Result<(), CheckFault> {
     Err(CheckFault::Bad(kind))
 }
 
+// Items one after another, and what is bad about each, if anything.
+const STEPS: &[(Step, Option<CheckKind>)] = &[
+    (
+        Step::Event(1, 0, 1, 1),
+        Some(CheckKind::UnknownMetadata { id: 1 }),
+    ),
+    (Step::Meta(1), None),
+    (Step::Meta(1), Some(CheckKind::MetadataTwice { id: 1 })),
+    (
+        Step::Event(1, 1, 1, 1),
+        Some(CheckKind::UnknownStack { id: 1 }),
+    ),
+    (Step::Stack(1), None),
+    (Step::Stack(1), Some(CheckKind::StackTwice { id: 1 })),
+    (Step::Event(1, 1, 1, 1), None),
+    (Step::Point(&[]), None),
+    (
+        Step::Event(1, 1, 1, 2),
+        Some(CheckKind::UnknownStack { id: 1 }),
+    ),
+    (Step::Stack(1), None),
+    (
+        Step::Event(2, 7, 1, 2),
+        Some(CheckKind::UnknownMetadata { id: 2 }),
+    ),
+];
+
 #[test]
-fn ids_are_defined_before_their_use_and_once(rt: HostRuntime) -> Result<(), AllocError> {
+fn ids_are_defined_before_their_use_and_once(rt: HostRuntime) {
     let mut checker = Checker::new(rt.alloc());
-    let kinds = [
-        event(rt.alloc(), 1, 0, 1, 1),
-        meta(rt.alloc(), 1),
-        meta(rt.alloc(), 1),
-        event(rt.alloc(), 1, 1, 1, 1),
-        stack(rt.alloc(), 1),
-        stack(rt.alloc(), 1),
-        event(rt.alloc(), 1, 1, 1, 1),
-        point(rt.alloc(), &[])?,
-        event(rt.alloc(), 1, 1, 1, 2),
-        stack(rt.alloc(), 1),
-        event(rt.alloc(), 2, 7, 1, 2),
-    ];
-    let answers = answers(rt.alloc(), &mut checker, &kinds)?;
-    let expected = [
-        bad(CheckKind::UnknownMetadata { id: 1 }),
-        Ok(()),
-        bad(CheckKind::MetadataTwice { id: 1 }),
-        bad(CheckKind::UnknownStack { id: 1 }),
-        Ok(()),
-        bad(CheckKind::StackTwice { id: 1 }),
-        Ok(()),
-        Ok(()),
-        bad(CheckKind::UnknownStack { id: 1 }),
-        Ok(()),
-        bad(CheckKind::UnknownMetadata { id: 2 }),
-    ];
-    assert_eq!(rt; answers.as_slice(), expected.as_slice());
-    Ok(())
+    for row in STEPS {
+        same(
+            &rt,
+            answer(rt.alloc(), &mut checker, row.0),
+            Ok(row.1.map_or(Ok(()), bad)),
+        );
+    }
 }
 
 // The numbers of threads 1, 2 and 9 once a checker has met these items, if it found each in order.
-fn numbers(alloc: Global, kinds: &[ItemKind]) -> [Option<Numbers>; 3] {
+fn numbers(alloc: Global, steps: &[Step]) -> [Option<Numbers>; 3] {
     let mut checker = Checker::new(alloc);
-    for kind in kinds {
-        if checker.item(kind).is_err() {
+    for step in steps {
+        if answer(alloc, &mut checker, *step) != Ok(Ok(())) {
             return [None; 3];
         }
     }
@@ -113,13 +128,13 @@ fn numbers(alloc: Global, kinds: &[ItemKind]) -> [Option<Numbers>; 3] {
 
 // A number that goes back from 5 to 1 leaves out 2 ^ 32 - 5, and a point that knows of 3 one more, after 1 and 2.
 #[test]
-fn gaps_are_counted_modulo_2_to_the_32(rt: HostRuntime) -> Result<(), AllocError> {
-    let kinds = [
-        meta(rt.alloc(), 1),
-        event(rt.alloc(), 1, 0, 1, 5),
-        event(rt.alloc(), 1, 0, 1, 1),
-        event(rt.alloc(), 1, 0, 1, 2),
-        point(rt.alloc(), &[(1, 3), (2, 0)])?,
+fn gaps_are_counted_modulo_2_to_the_32(rt: HostRuntime) {
+    let steps = [
+        Step::Meta(1),
+        Step::Event(1, 0, 1, 5),
+        Step::Event(1, 0, 1, 1),
+        Step::Event(1, 0, 1, 2),
+        Step::Point(&[(1, 3), (2, 0)]),
     ];
     let first = Numbers {
         events: 3,
@@ -131,9 +146,6 @@ fn gaps_are_counted_modulo_2_to_the_32(rt: HostRuntime) -> Result<(), AllocError
         last: 0,
         gaps: 0,
     };
-    assert_eq!(rt;
-        numbers(rt.alloc(), &kinds),
-        [Some(first), Some(second), None]
-    );
-    Ok(())
+    let wanted = [Some(first), Some(second), None];
+    same(&rt, numbers(rt.alloc(), &steps), wanted);
 }

@@ -1,5 +1,6 @@
 //! Compressed headers, both ways.
 
+use crate::tests::same;
 use nt_head::{HeadState, TakenHead, put_head, take_head};
 use std::alloc::{AllocError, Global};
 
@@ -20,40 +21,36 @@ fn event(thread: u64, number: u32, stamp: u64) -> HeadState {
     }
 }
 
-// A header as it is put behind the previous one, its bytes by what the call said, and what is taken of it.
+// Whether a header is put as these bytes behind the previous one, their number by what the call said, and what is taken of it.
 fn both_ways(
     alloc: Global,
     previous: &HeadState,
     now: &HeadState,
-) -> Result<(Vec<u8>, usize, TakenHead), AllocError> {
+    bytes: &[u8],
+) -> Result<(bool, usize, TakenHead), AllocError> {
     let mut out = Vec::new(alloc);
     if now.metadata == 0 {
         return Err(AllocError);
     }
     let used = put_head(&mut out, previous, now)?;
     let taken = take_head(out.as_slice(), previous);
-    Ok((out, used, taken))
+    Ok((out.as_slice() == bytes, used, taken))
 }
 
-// A header whose bytes are these.
-fn read_back(
-    alloc: Global,
-    bytes: &[u8],
-    state: HeadState,
-) -> Result<(Vec<u8>, usize, TakenHead), AllocError> {
+// A header that is put as these bytes, and taken of them.
+fn read_back(state: HeadState, bytes: &[u8]) -> (bool, usize, TakenHead) {
     let used = bytes.len();
-    Ok((bytes.to_vec(alloc)?, used, TakenHead::Head { state, used }))
+    (true, used, TakenHead::Head { state, used })
 }
 
-#[test]
-fn headers_are_put_and_taken(rt: HostRuntime) -> Result<(), AllocError> {
+// A header behind another, and its bytes. The fourth is that of the first event of another thread in a block.
+fn headers() -> [(HeadState, HeadState, &'static [u8]); 5] {
     let mut named = event(1, 1, 5);
     named.activity = [5; 16];
-    let table: [(HeadState, HeadState, &[u8]); 5] = [
+    [
         (HeadState::zero(), event(1, 1, 10), &[7, 1, 0, 1, 0, 1, 10]),
         (event(1, 1, 10), event(1, 2, 11), &[0, 1]),
         (event(1, 1, 10), event(1, 3, 12), &[2, 1, 1, 0, 2]),
-        // the first event of another thread in a block
         (
             event(1, 5, 50),
             event(2, 1, 56),
@@ -67,16 +64,19 @@ fn headers_are_put_and_taken(rt: HostRuntime) -> Result<(), AllocError> {
                 5, 5, 5,
             ],
         ),
-    ];
-    for (previous, now, bytes) in table {
-        let wanted = read_back(rt.alloc(), bytes, now)?;
-        assert_eq!(rt; both_ways(rt.alloc(), &previous, &now)?, wanted);
-    }
-    Ok(())
+    ]
 }
 
 #[test]
-fn a_header_with_all_fields_is_taken_as_it_was_put(rt: HostRuntime) -> Result<(), AllocError> {
+fn headers_are_put_and_taken(rt: HostRuntime) {
+    for (previous, now, bytes) in headers() {
+        let told = both_ways(rt.alloc(), &previous, &now, bytes);
+        same(&rt, told, Ok(read_back(now, bytes)));
+    }
+}
+
+// A header that differs from zero in each field.
+fn full() -> HeadState {
     let mut all = event(2, 7, 9);
     all.processor = 3;
     all.stack = 300;
@@ -84,21 +84,34 @@ fn a_header_with_all_fields_is_taken_as_it_was_put(rt: HostRuntime) -> Result<()
     all.related = [6; 16];
     all.sorted = true;
     all.size = 60_000;
-    let (_, used, taken) = both_ways(rt.alloc(), &HeadState::zero(), &all)?;
-    assert_eq!(rt; taken, TakenHead::Head { state: all, used });
-    Ok(())
+    all
+}
+
+// Whether what is taken of a header as it was put is the header, and its bytes by what that call said.
+fn is_taken(alloc: Global, now: &HeadState) -> Result<bool, AllocError> {
+    let (_, used, taken) = both_ways(alloc, &HeadState::zero(), now, &[])?;
+    Ok(taken == TakenHead::Head { state: *now, used })
 }
 
 #[test]
+fn a_header_with_all_fields_is_taken_as_it_was_put(rt: HostRuntime) {
+    same(&rt, is_taken(rt.alloc(), &full()), Ok(true));
+}
+
+// Bytes that are cut or too wide, and what is taken of them.
+const REFUSED: &[(&[u8], TakenHead)] = &[
+    (&[], TakenHead::Short),
+    (&[16, 1, 0], TakenHead::Short),
+    (
+        &[1, 0x80, 0x80, 0x80, 0x80, 0x10],
+        TakenHead::BadVar { at: 1 },
+    ),
+    (&[1, 0x80, 0x80, 0x80, 0x80], TakenHead::Short),
+];
+
+#[test]
 fn headers_are_refused_where_they_are_cut_or_too_wide(rt: HostRuntime) {
-    let wide = [1, 0x80, 0x80, 0x80, 0x80, 0x10];
-    let cases: [(&[u8], TakenHead); 4] = [
-        (&[], TakenHead::Short),
-        (&[16, 1, 0], TakenHead::Short),
-        (&wide, TakenHead::BadVar { at: 1 }),
-        (&wide[..5], TakenHead::Short),
-    ];
-    for (bytes, wanted) in cases {
-        assert_eq!(rt; take_head(bytes, &HeadState::zero()), wanted);
+    for row in REFUSED {
+        same(&rt, take_head(row.0, &HeadState::zero()), row.1);
     }
 }

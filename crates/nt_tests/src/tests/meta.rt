@@ -1,7 +1,7 @@
+use crate::tests::{same, same_bytes};
 use ep_defs::{EventDef, FieldDef, FieldList, Units};
 use nt_meta::{TakenMeta, put_meta, take_meta};
 use std::alloc::{AllocError, Global};
-use std::test::Fail;
 
 // An object a with a number b and an object c, which has a text d; and a number e.
 const NESTED: [u8; 84] = [
@@ -24,11 +24,15 @@ fn letter(alloc: Global, unit: u16) -> Result<Units, AllocError> {
     Ok(Units::new([unit].to_vec(alloc)?))
 }
 
+fn field(alloc: Global, depth: u32, code: u8, unit: u16) -> Result<FieldDef, AllocError> {
+    let name = letter(alloc, unit)?;
+    Ok(FieldDef { depth, code, name })
+}
+
 fn fields(alloc: Global) -> Result<FieldList, AllocError> {
     let mut fields = Vec::new(alloc);
     for (depth, code, unit) in FIELDS {
-        let name = letter(alloc, unit)?;
-        fields.push(FieldDef { depth, code, name })?;
+        fields.push(field(alloc, depth, code, unit)?)?;
     }
     Ok(FieldList::new(fields))
 }
@@ -114,51 +118,55 @@ fn are_refused(alloc: Global, count: u32) -> Result<bool, AllocError> {
 }
 
 #[test]
-fn nested_fields_stand_before_the_name_of_their_object(rt: HostRuntime) -> Result<(), Fail> {
-    let bytes = payload(rt.alloc())?;
-    assert_eq!(rt; bytes.as_slice(), NESTED.as_slice());
-    Ok(())
+fn nested_fields_stand_before_the_name_of_their_object(rt: HostRuntime) {
+    same_bytes(&rt, payload(rt.alloc()), &NESTED);
 }
 
-// The payload, and the payload with twelve zeros behind it.
-#[test]
-fn bytes_after_the_fields_are_passed_over(rt: HostRuntime) -> Result<(), Fail> {
-    let mut longer = [0; 96];
-    longer[..84].copy_from_slice(&NESTED);
-    let payloads: [&[u8]; 2] = [&NESTED, &longer];
-    for bytes in payloads {
-        assert!(rt; defines(rt.alloc(), bytes)?, "{bytes:?}");
-    }
-    Ok(())
+// Whether the payload defines the event with zeros behind it, this many bytes in all.
+fn defines_with_zeros(alloc: Global, len: usize) -> Result<bool, AllocError> {
+    let mut bytes = NESTED.to_vec(alloc)?;
+    bytes.resize(len, 0)?;
+    defines(alloc, &bytes)
 }
 
 #[test]
-fn a_payload_that_is_cut_is_refused(rt: HostRuntime) -> Result<(), Fail> {
-    for len in 0..84 {
-        assert!(rt;
-            is_refused(rt.alloc(), &NESTED[..len])?,
-            "cut after {len} bytes"
+fn bytes_after_the_fields_are_passed_over(rt: HostRuntime) {
+    for len in [84, 96] {
+        same(
+            &rt,
+            (len, defines_with_zeros(rt.alloc(), len)),
+            (len, Ok(true)),
         );
     }
-    Ok(())
+}
+
+#[test]
+fn a_payload_that_is_cut_is_refused(rt: HostRuntime) {
+    for len in 0..84 {
+        same(
+            &rt,
+            (len, is_refused(rt.alloc(), &NESTED[..len])),
+            (len, Ok(true)),
+        );
+    }
 }
 
 // The id 0 and the id 2^31 + 7, the type codes 0, 2 and 19, and one above 255.
 #[test]
-fn what_may_not_stand_in_a_payload_is_refused(rt: HostRuntime) -> Result<(), Fail> {
+fn what_may_not_stand_in_a_payload_is_refused(rt: HostRuntime) {
     for (place, byte) in [(0, 0), (3, 128), (36, 0), (36, 2), (36, 19), (37, 1)] {
-        assert!(rt;
-            is_refused_with(rt.alloc(), place, byte)?,
-            "{byte} at {place}"
-        );
+        let refused = is_refused_with(rt.alloc(), place, byte);
+        same(&rt, (place, byte, refused), (place, byte, Ok(true)));
     }
-    Ok(())
 }
 
 #[test]
-fn fields_stand_inside_of_32_objects_at_most(rt: HostRuntime) -> Result<(), Fail> {
+fn fields_stand_inside_of_32_objects_at_most(rt: HostRuntime) {
     for (count, want) in [(33, false), (34, true)] {
-        assert_eq!(rt; are_refused(rt.alloc(), count)?, want, "{count} objects");
+        same(
+            &rt,
+            (count, are_refused(rt.alloc(), count)),
+            (count, Ok(want)),
+        );
     }
-    Ok(())
 }

@@ -1,7 +1,7 @@
+use crate::tests::{same, same_bytes};
 use ep_defs::standard_info;
 use nt_object::{BlockKind, ObjectHead, ObjectKind, padding, put_block, put_start, take_head};
 use std::alloc::{AllocError, Global};
-use std::test::Fail;
 
 // The start of a stream of process 1 on one processor: 32 bytes, and the Trace object.
 const START: [u8; 102] =
@@ -24,71 +24,66 @@ fn point_block(alloc: Global) -> Result<Vec<u8>, AllocError> {
 }
 
 #[test]
-fn a_stream_starts_with_102_bytes(rt: HostRuntime) -> Result<(), Fail> {
-    let bytes = start(rt.alloc())?;
-    assert_eq!(rt; bytes.as_slice(), START.as_slice());
-    Ok(())
+fn a_stream_starts_with_102_bytes(rt: HostRuntime) {
+    same_bytes(&rt, start(rt.alloc()), &START);
 }
 
 #[test]
-fn a_block_is_padded_at_its_offset(rt: HostRuntime) -> Result<(), Fail> {
-    let bytes = point_block(rt.alloc())?;
-    assert_eq!(rt; bytes.as_slice(), POINT.as_slice());
-    Ok(())
+fn a_block_is_padded_at_its_offset(rt: HostRuntime) {
+    same_bytes(&rt, point_block(rt.alloc()), &POINT);
 }
 
 #[test]
 fn padding_leads_to_the_next_offset_that_4_divides(rt: HostRuntime) {
-    assert_eq!(rt; [padding(128), padding(129)], [0, 3]);
+    same(&rt, [padding(128), padding(129)], [0, 3]);
 }
 
-// The heads of the Trace object and of a point, and then heads in the order of the parts that are cut or wrong.
+// The head of a point, and then heads in the order of the parts that are cut or wrong.
+const HEADS: &[(&[u8], ObjectHead)] = &[
+    (
+        &POINT,
+        ObjectHead::Head {
+            kind: ObjectKind::Block(BlockKind::Point),
+            used: 23,
+        },
+    ),
+    (b"", ObjectHead::Short),
+    (b"\x01", ObjectHead::BadObject { at: 0 }),
+    (b"\x05\x05\x01", ObjectHead::Short),
+    (
+        b"\x05\x05\x02\x02\0\0\0\x02\0\0\0\x07\0\0\0",
+        ObjectHead::BadObject { at: 1 },
+    ),
+    (
+        b"\x05\x05\x01\x02\0\0\0\x02\0\0\0\x08\0\0\0",
+        ObjectHead::BadObject { at: 1 },
+    ),
+    (
+        b"\x05\x05\x01\x02\0\0\0\x02\0\0\0\x07\0\0\0SPBlock",
+        ObjectHead::Short,
+    ),
+    (
+        b"\x05\x05\x01\x02\0\0\0\x02\0\0\0\x07\0\0\0SQBlock\x06",
+        ObjectHead::BadObject { at: 15 },
+    ),
+    (
+        b"\x05\x05\x01\x03\0\0\0\x02\0\0\0\x07\0\0\0SPBlock\x06",
+        ObjectHead::BadVersion { at: 3 },
+    ),
+    (
+        b"\x05\x05\x01\x02\0\0\0\x03\0\0\0\x07\0\0\0SPBlock\x06",
+        ObjectHead::BadVersion { at: 7 },
+    ),
+];
+
 #[test]
 fn heads_are_told_in_the_order_of_their_parts(rt: HostRuntime) {
-    let table: [(&[u8], ObjectHead); 11] = [
-        (
-            &START[32..],
-            ObjectHead::Head {
-                kind: ObjectKind::Trace,
-                used: 21,
-            },
-        ),
-        (
-            &POINT,
-            ObjectHead::Head {
-                kind: ObjectKind::Block(BlockKind::Point),
-                used: 23,
-            },
-        ),
-        (b"", ObjectHead::Short),
-        (b"\x01", ObjectHead::BadObject { at: 0 }),
-        (b"\x05\x05\x01", ObjectHead::Short),
-        (
-            b"\x05\x05\x02\x02\0\0\0\x02\0\0\0\x07\0\0\0",
-            ObjectHead::BadObject { at: 1 },
-        ),
-        (
-            b"\x05\x05\x01\x02\0\0\0\x02\0\0\0\x08\0\0\0",
-            ObjectHead::BadObject { at: 1 },
-        ),
-        (
-            b"\x05\x05\x01\x02\0\0\0\x02\0\0\0\x07\0\0\0SPBlock",
-            ObjectHead::Short,
-        ),
-        (
-            b"\x05\x05\x01\x02\0\0\0\x02\0\0\0\x07\0\0\0SQBlock\x06",
-            ObjectHead::BadObject { at: 15 },
-        ),
-        (
-            b"\x05\x05\x01\x03\0\0\0\x02\0\0\0\x07\0\0\0SPBlock\x06",
-            ObjectHead::BadVersion { at: 3 },
-        ),
-        (
-            b"\x05\x05\x01\x02\0\0\0\x03\0\0\0\x07\0\0\0SPBlock\x06",
-            ObjectHead::BadVersion { at: 7 },
-        ),
-    ];
-    for (bytes, want) in table {
-        assert_eq!(rt; take_head(bytes), want);
+    let trace = ObjectHead::Head {
+        kind: ObjectKind::Trace,
+        used: 21,
+    };
+    same(&rt, take_head(&START[32..]), trace);
+    for row in HEADS {
+        same(&rt, take_head(row.0), row.1);
     }
 }

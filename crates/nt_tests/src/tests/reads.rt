@@ -2,6 +2,7 @@
 ghost use Rattle.std.specs.Prelude.{◌+◌, ◌<◌, ◌≤◌, ◌^◌, length};
 ghost use Rattle.nt_read.specs.Reading.{used};
 
+use crate::tests::same;
 use ep_defs::{Item, ItemKind};
 use nt_read::{ReadFault, ReadKind, TraceReader};
 use std::alloc::Global;
@@ -70,7 +71,7 @@ fn both(alloc: Global, bytes: &[u8]) -> [Result<(), ReadFault>; 2]
 fn a_part_is_truncated_at_its_end(rt: HostRuntime) {
     for n in 0..BYTES {
         let truncated = bad(n as u64, ReadKind::Truncated);
-        assert_eq!(rt; both(rt.alloc(), &STREAM[..n]), [truncated; 2]);
+        same(&rt, both(rt.alloc(), &STREAM[..n]), [truncated; 2]);
     }
 }
 
@@ -78,7 +79,11 @@ fn a_part_is_truncated_at_its_end(rt: HostRuntime) {
 fn cuts_change_nothing(rt: HostRuntime) {
     for seed in 0..500 {
         let most = 1 + seed % 100;
-        assert_eq!(rt; answer_cut(rt.alloc(), &STREAM, most, seed), Ok(()));
+        same(
+            &rt,
+            (seed, answer_cut(rt.alloc(), &STREAM, most, seed)),
+            (seed, Ok(())),
+        );
     }
 }
 
@@ -102,7 +107,7 @@ fn given(alloc: Global, n: usize) -> Result<(usize, usize), ReadFault> {
 #[test]
 fn items_are_given_when_their_object_ends(rt: HostRuntime) {
     for n in 0..=BYTES {
-        assert_eq!(rt; given(rt.alloc(), n), Ok((objects(n), 4)));
+        same(&rt, (n, given(rt.alloc(), n)), (n, Ok((objects(n), 4))));
     }
 }
 
@@ -118,13 +123,20 @@ fn places(alloc: Global) -> Result<[Option<u64>; 5], ReadFault> {
 #[test]
 fn items_stand_at_their_offsets(rt: HostRuntime) {
     let wanted = [Some(53), Some(156), Some(248), Some(284), None];
-    assert_eq!(rt; places(rt.alloc()), Ok(wanted));
+    same(&rt, places(rt.alloc()), Ok(wanted));
+}
+
+// The stream with another byte in this place.
+fn with(place: usize, byte: u8) -> [u8; BYTES] {
+    let mut bytes = STREAM;
+    if place < BYTES {
+        bytes[place] = byte;
+    }
+    bytes
 }
 
 // The metadata id of the event in these bytes, or 0 where there is none.
-fn event_id(alloc: Global, bytes: &[u8]) -> u32
-    requires { length bytes.now < 2 ^ 32 }
-{
+fn event_id(alloc: Global, bytes: &[u8; BYTES]) -> u32 {
     let mut items = Vec::new(alloc);
     if TraceReader::new(alloc).feed(bytes, &mut items).is_err() {
         return 0;
@@ -142,15 +154,13 @@ fn event_id(alloc: Global, bytes: &[u8]) -> u32
 
 #[test]
 fn an_event_of_no_definition_is_read(rt: HostRuntime) {
-    let mut bytes = STREAM;
-    bytes[249] = 5;
-    assert_eq!(rt; event_id(rt.alloc(), &bytes), 5);
+    same(&rt, event_id(rt.alloc(), &with(249, 5)), 5);
 }
 
 // A place of the stream, another byte there, and where and why the stream is refused then.
 type Change = (usize, u8, u64, ReadKind);
 
-const WRONG_HEADS: [Change; 8] = [
+const WRONG_HEADS: &[Change] = &[
     (0, 0, 0, ReadKind::BadMagic),
     (32, 6, 32, ReadKind::BadObject),
     (32, 1, 32, ReadKind::BadObject),
@@ -161,7 +171,7 @@ const WRONG_HEADS: [Change; 8] = [
     (47, 88, 47, ReadKind::BadObject),
 ];
 
-const WRONG_BODIES: [Change; 8] = [
+const WRONG_BODIES: &[Change] = &[
     (134, 1, 131, ReadKind::TooLarge { size: 16_777_275 }),
     (136, 19, 136, ReadKind::BadBlock),
     (138, 0, 138, ReadKind::Uncompressed),
@@ -172,7 +182,7 @@ const WRONG_BODIES: [Change; 8] = [
     (292, 2, 284, ReadKind::BadBlock),
 ];
 
-const WRONG_ENDS: [Change; 3] = [
+const WRONG_ENDS: &[Change] = &[
     (101, 0, 101, ReadKind::BadObject),
     (308, 5, 308, ReadKind::BadObject),
     (309, 2, 309, ReadKind::BadObject),
@@ -180,41 +190,53 @@ const WRONG_ENDS: [Change; 3] = [
 
 // The answers to the stream with another byte in this place.
 fn changed(alloc: Global, place: usize, byte: u8) -> [Result<(), ReadFault>; 2] {
-    let mut bytes = STREAM;
-    if place < BYTES {
-        bytes[place] = byte;
-    }
-    both(alloc, &bytes)
+    both(alloc, &with(place, byte))
 }
 
 #[test]
 fn wrong_heads_are_refused_where_they_stand(rt: HostRuntime) {
-    for (place, byte, at, kind) in WRONG_HEADS {
-        assert_eq!(rt; changed(rt.alloc(), place, byte), [bad(at, kind); 2]);
+    for row in WRONG_HEADS {
+        same(
+            &rt,
+            changed(rt.alloc(), row.0, row.1),
+            [bad(row.2, row.3); 2],
+        );
     }
 }
 
 #[test]
 fn wrong_bodies_are_refused_where_they_stand(rt: HostRuntime) {
-    for (place, byte, at, kind) in WRONG_BODIES {
-        assert_eq!(rt; changed(rt.alloc(), place, byte), [bad(at, kind); 2]);
+    for row in WRONG_BODIES {
+        same(
+            &rt,
+            changed(rt.alloc(), row.0, row.1),
+            [bad(row.2, row.3); 2],
+        );
     }
 }
 
 #[test]
 fn wrong_ends_are_refused_where_they_stand(rt: HostRuntime) {
-    for (place, byte, at, kind) in WRONG_ENDS {
-        assert_eq!(rt; changed(rt.alloc(), place, byte), [bad(at, kind); 2]);
+    for row in WRONG_ENDS {
+        same(
+            &rt,
+            changed(rt.alloc(), row.0, row.1),
+            [bad(row.2, row.3); 2],
+        );
     }
+}
+
+// The answers to the stream with a byte behind its end.
+fn longer(alloc: Global) -> [Result<(), ReadFault>; 2] {
+    let mut longer = [7; 311];
+    longer[..BYTES].copy_from_slice(&STREAM);
+    both(alloc, &longer)
 }
 
 #[test]
 fn a_byte_of_padding_may_be_any_and_a_byte_after_the_end_none(rt: HostRuntime) {
-    let mut longer = [7; 311];
-    longer[..BYTES].copy_from_slice(&STREAM);
-    let refused = bad(310, ReadKind::BadObject);
-    let answers = (changed(rt.alloc(), 135, 255), both(rt.alloc(), &longer));
-    assert_eq!(rt; answers, ([Ok(()); 2], [refused; 2]));
+    same(&rt, changed(rt.alloc(), 135, 255), [Ok(()); 2]);
+    same(&rt, longer(rt.alloc()), [bad(310, ReadKind::BadObject); 2]);
 }
 
 // The answers to a stream that has its start twice: to the second one, to the rest, and at the end; and how many items it told.
@@ -230,5 +252,5 @@ fn refused(alloc: Global) -> Result<([Result<(), ReadFault>; 3], usize), ReadFau
 #[test]
 fn a_refusal_stays(rt: HostRuntime) {
     let wanted = [bad(102, ReadKind::BadObject); 3];
-    assert_eq!(rt; refused(rt.alloc()), Ok((wanted, 1)));
+    same(&rt, refused(rt.alloc()), Ok((wanted, 1)));
 }

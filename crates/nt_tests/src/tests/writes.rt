@@ -2,6 +2,7 @@
 ghost use Rattle.std.specs.Prelude.{◌≡◌, ◌<◌, ◌≤◌, [], ◌∷◌, length, IsTrue, IfOk};
 ghost use Rattle.ep_defs.specs.Event.{is_valid_event};
 
+use crate::tests::same;
 use ep_defs::{EventDef, Items, Units, standard_info};
 use nt_write::{EventOut, Fault, TraceWriter};
 use pt_io::MemSink;
@@ -123,7 +124,7 @@ fn holds(
 }
 
 #[test]
-fn one_event_takes_310_bytes(rt: HostRuntime) -> Result<(), AllocError> {
+fn one_event_takes_310_bytes(rt: HostRuntime) {
     let calls = [Call::Event(1, 100, 0, 0, 0), Call::Point(1, 200)];
     let pieces = [
         (0, START),
@@ -132,12 +133,15 @@ fn one_event_takes_310_bytes(rt: HostRuntime) -> Result<(), AllocError> {
         (256, POINT),
         (309, END),
     ];
-    assert_eq!(rt; holds(rt.alloc(), &calls, &pieces)?, (310, Ok(()), true));
-    Ok(())
+    same(
+        &rt,
+        holds(rt.alloc(), &calls, &pieces),
+        Ok((310, Ok(()), true)),
+    );
 }
 
 #[test]
-fn a_stack_is_written_again_after_a_point(rt: HostRuntime) -> Result<(), AllocError> {
+fn a_stack_is_written_again_after_a_point(rt: HostRuntime) {
     let calls = [
         framed(1, 1),
         framed(2, 2),
@@ -149,25 +153,25 @@ fn a_stack_is_written_again_after_a_point(rt: HostRuntime) -> Result<(), AllocEr
     let before: &[u8] = b"\x0f\x01\0\x01\0\x01\x01\x01\0\x01\x06";
     let after: &[u8] = b"\x0f\x01\x02\x01\0\x01\x01\x04\x06";
     let pieces = [(228, stack), (300, before), (396, stack), (468, after)];
-    assert_eq!(rt; holds(rt.alloc(), &calls, &pieces)?, (530, Ok(()), true));
-    Ok(())
+    same(
+        &rt,
+        holds(rt.alloc(), &calls, &pieces),
+        Ok((530, Ok(()), true)),
+    );
 }
 
 // How many bytes a sink took of an event and a point that fails at this write, whether they begin the whole stream, and what
 // the end answered.
-fn failing(
-    alloc: Global,
-    whole: &MemSink,
-    fails: u64,
-) -> Result<(usize, bool, Result<(), Fault>), AllocError> {
-    let (sink, ended) = written(alloc, &[framed(1, 100), Call::Point(1, 200)], fails)?;
+fn failing(alloc: Global, fails: u64) -> Result<(usize, bool, Result<(), Fault>), AllocError> {
+    let calls = [framed(1, 100), Call::Point(1, 200)];
+    let (whole, _) = written(alloc, &calls, 0)?;
+    let (sink, ended) = written(alloc, &calls, fails)?;
     let begins = whole.taken().starts_with(sink.taken());
     Ok((sink.taken().len(), begins, ended))
 }
 
 #[test]
-fn a_write_that_fails_leaves_what_was_taken_before(rt: HostRuntime) -> Result<(), AllocError> {
-    let (whole, _) = written(rt.alloc(), &[framed(1, 100), Call::Point(1, 200)], 0)?;
+fn a_write_that_fails_leaves_what_was_taken_before(rt: HostRuntime) {
     let failed = Err(Fault::WriteFault);
     for (call, size, ended) in [
         (0, 362, Ok(())),
@@ -178,33 +182,50 @@ fn a_write_that_fails_leaves_what_was_taken_before(rt: HostRuntime) -> Result<()
         (5, 309, failed),
         (6, 361, failed),
     ] {
-        assert_eq!(rt; failing(rt.alloc(), &whole, call)?, (size, true, ended));
+        same(&rt, failing(rt.alloc(), call), Ok((size, true, ended)));
     }
-    Ok(())
+}
+
+// An event of 60,000 bytes and a second event, of so many bytes, each with this many frames; and how many bytes both take.
+const GREAT: &[(usize, usize, usize)] = &[
+    (42_282, 0, 102_547),
+    (42_283, 0, 102_607),
+    (60_000, 100, 121_169),
+];
+
+// How many bytes are written of two such events, and what the end answered.
+fn great(
+    alloc: Global,
+    size: usize,
+    depth: usize,
+) -> Result<(usize, Result<(), Fault>, bool), AllocError> {
+    let first = Call::Event(1, 1, 60_000, depth, 1);
+    holds(alloc, &[first, Call::Event(2, 2, size, depth, 1)], &[])
 }
 
 #[test]
-fn a_body_takes_102400_bytes_at_most(rt: HostRuntime) -> Result<(), AllocError> {
-    let first = Call::Event(1, 1, 60_000, 0, 0);
-    let deep = Call::Event(1, 1, 60_000, 100, 1);
-    for (calls, size) in [
-        ([first, Call::Event(2, 2, 42_282, 0, 0)], 102_547),
-        ([first, Call::Event(2, 2, 42_283, 0, 0)], 102_607),
-        ([deep, Call::Event(2, 2, 60_000, 100, 1)], 121_169),
-    ] {
-        assert_eq!(rt; holds(rt.alloc(), &calls, &[])?, (size, Ok(()), true));
+fn a_body_takes_102400_bytes_at_most(rt: HostRuntime) {
+    for row in GREAT {
+        same(
+            &rt,
+            great(rt.alloc(), row.0, row.1),
+            Ok((row.2, Ok(()), true)),
+        );
     }
-    Ok(())
 }
 
-#[test]
-fn a_body_of_stacks_is_full_by_its_own_size(rt: HostRuntime) -> Result<(), AllocError> {
-    let mut calls = Vec::new(rt.alloc());
+// How many bytes are written of 128 events with a stack of their own each, what the end answered, and whether the last stack
+// stands in a block of its own.
+fn stacks(alloc: Global) -> Result<(usize, Result<(), Fault>, bool), AllocError> {
+    let mut calls = Vec::new(alloc);
     for i in 1..=128u8 {
         calls.push(Call::Event(u32::from(i), u64::from(i), 0, 100, i))?;
     }
     let last: &[u8] = b"\x80\0\0\0\x01\0\0\0\x20\x03\0\0\x80\x80";
-    let held = holds(rt.alloc(), &calls, &[(102_816, last)])?;
-    assert_eq!(rt; held, (103_692, Ok(()), true));
-    Ok(())
+    holds(alloc, &calls, &[(102_816, last)])
+}
+
+#[test]
+fn a_body_of_stacks_is_full_by_its_own_size(rt: HostRuntime) {
+    same(&rt, stacks(rt.alloc()), Ok((103_692, Ok(()), true)));
 }
