@@ -1,5 +1,8 @@
 //! Records in a chunk, and chunks in a chain.
+ghost use Rattle.std.specs.Prelude.{◌≡◌, IfOk, IsSome, length};
+ghost use Rattle.ep_chunk.specs.Places.{records_at};
 
+use crate::tests::same;
 use ep_chunk::{Chain, Chunk, RecIn};
 use std::alloc::{AllocError, Global};
 
@@ -45,25 +48,17 @@ fn filled(alloc: Global) -> Result<(u32, usize, bool, usize, usize, bool), Alloc
 }
 
 #[test]
-fn a_chunk_holds_963_records_of_68_bytes(rt: HostRuntime) -> Result<(), AllocError> {
-    assert_eq!(rt; filled(rt.alloc())?, (963, 65_484, false, 65_484, 0, true));
-    Ok(())
+fn a_chunk_holds_963_records_of_68_bytes(rt: HostRuntime) {
+    let wanted = (963, 65_484, false, 65_484, 0, true);
+    same(&rt, filled(rt.alloc()), Ok(wanted));
 }
 
-// The numbers of the first of two records that stand in a chunk, the place of the next one, and the chunk's bytes; and all
-// other bytes of the record.
-fn read_back(alloc: Global) -> Result<Option<([u64; 6], Vec<u8>)>, AllocError> {
-    let mut chunk = Chunk::new(alloc)?;
-    let both = [
-        chunk.append(&rec(5, &[0x0102, 3], &[250, 251, 252])),
-        chunk.append(&rec(6, &[], &[])),
-    ];
-    let Some(first) = chunk.at(0) else {
-        return Ok(None);
-    };
-    if both != [true, true] {
-        return Ok(None);
-    }
+// The numbers of the first record of a chunk, the place of the next one, and the chunk's bytes; and whether its activity and the
+// related one, its frames and its payload are those above.
+fn first_of(chunk: &Chunk) -> Option<([u64; 6], [bool; 4])>
+    requires { IsSome (records_at chunk.now 0) }
+{
+    let first = chunk.at(0)?;
     let numbers = [
         u64::from(first.event),
         u64::from(first.number),
@@ -73,23 +68,29 @@ fn read_back(alloc: Global) -> Result<Option<([u64; 6], Vec<u8>)>, AllocError> {
         chunk.used() as u64,
     ];
     let rest = [
-        first.activity.as_slice(),
-        first.related.as_slice(),
-        first.frames,
-        first.payload,
+        first.activity.as_slice() == &READ[..16],
+        first.related.as_slice() == &READ[16..32],
+        first.frames == &READ[32..48],
+        first.payload == &READ[48..],
     ];
-    let mut bytes = Vec::new(alloc);
-    for part in rest {
-        bytes.extend_from_slice(part)?;
+    Some((numbers, rest))
+}
+
+// The same of the first of two records, if a chunk takes both.
+fn read_back(alloc: Global) -> Result<Option<([u64; 6], [bool; 4])>, AllocError> {
+    let mut chunk = Chunk::new(alloc)?;
+    let one = chunk.append(&rec(5, &[0x0102, 3], &[250, 251, 252]));
+    let other = chunk.append(&rec(6, &[], &[]));
+    if !one || !other {
+        return Ok(None);
     }
-    Ok(Some((numbers, bytes)))
+    Ok(first_of(&chunk))
 }
 
 #[test]
-fn a_record_is_read_back(rt: HostRuntime) -> Result<(), AllocError> {
-    let wanted = ([7, 5, 9, 11, 87, 155], READ.to_vec(rt.alloc())?);
-    assert_eq!(rt; read_back(rt.alloc())?, Some(wanted));
-    Ok(())
+fn a_record_is_read_back(rt: HostRuntime) {
+    let wanted = ([7, 5, 9, 11, 87, 155], [true; 4]);
+    same(&rt, read_back(rt.alloc()), Ok(Some(wanted)));
 }
 
 // Whether a chunk takes the greatest record, its bytes then, and whether it takes a second one.
@@ -104,18 +105,24 @@ fn greatest(alloc: Global) -> Result<(bool, usize, bool), AllocError> {
 }
 
 #[test]
-fn the_greatest_record_takes_60_868_bytes(rt: HostRuntime) -> Result<(), AllocError> {
-    assert_eq!(rt; greatest(rt.alloc())?, (true, 60_868, false));
-    Ok(())
+fn the_greatest_record_takes_60_868_bytes(rt: HostRuntime) {
+    same(&rt, greatest(rt.alloc()), Ok((true, 60_868, false)));
+}
+
+fn one_chunk(alloc: Global) -> Result<Chain, AllocError>
+    ensures { IfOk result (λ chain. length chain ≡ 1) }
+{
+    match Chain::one(alloc, Chunk::new(alloc)?) {
+        Ok(chain) => Ok(chain),
+        Err(_) => Err(AllocError),
+    }
 }
 
 // A chain of so many chunks, if it grew by one each time.
 fn joined(alloc: Global) -> Result<Chain, AllocError> {
     let mut chain = Chain::empty(alloc);
     for place in 0..CHUNKS {
-        let Ok(one) = Chain::one(alloc, Chunk::new(alloc)?) else {
-            return Err(AllocError);
-        };
+        let one = one_chunk(alloc)?;
         if chain.count() != place {
             return Err(AllocError);
         }
@@ -160,7 +167,10 @@ fn chained(alloc: Global) -> Result<(bool, u32, u32, bool, u32), AllocError> {
 }
 
 #[test]
-fn a_chain_of_4_096_chunks_is_joined_and_split(rt: HostRuntime) -> Result<(), AllocError> {
-    assert_eq!(rt; chained(rt.alloc())?, (true, 0, CHUNKS, true, CHUNKS));
-    Ok(())
+fn a_chain_of_4_096_chunks_is_joined_and_split(rt: HostRuntime) {
+    same(
+        &rt,
+        chained(rt.alloc()),
+        Ok((true, 0, CHUNKS, true, CHUNKS)),
+    );
 }

@@ -2,49 +2,41 @@
 ghost use Rattle.std.specs.Prelude.{◌≡◌, ◌+◌, ◌≤◌, IfOk, length};
 ghost use Rattle.ep_slot.specs.Chain.{records_of};
 
+use crate::tests::same;
 use ep_chunk::{Chain, Chunk, RecIn};
 use ep_defs::Marks;
-use ep_listen::{Callback, Heard, Listener};
+use ep_listen::{Callback, Heard, ListenEnd, Listener};
 use ep_slot::Batch;
 use std::alloc::{AllocError, Global};
 
-/// What was heard of a record.
-#[derive(Debug, PartialEq, Eq, Drop)]
-struct Told {
-    event: u32,
-    number: u32,
-    thread: u64,
-    stamp: u64,
-    activity: [u8; 16],
-    related: [u8; 16],
-    frames: Vec<u8>,
-    payload: Vec<u8>,
-}
-
-/// Keeps so many events, and is out of memory then.
+/// Keeps what it hears of so many events, and is out of memory then: of each the numbers, and how many bytes of frames and of
+/// payload it has; and the bytes of all.
 #[derive(Drop)]
 struct Keeper {
-    kept: Vec<Told>,
+    kept: Vec<[u64; 6]>,
+    bytes: Vec<u8>,
     most: usize,
 }
 
 impl Callback for Keeper {
     ghost has_heard = { λ _ _. Unit {0} };
 
-    fn heard(&mut self, alloc: Global, event: &Heard<'_>) -> Result<(), AllocError> {
+    fn heard(&mut self, _alloc: Global, event: &Heard<'_>) -> Result<(), AllocError> {
         if self.kept.len() >= self.most {
             return Err(AllocError);
         }
-        self.kept.push(Told {
-            event: event.event,
-            number: event.number,
-            thread: event.thread,
-            stamp: event.stamp,
-            activity: event.activity,
-            related: event.related,
-            frames: event.frames.to_vec(alloc)?,
-            payload: event.payload.to_vec(alloc)?,
-        })?;
+        self.bytes.extend_from_slice(&event.activity)?;
+        self.bytes.extend_from_slice(&event.related)?;
+        self.bytes.extend_from_slice(event.frames)?;
+        self.bytes.extend_from_slice(event.payload)?;
+        self.kept.push([
+            u64::from(event.event),
+            u64::from(event.number),
+            event.thread,
+            event.stamp,
+            event.frames.len() as u64,
+            event.payload.len() as u64,
+        ])?;
         Ok(())
     }
 }
@@ -79,54 +71,63 @@ fn chain_of(alloc: Global, first: u32, second: u32) -> Result<Chain, AllocError>
     }
 }
 
-// What is heard of a record with this number.
-fn told_with(alloc: Global, number: u32) -> Result<Told, AllocError> {
-    Ok(Told {
-        event: 3,
-        number,
-        thread: 7,
-        stamp: 100,
-        activity: [1; 16],
-        related: [2; 16],
-        frames: [0, 16, 0, 0, 0, 0, 0, 0].to_vec(alloc)?,
-        payload: [9].to_vec(alloc)?,
-    })
+// The bytes of a record of those: its activity and the related one, its frame and its payload.
+const BYTES: [u8; 41] = [
+    1, 1, 1, 1, 1, 1, 1, 1, 1, 1, 1, 1, 1, 1, 1, 1, 2, 2, 2, 2, 2, 2, 2, 2, 2, 2, 2, 2, 2, 2, 2, 2,
+    0, 16, 0, 0, 0, 0, 0, 0, 9,
+];
+
+// What is kept of the records in the order in which they are handed over.
+const KEPT: [[u64; 6]; 6] = [
+    [3, 1, 7, 100, 8, 1],
+    [3, 3, 7, 100, 8, 1],
+    [3, 4, 7, 100, 8, 1],
+    [3, 5, 7, 100, 8, 1],
+    [3, 7, 7, 100, 8, 1],
+    [3, 8, 7, 100, 8, 1],
+];
+
+// Whether these are the bytes of six of those records.
+fn are_six(bytes: &[u8]) -> bool {
+    bytes.len() == 246 && bytes.chunks(41).all(|piece| piece == BYTES.as_slice())
 }
 
-fn told_of(alloc: Global, numbers: [u32; 6]) -> Result<Vec<Told>, AllocError> {
-    let mut all = Vec::new(alloc);
-    for number in numbers {
-        all.push(told_with(alloc, number)?)?;
-    }
-    Ok(all)
+// Whether a listener failed, how many marks it has and how many events it kept, and whether these are those above.
+type Left = (bool, usize, usize, [bool; 2]);
+
+fn left_of(end: &ListenEnd<Keeper>) -> Left {
+    let kept = end.callback.kept.as_slice();
+    let are_those = [kept == KEPT.as_slice(), are_six(&end.callback.bytes)];
+    (
+        end.failed,
+        end.marks.as_slice().len(),
+        kept.len(),
+        are_those,
+    )
 }
 
-/// What came of a listener.
-#[derive(Drop)]
-struct Left {
-    kept: Vec<Told>,
-    answers: [Option<u32>; 2],
-    failed: bool,
-    marks: usize,
+// The batch on which the session is closed, of the records 4, 5, 7 and 8 in two chunks.
+fn last_batch(alloc: Global) -> Result<Batch, AllocError>
+    ensures { IfOk result (λ batch. length (records_of batch.chain) ≤ 4) }
+{
+    let mut chain = chain_of(alloc, 4, 5)?;
+    chain.join(chain_of(alloc, 7, 8)?);
+    Ok(Batch { chain, last: 8 })
 }
 
-// Hands over a batch of the records 1 and 3, and then the last one, of the records 4, 5, 7 and 8 in two chunks, to a callback
-// that keeps so many events.
-fn hear(alloc: Global, most: usize) -> Result<Left, AllocError> {
+// Hands over a batch of the records 1 and 3, and then the last one, to a callback that keeps so many events. It tells the
+// answers, and what is left.
+fn hear(alloc: Global, most: usize) -> Result<([Option<u32>; 2], Left), AllocError> {
+    let chain = chain_of(alloc, 1, 3)?;
+    let last = last_batch(alloc)?;
     let keeper = Keeper {
         kept: Vec::new(alloc),
+        bytes: Vec::new(alloc),
         most,
     };
     let Ok(mut listener) = Listener::new(alloc, keeper, 1) else {
         return Err(AllocError);
     };
-    let batch = Batch {
-        chain: chain_of(alloc, 1, 3)?,
-        last: 3,
-    };
-    let first = listener.hear(alloc, &batch);
-    let mut chain = chain_of(alloc, 4, 5)?;
-    chain.join(chain_of(alloc, 7, 8)?);
     let marks = Marks {
         thread: 7,
         from: 0,
@@ -134,47 +135,22 @@ fn hear(alloc: Global, most: usize) -> Result<Left, AllocError> {
         taken: 6,
         refused: 2,
     };
-    let second = listener.leave(alloc, &Batch { chain, last: 8 }, marks);
-    let end = listener.end();
-    Ok(Left {
-        kept: end.callback.kept,
-        answers: [first.ok(), second.ok()],
-        failed: end.failed,
-        marks: end.marks.as_slice().len(),
-    })
+    let first = listener.hear(alloc, &Batch { chain, last: 3 });
+    let second = listener.leave(alloc, &last, marks);
+    Ok(([first.ok(), second.ok()], left_of(&listener.end())))
 }
 
 #[test]
-fn each_record_is_heard_once_and_unchanged(rt: HostRuntime) -> Result<(), AllocError> {
-    let left = hear(rt.alloc(), 100)?;
-    assert_eq!(rt;
-        (left.answers, left.failed, left.marks),
-        ([Some(2), Some(4)], false, 1)
-    );
-    let wanted = told_of(rt.alloc(), [1, 3, 4, 5, 7, 8])?;
-    assert_eq!(rt; left.kept, wanted);
-    Ok(())
-}
-
-// What a listener answered and kept whose callback is out of memory after so many events.
-fn heard_of_few(
-    alloc: Global,
-    most: usize,
-) -> Result<([Option<u32>; 2], usize, bool, usize), AllocError> {
-    let left = hear(alloc, most)?;
-    Ok((left.answers, left.kept.len(), left.failed, left.marks))
+fn each_record_is_heard_once_and_unchanged(rt: HostRuntime) {
+    let wanted = ([Some(2), Some(4)], (false, 1, 6, [true; 2]));
+    same(&rt, hear(rt.alloc(), 100), Ok(wanted));
 }
 
 #[test]
-fn after_want_of_memory_nothing_more_is_heard_and_marks_are_kept(
-    rt: HostRuntime,
-) -> Result<(), AllocError> {
+fn after_want_of_memory_nothing_more_is_heard_and_marks_are_kept(rt: HostRuntime) {
     for most in 0..6 {
         let first = if most < 2 { None } else { Some(2) };
-        assert_eq!(rt;
-            heard_of_few(rt.alloc(), most)?,
-            ([first, None], most, true, 1)
-        );
+        let wanted = ([first, None], (true, 1, most, [false; 2]));
+        same(&rt, hear(rt.alloc(), most), Ok(wanted));
     }
-    Ok(())
 }

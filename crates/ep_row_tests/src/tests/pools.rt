@@ -3,6 +3,7 @@ ghost use Rattle.std.specs.Prelude.{◌≡◌, ◌+◌, ◌≤◌, ◌<◌};
 ghost use Rattle.ep_pool.specs.Shared.{IsSeatOf};
 ghost use Rattle.ep_row_tests.specs.declared.tests.pools.TheConstants.{TURNS};
 
+use crate::tests::same;
 use ep_chunk::{Chain, RecIn};
 use ep_pool::{OwnPool, Pool, PoolSeat, Purse, Seated};
 use std::alloc::{AllocError, Global};
@@ -13,25 +14,32 @@ use std::thread::Threads;
 /// How often each thread takes a chunk and gives it back.
 const TURNS: u64 = 100_000;
 
+// Gives back what a take got: how many chunks it has, 0 for none.
+fn give_back(pool: &mut OwnPool, taken: Option<Chain>) -> u32 {
+    let Some(chain) = taken else {
+        return 0;
+    };
+    let count = chain.count();
+    pool.give(chain);
+    count
+}
+
 // A pool of two: its total; the chunks of three takes, 0 for none; and how many are free once all were given back.
 fn taken_of_two(alloc: Global) -> Result<(u32, [u32; 3], u32), AllocError> {
     let mut pool = OwnPool::new(alloc, 2)?;
     let total = pool.total();
-    let taken = [pool.take(), pool.take(), pool.take()];
-    let mut counts = [0; 3];
-    for (place, chain) in taken.into_iter().enumerate() {
-        if let Some(chain) = chain {
-            counts[place] = chain.count();
-            pool.give(chain);
-        }
-    }
+    let (first, second, third) = (pool.take(), pool.take(), pool.take());
+    let counts = [
+        give_back(&mut pool, first),
+        give_back(&mut pool, second),
+        give_back(&mut pool, third),
+    ];
     Ok((total, counts, pool.free()))
 }
 
 #[test]
-fn chunks_are_taken_and_given_back(rt: HostRuntime) -> Result<(), AllocError> {
-    assert_eq!(rt; taken_of_two(rt.alloc())?, (2, [1, 1, 0], 2));
-    Ok(())
+fn chunks_are_taken_and_given_back(rt: HostRuntime) {
+    same(&rt, taken_of_two(rt.alloc()), Ok((2, [1, 1, 0], 2)));
 }
 
 // The bytes of a pool's one chunk with a record, and those of it once it was given back and taken again.
@@ -67,9 +75,8 @@ fn used_with_a_record(chain: &mut Chain) -> usize {
 }
 
 #[test]
-fn a_chunk_that_is_given_back_is_empty(rt: HostRuntime) -> Result<(), AllocError> {
-    assert_eq!(rt; used_before_and_after(rt.alloc())?, Some((69, 0)));
-    Ok(())
+fn a_chunk_that_is_given_back_is_empty(rt: HostRuntime) {
+    same(&rt, used_before_and_after(rt.alloc()), Ok(Some((69, 0))));
 }
 
 // Whether each of three takes of a shared pool of two got a chunk, and one more once a chunk was given back.
@@ -86,9 +93,8 @@ fn takes_of_two(rt: &(impl Wait + AllocGlobal)) -> Result<[bool; 4], AllocError>
 }
 
 #[test]
-fn a_shared_pool_of_two_gives_two_chunks(rt: HostRuntime) -> Result<(), AllocError> {
-    assert_eq!(rt; takes_of_two(&rt)?, [true, true, false, true]);
-    Ok(())
+fn a_shared_pool_of_two_gives_two_chunks(rt: HostRuntime) {
+    same(&rt, takes_of_two(&rt), Ok([true, true, false, true]));
 }
 
 // How many chunks a seat took and gave that was lent as a purse, which took one and gave it back.
@@ -106,9 +112,8 @@ fn lent(rt: &(impl Wait + AllocGlobal)) -> Result<(u64, u64), AllocError> {
 }
 
 #[test]
-fn a_seat_is_lent_as_a_purse(rt: HostRuntime) -> Result<(), AllocError> {
-    assert_eq!(rt; lent(&rt)?, (1, 1));
-    Ok(())
+fn a_seat_is_lent_as_a_purse(rt: HostRuntime) {
+    same(&rt, lent(&rt), Ok((1, 1)));
 }
 
 // Whether a seat with one of a pool's two shares got a chunk in each of three takes, and in one more once the other seat gave
@@ -129,15 +134,17 @@ fn takes_of_one_share(rt: &(impl Wait + AllocGlobal), chunks: u32) -> Result<[bo
 }
 
 #[test]
-fn a_seat_with_one_of_two_shares_takes_what_the_other_gave_back(
-    rt: HostRuntime,
-) -> Result<(), AllocError> {
-    let takes = (takes_of_one_share(&rt, 1)?, takes_of_one_share(&rt, 2)?);
-    assert_eq!(rt;
-        takes,
-        ([true, false, false, true], [true, true, false, true])
+fn a_seat_with_one_of_two_shares_takes_what_the_other_gave_back(rt: HostRuntime) {
+    same(
+        &rt,
+        takes_of_one_share(&rt, 1),
+        Ok([true, false, false, true]),
     );
-    Ok(())
+    same(
+        &rt,
+        takes_of_one_share(&rt, 2),
+        Ok([true, true, false, true]),
+    );
 }
 
 // How many chunks a seat took and gave that drained a pool of three, and whether another take gets one.
@@ -149,9 +156,8 @@ fn drained(rt: &(impl Wait + AllocGlobal)) -> Result<(u64, u64, bool), AllocErro
 }
 
 #[test]
-fn a_pool_of_three_is_drained_of_three_chunks(rt: HostRuntime) -> Result<(), AllocError> {
-    assert_eq!(rt; drained(&rt)?, (3, 0, false));
-    Ok(())
+fn a_pool_of_three_is_drained_of_three_chunks(rt: HostRuntime) {
+    same(&rt, drained(&rt), Ok((3, 0, false)));
 }
 
 // Takes chunks and gives them back.
@@ -203,6 +209,6 @@ fn four_threads_leave_all_chunks_in_the_pool(rt: HostRuntime) -> Result<(), Allo
     );
     pool.join(&mut seat, other);
     let counts = (seat.share(), seat.taken() == seat.given());
-    assert_eq!(rt; (counts, pool.free(rt, &mut seat)), ((4, true), 3));
+    same(rt, (counts, pool.free(rt, &mut seat)), ((4, true), 3));
     Ok(())
 }

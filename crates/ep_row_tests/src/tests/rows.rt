@@ -4,6 +4,7 @@ ghost use Rattle.std.specs.Prelude.{◌≡◌, ◌<◌, length, OnOk, IfOk};
 ghost use Rattle.ep_slot.specs.Hand.{Agrees, hand_of};
 ghost use Rattle.ep_row.specs.Row.{HasOpen};
 
+use crate::tests::same;
 use ep_defs::limits::SESSIONS;
 use ep_defs::{Bytes, Config, EventDef, FieldList, Frames, Marks, Rule, RuleList, Units, Write};
 use ep_pool::OwnPool;
@@ -95,6 +96,7 @@ fn begin(rt: &impl Abort, row: &mut Row, write: &Write) -> u64
 
 // How many of the sessions that were opened in all slots are of the row's thread, and the set of those that get a write then.
 fn opened_in_all_slots(rt: &(impl Abort + AllocGlobal)) -> Result<(u32, u64), AllocError> {
+    let write = write(rt.alloc())?;
     let mut row = Row::new(rt.alloc(), 9, 1)?;
     let mut of_thread = 0u32;
     for slot in 0..SESSIONS as u32 {
@@ -103,30 +105,27 @@ fn opened_in_all_slots(rt: &(impl Abort + AllocGlobal)) -> Result<(u32, u64), Al
             of_thread = of_thread.saturating_add(1);
         }
     }
-    let write = write(rt.alloc())?;
     Ok((of_thread, begin(rt, &mut row, &write)))
 }
 
 #[test]
-fn sixty_four_sessions_are_open_on_one_row(rt: HostRuntime) -> Result<(), AllocError> {
-    assert_eq!(rt; opened_in_all_slots(&rt)?, (64, u64::MAX));
-    Ok(())
+fn sixty_four_sessions_are_open_on_one_row(rt: HostRuntime) {
+    same(&rt, opened_in_all_slots(&rt), Ok((64, u64::MAX)));
 }
 
 // Where a session opened that was told which events it gets, whether it is on then, and the set of those that get a write.
 fn opened_by_a_list(rt: &(impl Abort + AllocGlobal)) -> Result<(u32, bool, u64), AllocError> {
+    let write = write(rt.alloc())?;
     let mut row = Row::new(rt.alloc(), 9, 1)?;
     assert!(rt; !row.is_on(3) && !row.in_write() && !row.left());
     let (_slot, hand) = row.open_admitted(rt.alloc(), 3, 7, 1, &[true])?;
     let on = row.is_on(3);
-    let write = write(rt.alloc())?;
     Ok((hand.from(), on, begin(rt, &mut row, &write)))
 }
 
 #[test]
-fn a_session_gets_what_the_list_says(rt: HostRuntime) -> Result<(), AllocError> {
-    assert_eq!(rt; opened_by_a_list(&rt)?, (0, true, 8));
-    Ok(())
+fn a_session_gets_what_the_list_says(rt: HostRuntime) {
+    same(&rt, opened_by_a_list(&rt), Ok((0, true, 8)));
 }
 
 // Shows the first write to the session in a slot.
@@ -152,55 +151,37 @@ fn show(
 // What came of a session that was stolen from inside a write and closed behind it: the set that gets the write, the stolen
 // batch (chunks, last number), what the write was shown as, whether the row is in it with nothing due, the last batch, and the
 // marks.
-#[derive(Debug, PartialEq, Eq, Drop)]
-struct Closed {
-    gets: u64,
-    stolen: (u32, u32),
-    shown: Shown,
-    in_write: bool,
-    rest: (u32, u32),
-    marks: Marks,
-}
+type Closed = (u64, (u32, u32), Shown, bool, (u32, u32), Marks);
 
 fn closed_behind_a_write(rt: &(impl Abort + AllocGlobal)) -> Result<Closed, AllocError> {
+    let write = write(rt.alloc())?;
     let mut row = Row::new(rt.alloc(), 9, 1)?;
     let (mut buffer, mut hand) = open(rt, &mut row, 3)?;
-    let write = write(rt.alloc())?;
     let gets = begin(rt, &mut row, &write);
     let before = Row::steal(&mut buffer, &mut hand);
+    let stolen = (before.chain.count(), before.last);
+    drop(before);
     let shown = show(rt, &mut row, 3, &mut buffer, &write)?;
     let in_write = row.in_write() && row.due() == 0;
     assert!(rt; in_write);
     row.end();
     let (batch, marks) = row.close_on(3, buffer, hand);
-    Ok(Closed {
-        gets,
-        stolen: (before.chain.count(), before.last),
-        shown,
-        in_write,
-        rest: (batch.chain.count(), batch.last),
-        marks,
-    })
+    let rest = (batch.chain.count(), batch.last);
+    Ok((gets, stolen, shown, in_write, rest, marks))
 }
 
 #[test]
-fn a_session_is_stolen_from_inside_a_write_and_closed(rt: HostRuntime) -> Result<(), AllocError> {
-    let wanted = Closed {
-        gets: 8,
-        stolen: (0, 0),
-        shown: Shown::Written { number: 1 },
-        in_write: true,
-        rest: (1, 1),
-        marks: Marks {
-            thread: 9,
-            from: 0,
-            to: 1,
-            taken: 1,
-            refused: 0,
-        },
+fn a_session_is_stolen_from_inside_a_write_and_closed(rt: HostRuntime) {
+    let marks = Marks {
+        thread: 9,
+        from: 0,
+        to: 1,
+        taken: 1,
+        refused: 0,
     };
-    assert_eq!(rt; closed_behind_a_write(&rt)?, wanted);
-    Ok(())
+    let shown = Shown::Written { number: 1 };
+    let wanted = (8, (0, 0), shown, true, (1, 1), marks);
+    same(&rt, closed_behind_a_write(&rt), Ok(wanted));
 }
 
 // What came of a thread that left with a session open on its row: whether the row was left, on and not free; the chunks of the
@@ -222,8 +203,7 @@ fn left_with_a_session(
 }
 
 #[test]
-fn a_thread_leaves_with_a_session_open_on_it(rt: HostRuntime) -> Result<(), AllocError> {
+fn a_thread_leaves_with_a_session_open_on_it(rt: HostRuntime) {
     let wanted = ([true, true, false], (0, 0), [true, true], (300, 0, false));
-    assert_eq!(rt; left_with_a_session(&rt)?, wanted);
-    Ok(())
+    same(&rt, left_with_a_session(&rt), Ok(wanted));
 }

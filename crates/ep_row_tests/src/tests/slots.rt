@@ -2,6 +2,7 @@
 ghost use Rattle.std.specs.Prelude.{◌≡◌};
 ghost use Rattle.ep_slot.specs.Hand.{hand_of};
 
+use crate::tests::same;
 use ep_chunk::Chain;
 use ep_defs::{Bytes, Frames, Marks, Write};
 use ep_pool::{OwnPool, Purse};
@@ -34,9 +35,9 @@ fn show<P: Purse>(rt: &impl Abort, slot: &mut Slot, pool: &mut P, write: &Write)
 
 // How many of 963 bare writes were written in turn, what the next one came to, the slot's counts, and the hand's thread.
 fn filled(rt: &(impl Abort + AllocGlobal)) -> Result<(u32, (u32, bool), Counts, u64), AllocError> {
+    let write = write_of(rt.alloc(), 0, 0)?;
     let mut pool = OwnPool::new(rt.alloc(), 1)?;
     let (mut slot, hand) = pair(rt.alloc(), 1, 7, 0, 1)?;
-    let write = write_of(rt.alloc(), 0, 0)?;
     let mut written = 0u32;
     for number in 1..=963u32 {
         if show(rt, &mut slot, &mut pool, &write) == (number, true) {
@@ -48,32 +49,25 @@ fn filled(rt: &(impl Abort + AllocGlobal)) -> Result<(u32, (u32, bool), Counts, 
 }
 
 #[test]
-fn the_964th_record_of_68_bytes_is_refused_by_a_budget_of_one_chunk(
-    rt: HostRuntime,
-) -> Result<(), AllocError> {
+fn the_964th_record_of_68_bytes_is_refused_by_a_budget_of_one_chunk(rt: HostRuntime) {
     let counts = Counts {
         used: 964,
         taken: 0,
         refused: 1,
         pending: 963,
     };
-    assert_eq!(rt; filled(&rt)?, (963, (964, false), counts, 7));
-    Ok(())
+    same(&rt, filled(&rt), Ok((963, (964, false), counts, 7)));
 }
 
-// What came of a slot that was shown great writes: two, one more after a steal, and one once the batch was given back.
-#[derive(Debug, PartialEq, Eq, Drop)]
-struct Great {
-    shown: [(u32, bool); 4],
-    stolen: (u32, u32, usize),
-    rest: (u32, u32),
-    marks: Marks,
-}
+// What came of a slot that was shown great writes, two, one more after a steal, and one once the batch was given back: their
+// numbers, and whether each was written; the last number, the chunks and the bytes of the stolen batch; the last number and the
+// chunks of the rest; and the marks.
+type Great = ([(u32, bool); 4], (u32, u32, usize), (u32, u32), Marks);
 
 fn come_of_great_writes(rt: &(impl Abort + AllocGlobal)) -> Result<Great, AllocError> {
+    let write = write_of(rt.alloc(), 100, 60_000)?;
     let mut pool = OwnPool::new(rt.alloc(), 1)?;
     let (mut slot, mut hand) = pair(rt.alloc(), 1, 7, 3, 1)?;
-    let write = write_of(rt.alloc(), 100, 60_000)?;
     let first = show(rt, &mut slot, &mut pool, &write);
     let second = show(rt, &mut slot, &mut pool, &write);
     let batch = slot.steal(&mut hand);
@@ -83,30 +77,22 @@ fn come_of_great_writes(rt: &(impl Abort + AllocGlobal)) -> Result<Great, AllocE
     pool.give(batch.chain);
     let fourth = show(rt, &mut slot, &mut pool, &write);
     let (rest, marks) = slot.close(hand, 9);
-    Ok(Great {
-        shown: [first, second, third, fourth],
-        stolen,
-        rest: (rest.last, rest.chain.count()),
-        marks,
-    })
+    let rest = (rest.last, rest.chain.count());
+    Ok(([first, second, third, fourth], stolen, rest, marks))
 }
 
 #[test]
-fn what_was_taken_and_given_back_has_room_again(rt: HostRuntime) -> Result<(), AllocError> {
-    let wanted = Great {
-        shown: [(1, true), (2, false), (3, false), (4, true)],
-        stolen: (2, 1, 60_868),
-        rest: (4, 1),
-        marks: Marks {
-            thread: 7,
-            from: 3,
-            to: 9,
-            taken: 2,
-            refused: 2,
-        },
+fn what_was_taken_and_given_back_has_room_again(rt: HostRuntime) {
+    let shown = [(1, true), (2, false), (3, false), (4, true)];
+    let marks = Marks {
+        thread: 7,
+        from: 3,
+        to: 9,
+        taken: 2,
+        refused: 2,
     };
-    assert_eq!(rt; come_of_great_writes(&rt)?, wanted);
-    Ok(())
+    let wanted = (shown, (2, 1, 60_868), (4, 1), marks);
+    same(&rt, come_of_great_writes(&rt), Ok(wanted));
 }
 
 // A purse that never finds a chunk.
@@ -141,14 +127,13 @@ impl Purse for Empty {
 
 // What a write came to where the purse finds no chunk, the numbers used, and what the hand has taken.
 fn refused(rt: &(impl Abort + AllocGlobal)) -> Result<((u32, bool), u32, u32), AllocError> {
-    let (mut slot, hand) = pair(rt.alloc(), 1, 7, 0, 1)?;
     let write = write_of(rt.alloc(), 2, 16)?;
+    let (mut slot, hand) = pair(rt.alloc(), 1, 7, 0, 1)?;
     let shown = show(rt, &mut slot, &mut Empty, &write);
     Ok((shown, slot.counts().used, hand.taken()))
 }
 
 #[test]
-fn a_write_is_refused_where_the_purse_finds_no_chunk(rt: HostRuntime) -> Result<(), AllocError> {
-    assert_eq!(rt; refused(&rt)?, ((1, false), 1, 0));
-    Ok(())
+fn a_write_is_refused_where_the_purse_finds_no_chunk(rt: HostRuntime) {
+    same(&rt, refused(&rt), Ok(((1, false), 1, 0)));
 }
