@@ -78,25 +78,36 @@ fn bytes_of(item: &Item) -> &[u8] {
     }
 }
 
-// What is told of items: their numbers, and the bytes of all.
-type Told<'a> = (&'a [(u64, u64, usize)], &'a [u8]);
+// What is told of an item: its place, its number, id or stamp, how many bytes or threads it has, and the bytes.
+type Told<'a> = (u64, u64, usize, &'a [u8]);
 
-// Whether this is told of items.
-fn are(alloc: Global, items: &[Item], told: Told) -> Result<bool, AllocError> {
-    let mut bytes = Vec::new(alloc);
-    for item in items {
-        bytes.extend_from_slice(bytes_of(item))?;
+fn is(item: &Item, told: &Told) -> bool {
+    numbers_of(item) == (told.0, told.1, told.2) && bytes_of(item) == told.3
+}
+
+fn are(items: &[Item], told: &[Told]) -> bool {
+    for (item, told) in items.iter().zip(told) {
+        if !is(item, told) {
+            return false;
+        }
     }
-    Ok(items.iter().map(numbers_of).eq(told.0.iter().copied()) && bytes.as_slice() == told.1)
+    items.len() == told.len()
+}
+
+// Takes these bodies, as far as none is refused.
+fn take_all(alloc: Global, bodies: &[(BlockKind, &[u8])], items: &mut Vec<Item>) -> bool {
+    for (kind, body) in bodies {
+        if take_short(alloc, *kind, body, items).is_err() {
+            return false;
+        }
+    }
+    true
 }
 
 // Whether this is told of the items of these bodies.
-fn tell(alloc: Global, bodies: &[(BlockKind, &[u8])], told: Told) -> Result<bool, BodyFault> {
+fn tell(alloc: Global, bodies: &[(BlockKind, &[u8])], told: &[Told]) -> bool {
     let mut items = Vec::new(alloc);
-    for (kind, body) in bodies {
-        take_short(alloc, *kind, body, &mut items)?;
-    }
-    Ok(are(alloc, &items, told)?)
+    take_all(alloc, bodies, &mut items) && are(&items, told)
 }
 
 #[test]
@@ -132,18 +143,25 @@ fn events_body(alloc: Global) -> Result<Vec<u8>, AllocError> {
     block.body(alloc)
 }
 
-// Whether this is told of those events and of a point behind them.
-fn tell_events_and_a_point(alloc: Global, told: Told) -> Result<bool, BodyFault> {
-    let events = events_body(alloc)?;
-    let point = point_body(alloc, 2)?;
-    let bodies: [(BlockKind, &[u8]); 2] = [(BlockKind::Event, &events), (BlockKind::Point, &point)];
-    tell(alloc, &bodies, told)
+// What is told of those events and of a point behind them.
+const EVENTS_AND_POINT: &[Told] = &[(120, 1, 2, b"ab"), (126, 2, 1, b"c"), (100, 200, 1, b"")];
+
+fn tell_events_and_a_point(alloc: Global) -> bool {
+    match (&events_body(alloc), &point_body(alloc, 2)) {
+        (Ok(events), Ok(point)) => {
+            let bodies: [(BlockKind, &[u8]); 2] = [
+                (BlockKind::Event, events),
+                (BlockKind::Point, point),
+            ];
+            tell(alloc, &bodies, EVENTS_AND_POINT)
+        }
+        _ => false,
+    }
 }
 
 #[test]
 fn blobs_and_points_are_taken_back(rt: HostRuntime) {
-    let told: Told = (&[(120, 1, 2), (126, 2, 1), (100, 200, 1)], b"abc");
-    same(&rt, tell_events_and_a_point(rt.alloc(), told), Ok(true));
+    same(&rt, tell_events_and_a_point(rt.alloc()), true);
 }
 
 // One item, at the place 1.

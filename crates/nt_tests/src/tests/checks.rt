@@ -62,18 +62,21 @@ fn kind_of(alloc: Global, step: Step) -> Result<ItemKind, AllocError> {
     })
 }
 
-// What a checker answers to this item.
+// What is bad about this item by a checker, if anything.
 fn answer(
     alloc: Global,
     checker: &mut Checker,
     step: Step,
-) -> Result<Result<(), CheckFault>, AllocError> {
-    let kind = kind_of(alloc, step)?;
-    Ok(checker.item(&kind))
-}
-
-fn bad(kind: CheckKind) -> Result<(), CheckFault> {
-    Err(CheckFault::Bad(kind))
+) -> Result<Option<CheckKind>, AllocError> {
+    let answer = match &kind_of(alloc, step) {
+        Ok(kind) => checker.item(kind),
+        Err(_) => return Err(AllocError),
+    };
+    match answer {
+        Ok(()) => Ok(None),
+        Err(CheckFault::Bad(kind)) => Ok(Some(kind)),
+        Err(CheckFault::OutOfMemory) => Err(AllocError),
+    }
 }
 
 // Items one after another, and what is bad about each, if anything.
@@ -107,11 +110,7 @@ const STEPS: &[(Step, Option<CheckKind>)] = &[
 fn ids_are_defined_before_their_use_and_once(rt: HostRuntime) {
     let mut checker = Checker::new(rt.alloc());
     for row in STEPS {
-        same(
-            &rt,
-            answer(rt.alloc(), &mut checker, row.0),
-            Ok(row.1.map_or(Ok(()), bad)),
-        );
+        same(&rt, answer(rt.alloc(), &mut checker, row.0), Ok(row.1));
     }
 }
 
@@ -119,7 +118,7 @@ fn ids_are_defined_before_their_use_and_once(rt: HostRuntime) {
 fn numbers(alloc: Global, steps: &[Step]) -> [Option<Numbers>; 3] {
     let mut checker = Checker::new(alloc);
     for step in steps {
-        if answer(alloc, &mut checker, *step) != Ok(Ok(())) {
+        if answer(alloc, &mut checker, *step) != Ok(None) {
             return [None; 3];
         }
     }

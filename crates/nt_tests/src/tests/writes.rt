@@ -64,11 +64,13 @@ fn tell(
     writer: &mut TraceWriter<MemSink>,
     def: &EventDef,
     call: &Call,
-) -> Result<Result<(), Fault>, AllocError>
+) -> Result<(), AllocError>
     requires { IsTrue (is_valid_event def.now) }
 {
     match *call {
-        Call::Point(number, stamp) => Ok(writer.point(alloc, stamp, &[(1, number)])),
+        Call::Point(number, stamp) => {
+            let _ = writer.point(alloc, stamp, &[(1, number)]);
+        }
         Call::Event(number, stamp, size, depth, byte) => {
             if number == 0 || size > 60_000 || depth > 100 {
                 return Err(AllocError);
@@ -85,27 +87,70 @@ fn tell(
                 frames: frames.as_slice(),
                 payload: payload.as_slice(),
             };
-            Ok(writer.event(alloc, def, &out))
+            let _ = writer.event(alloc, def, &out);
         }
+    }
+    Ok(())
+}
+
+fn tell_all(
+    alloc: Global,
+    writer: &mut TraceWriter<MemSink>,
+    def: &EventDef,
+    calls: &[Call],
+) -> Result<(), AllocError>
+    requires { IsTrue (is_valid_event def.now) }
+{
+    for call in calls {
+        tell(alloc, writer, def, call)?;
+    }
+    Ok(())
+}
+
+// A sink, and what the end answered, or want of memory for the calls themselves.
+type Written = (MemSink, Result<(), Fault>);
+
+fn write_and_end(
+    alloc: Global,
+    writer: TraceWriter<MemSink>,
+    def: &EventDef,
+    calls: &[Call],
+) -> Written
+    requires { IsTrue (is_valid_event def.now) }
+{
+    let mut writer = writer;
+    let told = tell_all(alloc, &mut writer, def, calls);
+    let (sink, ended) = writer.end(alloc);
+    match told {
+        Ok(()) => (sink, ended),
+        Err(_) => (sink, Err(Fault::OutOfMemory)),
     }
 }
 
-// What a sink took of these calls that fails at this write, the first being 1, and what the end answered.
-fn written(
-    alloc: Global,
-    calls: &[Call],
-    fails: u64,
-) -> Result<(MemSink, Result<(), Fault>), AllocError> {
-    let def = definition(alloc)?;
-    let sink = MemSink::new(Vec::from_array(alloc, [fails])?);
-    let mut writer = match TraceWriter::begin(alloc, sink, &standard_info(1, 1)) {
-        Ok(writer) => writer,
-        Err((sink, fault)) => return Ok((sink, Err(fault))),
-    };
-    for call in calls {
-        let _ = tell(alloc, &mut writer, &def, call)?;
+fn write_all(alloc: Global, sink: MemSink, def: &EventDef, calls: &[Call]) -> Written
+    requires { IsTrue (is_valid_event def.now) }
+{
+    match TraceWriter::begin(alloc, sink, &standard_info(1, 1)) {
+        Ok(writer) => write_and_end(alloc, writer, def, calls),
+        Err((sink, fault)) => (sink, Err(fault)),
     }
-    Ok(writer.end(alloc))
+}
+
+// What is written of these calls to a sink that fails at this write, the first being 1.
+fn written(alloc: Global, calls: &[Call], fails: u64) -> Result<Written, AllocError> {
+    let fails = Vec::from_array(alloc, [fails])?;
+    match &definition(alloc) {
+        Ok(def) => Ok(write_all(alloc, MemSink::new(fails), def, calls)),
+        Err(_) => Err(AllocError),
+    }
+}
+
+fn are_there(bytes: &[u8], pieces: &[(usize, &[u8])]) -> bool {
+    let mut all = true;
+    for (at, piece) in pieces {
+        all &= bytes.get(*at..).is_some_and(|rest| rest.starts_with(piece));
+    }
+    all
 }
 
 // How many bytes are written of these calls, what the end answered, and whether each piece stands at its offset.
@@ -114,13 +159,10 @@ fn holds(
     calls: &[Call],
     pieces: &[(usize, &[u8])],
 ) -> Result<(usize, Result<(), Fault>, bool), AllocError> {
-    let (sink, ended) = written(alloc, calls, 0)?;
-    let bytes = sink.taken();
-    let mut all = true;
-    for (at, piece) in pieces {
-        all &= bytes.get(*at..).is_some_and(|rest| rest.starts_with(piece));
+    match &written(alloc, calls, 0) {
+        Ok((sink, ended)) => Ok((sink.taken().len(), *ended, are_there(sink.taken(), pieces))),
+        Err(_) => Err(AllocError),
     }
-    Ok((bytes.len(), ended, all))
 }
 
 #[test]
@@ -164,10 +206,13 @@ fn a_stack_is_written_again_after_a_point(rt: HostRuntime) {
 // the end answered.
 fn failing(alloc: Global, fails: u64) -> Result<(usize, bool, Result<(), Fault>), AllocError> {
     let calls = [framed(1, 100), Call::Point(1, 200)];
-    let (whole, _) = written(alloc, &calls, 0)?;
-    let (sink, ended) = written(alloc, &calls, fails)?;
-    let begins = whole.taken().starts_with(sink.taken());
-    Ok((sink.taken().len(), begins, ended))
+    match (&written(alloc, &calls, 0), &written(alloc, &calls, fails)) {
+        (Ok((whole, _)), Ok((sink, ended))) => {
+            let begins = whole.taken().starts_with(sink.taken());
+            Ok((sink.taken().len(), begins, *ended))
+        }
+        _ => Err(AllocError),
+    }
 }
 
 #[test]
