@@ -1,7 +1,8 @@
 //! The answers to requests as they stand on a connection, byte by byte.
 
+use crate::tests::same;
 use ep_defs::{Facts, Items, Units, standard_info};
-use ep_table::{StopTicket, Table};
+use ep_table::Table;
 use ipc_serve::codes::{BAD_ENCODING, REFUSED, UNKNOWN_COMMAND, UNKNOWN_MAGIC};
 use ipc_serve::{Action, decide};
 use std::alloc::{AllocError, Global};
@@ -28,36 +29,53 @@ fn units(alloc: Global, text: &[u8]) -> Result<Units, AllocError> {
     Ok(Items::new(units))
 }
 
-// What a process whose facts are those of the description answered, without what it keeps: the bytes of its reply; of a session
-// its slot, id and chunks, whether it walks stacks and has a rundown, and its rules; of a stop its ticket; of an error its code.
-#[derive(Debug, PartialEq, Eq, Drop)]
-enum Answer {
-    Info(Vec<u8>),
-    Start(u32, u64, u32, [bool; 2], usize, [u8; 28]),
-    Stop(StopTicket, [u8; 28]),
-    Error(u32),
+#[derive(Clone, Copy, Debug, PartialEq, Eq)]
+enum Kind {
+    Info,
+    Start,
+    Stop,
+    Error,
 }
 
-fn answer_to(alloc: Global, table: &mut Table, bytes: &[u8]) -> Result<Answer, AllocError> {
-    let facts = facts(alloc)?;
-    if table.next() > 1000 || !facts.is_valid() {
-        return Err(AllocError);
-    }
-    match decide(alloc, table, &facts, 7, bytes) {
-        Action::Info { reply } => Ok(Answer::Info(reply.as_slice().to_vec(alloc)?)),
+// What a process whose facts are those of the description answered, without what it keeps: the kind; of a session its slot, id
+// and chunks, how many rules it has, and whether it walks stacks and has a rundown; of a stop its ticket's id, slot and
+// connection; of an error its code; and whether the reply is the description, or the one about session 1.
+type Answer = (Kind, [u64; 6], bool);
+
+fn told(action: &Action) -> Answer {
+    match action {
+        Action::Info { reply } => {
+            let is_told = reply.as_slice() == DESCRIPTION.as_slice();
+            (Kind::Info, [0; 6], is_told)
+        }
         Action::Start {
             slot,
             id,
             config,
             reply,
         } => {
-            let walks = [config.stackwalk, config.rundown];
-            let rules = config.rules.as_slice().len();
-            Ok(Answer::Start(slot, id, config.chunks, walks, rules, reply))
+            let numbers = [
+                u64::from(*slot),
+                *id,
+                u64::from(config.chunks),
+                config.rules.as_slice().len() as u64,
+                u64::from(config.stackwalk),
+                u64::from(config.rundown),
+            ];
+            (Kind::Start, numbers, *reply == SESSION_1)
         }
-        Action::Stop { ticket, reply } => Ok(Answer::Stop(ticket, reply)),
-        Action::Error { code, .. } => Ok(Answer::Error(code)),
+        Action::Stop { ticket, reply } => {
+            let (slot, conn) = (u64::from(ticket.slot), u64::from(ticket.conn));
+            let numbers = [ticket.id, slot, conn, 0, 0, 0];
+            (Kind::Stop, numbers, *reply == SESSION_1)
+        }
+        Action::Error { code, .. } => (Kind::Error, error(*code), false),
     }
+}
+
+// The numbers of an error.
+fn error(code: u32) -> [u64; 6] {
+    [u64::from(code), 0, 0, 0, 0, 0]
 }
 
 fn facts(alloc: Global) -> Result<Facts, AllocError> {
@@ -71,41 +89,50 @@ fn facts(alloc: Global) -> Result<Facts, AllocError> {
     })
 }
 
-// The code with which these bytes are refused, or 0, and the next session's id then.
-fn code(alloc: Global, table: &mut Table, bytes: &[u8]) -> Result<(u32, u64), AllocError> {
-    match answer_to(alloc, table, bytes)? {
-        Answer::Error(code) => Ok((code, table.next())),
-        _ => Ok((0, table.next())),
+// What a process with these facts answers to these bytes, if the facts are valid.
+fn answer_with(alloc: Global, table: &mut Table, facts: &Facts, bytes: &[u8]) -> Option<Answer> {
+    if table.next() > 1000 || !facts.is_valid() {
+        return None;
+    }
+    Some(told(&decide(alloc, table, facts, 7, bytes)))
+}
+
+fn answer_to(alloc: Global, table: &mut Table, bytes: &[u8]) -> Option<Answer> {
+    match &facts(alloc) {
+        Ok(facts) => answer_with(alloc, table, facts, bytes),
+        Err(_) => None,
     }
 }
 
-#[test]
-fn a_process_describes_itself(rt: HostRuntime) -> Result<(), AllocError> {
-    let wanted = Answer::Info(DESCRIPTION.to_vec(rt.alloc())?);
-    assert_eq!(rt; answer_to(rt.alloc(), &mut Table::new(), &INFO)?, wanted);
-    Ok(())
+// The code with which these bytes are refused, or 0, and the next session's id then.
+fn code(alloc: Global, table: &mut Table, bytes: &[u8]) -> Option<(u64, u64)> {
+    let (kind, numbers, _) = answer_to(alloc, table, bytes)?;
+    let code = if kind == Kind::Error { numbers[0] } else { 0 };
+    Some((code, table.next()))
+}
+
+// The answer of one that refuses with this code, and leaves the next session's id.
+fn refused(code: u32, next: u64) -> Option<(u64, u64)> {
+    Some((u64::from(code), next))
 }
 
 #[test]
-fn a_session_begins_and_is_stopped_once(rt: HostRuntime) -> Result<(), AllocError> {
+fn a_process_describes_itself(rt: HostRuntime) {
+    let answer = answer_to(rt.alloc(), &mut Table::new(), &INFO);
+    same(&rt, answer, Some((Kind::Info, [0; 6], true)));
+}
+
+#[test]
+fn a_session_begins_and_is_stopped_once(rt: HostRuntime) {
     let mut table = Table::new();
-    let ticket = StopTicket {
-        id: 1,
-        slot: 0,
-        conn: 7,
-    };
     let steps: [(&[u8], Answer); 3] = [
-        (
-            &COLLECT,
-            Answer::Start(0, 1, 4096, [true, true], 3, SESSION_1),
-        ),
-        (&STOP, Answer::Stop(ticket, SESSION_1)),
-        (&STOP, Answer::Error(REFUSED)),
+        (&COLLECT, (Kind::Start, [0, 1, 4096, 3, 1, 1], true)),
+        (&STOP, (Kind::Stop, [1, 0, 7, 0, 0, 0], true)),
+        (&STOP, (Kind::Error, error(REFUSED), false)),
     ];
     for (bytes, wanted) in steps {
-        assert_eq!(rt; answer_to(rt.alloc(), &mut table, bytes)?, wanted);
+        same(&rt, answer_to(rt.alloc(), &mut table, bytes), Some(wanted));
     }
-    Ok(())
 }
 
 // The request in the third form, which says that no stacks are wanted.
@@ -118,41 +145,44 @@ fn without_stacks(alloc: Global) -> Result<Vec<u8>, AllocError> {
     Ok(request)
 }
 
+fn answer_without_stacks(alloc: Global) -> Option<Answer> {
+    match &without_stacks(alloc) {
+        Ok(request) => answer_to(alloc, &mut Table::new(), request),
+        Err(_) => None,
+    }
+}
+
 #[test]
-fn the_third_form_says_whether_stacks_are_wanted(rt: HostRuntime) -> Result<(), AllocError> {
-    let request = without_stacks(rt.alloc())?;
-    let wanted = Answer::Start(0, 1, 4096, [false, true], 3, SESSION_1);
-    assert_eq!(rt; answer_to(rt.alloc(), &mut Table::new(), &request)?, wanted);
-    Ok(())
+fn the_third_form_says_whether_stacks_are_wanted(rt: HostRuntime) {
+    let wanted = (Kind::Start, [0, 1, 4096, 3, 0, 1], true);
+    same(&rt, answer_without_stacks(rt.alloc()), Some(wanted));
 }
 
 // How many of 64 requests began a session, what the 65th was refused with, and how many sessions hold a slot.
-fn filled(alloc: Global) -> Result<(u32, (u32, u64), u32), AllocError> {
+fn filled(alloc: Global) -> (u32, Option<(u64, u64)>, u32) {
     let mut table = Table::new();
     let mut begun = 0u32;
-    for _ in 0..64u32 {
-        if code(alloc, &mut table, &COLLECT)?.0 == 0 {
+    for next in 2..66u64 {
+        if code(alloc, &mut table, &COLLECT) == Some((0, next)) {
             begun = begun.saturating_add(1);
         }
     }
-    let last = code(alloc, &mut table, &COLLECT)?;
-    Ok((begun, last, table.held()))
+    let last = code(alloc, &mut table, &COLLECT);
+    (begun, last, table.held())
 }
 
 #[test]
-fn the_65th_session_is_refused(rt: HostRuntime) -> Result<(), AllocError> {
-    assert_eq!(rt; filled(rt.alloc())?, (64, (REFUSED, 65), 64));
-    Ok(())
+fn the_65th_session_is_refused(rt: HostRuntime) {
+    same(&rt, filled(rt.alloc()), (64, refused(REFUSED, 65), 64));
 }
 
 #[test]
-fn a_request_that_is_cut_is_badly_encoded(rt: HostRuntime) -> Result<(), AllocError> {
+fn a_request_that_is_cut_is_badly_encoded(rt: HostRuntime) {
     let mut table = Table::new();
     for there in 0..175usize {
-        let cut = &COLLECT[..there];
-        assert_eq!(rt; code(rt.alloc(), &mut table, cut)?, (BAD_ENCODING, 1));
+        let found = code(rt.alloc(), &mut table, &COLLECT[..there]);
+        same(&rt, (there, found), (there, refused(BAD_ENCODING, 1)));
     }
-    Ok(())
 }
 
 // The request with another byte in this place.
@@ -164,15 +194,27 @@ fn changed(place: usize, byte: u8) -> [u8; 175] {
     other
 }
 
+// The code with which the request with another byte in this place is refused by an empty table, and the next session's id then.
+fn code_of(alloc: Global, place: usize, byte: u8) -> Option<(u64, u64)> {
+    code(alloc, &mut Table::new(), &changed(place, byte))
+}
+
+// Whether an error leaves the table as it was.
+fn is_unchanged(alloc: Global, place: usize, byte: u8) -> bool {
+    match code_of(alloc, place, byte) {
+        Some((code, next)) => code == 0 || next == 1,
+        None => false,
+    }
+}
+
 #[test]
-fn one_changed_byte_changes_no_table_on_an_error(rt: HostRuntime) -> Result<(), AllocError> {
+fn one_changed_byte_changes_no_table_on_an_error(rt: HostRuntime) {
     for place in 0..175usize {
         for byte in [0u8, 1, 255] {
-            let (code, next) = code(rt.alloc(), &mut Table::new(), &changed(place, byte))?;
-            assert!(rt; code == 0 || next == 1);
+            let is_unchanged = is_unchanged(rt.alloc(), place, byte);
+            same(&rt, (place, byte, is_unchanged), (place, byte, true));
         }
     }
-    Ok(())
 }
 
 // Appends a provider whose name has this many units, the final zero among them.
@@ -200,41 +242,47 @@ fn greatest(alloc: Global) -> Result<Vec<u8>, AllocError> {
     Ok(bytes)
 }
 
-#[test]
-fn a_request_of_65535_bytes_with_1000_providers_is_accepted(
-    rt: HostRuntime,
-) -> Result<(), AllocError> {
-    let bytes = greatest(rt.alloc())?;
+// The size of a request, what it is refused with, and then what its first 65,471 bytes are refused with.
+fn codes(alloc: Global, bytes: &[u8]) -> (usize, [Option<(u64, u64)>; 2]) {
     let mut table = Table::new();
-    assert_eq!(rt;
-        (bytes.len(), code(rt.alloc(), &mut table, &bytes)?),
-        (65_535, (0, 2))
-    );
-    // The same with a provider too few.
+    let whole = code(alloc, &mut table, bytes);
     let fewer = bytes.get(..65_471).unwrap_or_default();
-    assert_eq!(rt; code(rt.alloc(), &mut table, fewer)?, (BAD_ENCODING, 2));
-    Ok(())
+    (bytes.len(), [whole, code(alloc, &mut table, fewer)])
+}
+
+// Those of the request with 1,000 providers, and then of the same with a provider too few.
+fn codes_of_greatest(alloc: Global) -> (usize, [Option<(u64, u64)>; 2]) {
+    match &greatest(alloc) {
+        Ok(bytes) => codes(alloc, bytes),
+        Err(_) => (0, [None; 2]),
+    }
 }
 
 #[test]
-fn each_finding_has_its_code(rt: HostRuntime) -> Result<(), AllocError> {
-    // Offset, byte, and the code of: another magic, a size of 19, the set 9, the budget 0, the format 0, no provider, 2^30
-    // providers and more, an empty name, a name without its zero, and a name of more than 2^31 units.
-    let findings = [
-        (0usize, 0u8, UNKNOWN_MAGIC),
-        (14, 19, BAD_ENCODING),
-        (16, 9, UNKNOWN_COMMAND),
-        (21, 0, BAD_ENCODING),
-        (24, 0, BAD_ENCODING),
-        (29, 0, BAD_ENCODING),
-        (32, 64, BAD_ENCODING),
-        (45, 0, BAD_ENCODING),
-        (69, 1, BAD_ENCODING),
-        (48, 255, BAD_ENCODING),
-    ];
-    for (place, byte, want) in findings {
-        let refused = code(rt.alloc(), &mut Table::new(), &changed(place, byte))?;
-        assert_eq!(rt; refused, (want, 1));
+fn a_request_of_65535_bytes_with_1000_providers_is_accepted(rt: HostRuntime) {
+    let wanted = (65_535, [Some((0, 2)), refused(BAD_ENCODING, 2)]);
+    same(&rt, codes_of_greatest(rt.alloc()), wanted);
+}
+
+// Offset, byte, and the code of: another magic, a size of 19, the set 9, the budget 0, the format 0, no provider, 2^30
+// providers and more, an empty name, a name without its zero, and a name of more than 2^31 units.
+const FINDINGS: &[(usize, u8, u32)] = &[
+    (0, 0, UNKNOWN_MAGIC),
+    (14, 19, BAD_ENCODING),
+    (16, 9, UNKNOWN_COMMAND),
+    (21, 0, BAD_ENCODING),
+    (24, 0, BAD_ENCODING),
+    (29, 0, BAD_ENCODING),
+    (32, 64, BAD_ENCODING),
+    (45, 0, BAD_ENCODING),
+    (69, 1, BAD_ENCODING),
+    (48, 255, BAD_ENCODING),
+];
+
+#[test]
+fn each_finding_has_its_code(rt: HostRuntime) {
+    for row in FINDINGS {
+        let found = code_of(rt.alloc(), row.0, row.1);
+        same(&rt, (row.0, found), (row.0, refused(row.2, 1)));
     }
-    Ok(())
 }

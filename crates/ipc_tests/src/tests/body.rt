@@ -1,20 +1,20 @@
 //! Requests and replies as they stand on a connection.
 
-use crate::tests::program::{PARTS, PROGRAM, parts_of};
+use crate::tests::program::{PROGRAM, SAID, Said, said_in};
+use crate::tests::same;
 use ep_defs::{Rule, Units};
 use ipc_body::{
     Asked, Reply, ReplyFault, Request, RequestFault, collect_size, put_collect, put_info, put_stop,
     read_reply, read_request,
 };
 use std::alloc::{AllocError, Global};
-use std::test::Fail;
 
 // CollectTracing2 for one megabyte, without a rundown: the provider P with keywords 4 and level 3.
 const COLLECT: [u8; 57] =
     *b"DOTNET_IPC_V1\0\x39\0\x02\x03\0\0\x01\0\0\0\x01\0\0\0\0\x01\0\0\0\x04\0\0\0\0\0\0\0\x03\0\0\0\x02\0\0\0P\0\0\0\0\0\0\0";
 
-// The size that the request for that session is said to have, and its bytes.
-fn collect_request(alloc: Global) -> Result<(Option<usize>, Vec<u8>), AllocError> {
+// The size that the request for that session is said to have, and whether its bytes are those.
+fn collect_request(alloc: Global) -> Result<(Option<usize>, bool), AllocError> {
     let rules = [Rule {
         name: Units::new([80].to_vec(alloc)?),
         keywords: 4,
@@ -29,33 +29,27 @@ fn collect_request(alloc: Global) -> Result<(Option<usize>, Vec<u8>), AllocError
     if size.is_some() {
         put_collect(&mut out, &asked)?;
     }
-    Ok((size, out))
+    Ok((size, out.as_slice() == COLLECT.as_slice()))
 }
 
 #[test]
-fn a_request_for_a_session_is_put_as_it_stands_on_a_connection(
-    rt: HostRuntime,
-) -> Result<(), Fail> {
-    let (size, bytes) = collect_request(rt.alloc())?;
-    assert_eq!(rt; (size, bytes.as_slice()), (Some(57), COLLECT.as_slice()));
-    Ok(())
+fn a_request_for_a_session_is_put_as_it_stands_on_a_connection(rt: HostRuntime) {
+    same(&rt, collect_request(rt.alloc()), Ok((Some(57), true)));
 }
 
-// The requests for the end of the session 7, and for what a process says of itself.
-fn short_requests(alloc: Global) -> Result<Vec<u8>, AllocError> {
+// Whether the requests for the end of the session 7, and for what a process says of itself, are put as they stand.
+fn are_short_requests(alloc: Global) -> Result<bool, AllocError> {
     let mut out = Vec::new(alloc);
     put_stop(&mut out, 7)?;
     put_info(&mut out)?;
-    Ok(out)
+    let want =
+        b"DOTNET_IPC_V1\0\x1c\0\x02\x01\0\0\x07\0\0\0\0\0\0\0DOTNET_IPC_V1\0\x14\0\x04\0\0\0";
+    Ok(out.as_slice() == want.as_slice())
 }
 
 #[test]
-fn short_requests_are_put_as_they_stand_on_a_connection(rt: HostRuntime) -> Result<(), Fail> {
-    let bytes = short_requests(rt.alloc())?;
-    let want =
-        b"DOTNET_IPC_V1\0\x1c\0\x02\x01\0\0\x07\0\0\0\0\0\0\0DOTNET_IPC_V1\0\x14\0\x04\0\0\0";
-    assert_eq!(rt; bytes.as_slice(), want.as_slice());
-    Ok(())
+fn short_requests_are_put_as_they_stand_on_a_connection(rt: HostRuntime) {
+    same(&rt, are_short_requests(rt.alloc()), Ok(true));
 }
 
 // The chunks of a session, whether it has stacks and a rundown, and the keywords and the level of its only rule.
@@ -104,23 +98,21 @@ fn a_request_for_a_session_is_read(rt: HostRuntime) {
         (9, 3, &COLLECT[20..], Err(RequestFault::UnknownCommand)),
     ];
     for (set, command, body, want) in table {
-        assert_eq!(rt; session_of(rt.alloc(), set, command, body), want);
+        same(&rt, session_of(rt.alloc(), set, command, body), want);
     }
 }
 
-// The parts of a program's reply, none for another reply.
-fn info_in(alloc: Global, bytes: &[u8]) -> Result<Vec<u64>, ReplyFault> {
+// What a program's reply says, none for another reply.
+fn info_in(alloc: Global, bytes: &[u8]) -> Result<Option<Said>, ReplyFault> {
     match read_reply(alloc, bytes, true)? {
-        Reply::Info(info) => Ok(parts_of(alloc, &info)?),
-        _ => Ok(Vec::new(alloc)),
+        Reply::Info(info) => Ok(Some(said_in(&info))),
+        _ => Ok(None),
     }
 }
 
 #[test]
-fn a_description_of_a_process_is_read(rt: HostRuntime) -> Result<(), Fail> {
-    let parts = info_in(rt.alloc(), &PROGRAM)?;
-    assert_eq!(rt; parts.as_slice(), PARTS.as_slice());
-    Ok(())
+fn a_description_of_a_process_is_read(rt: HostRuntime) {
+    same(&rt, info_in(rt.alloc(), &PROGRAM), Ok(Some(SAID)));
 }
 
 const SESSION: [u8; 28] = *b"DOTNET_IPC_V1\0\x1c\0\xff\0\0\0\x01\0\0\0\0\0\0\0";
@@ -149,22 +141,30 @@ fn reply_in(
 fn a_session_and_an_error_are_read_as_such(rt: HostRuntime) {
     let session = reply_in(rt.alloc(), &SESSION, false);
     let error = reply_in(rt.alloc(), &ERROR, true);
-    assert_eq!(rt;
-        [session, error],
-        [Ok(("session", 1)), Ok(("error", 0x8000_4005))]
-    );
+    same(&rt, session, Ok(("session", 1)));
+    same(&rt, error, Ok(("error", 0x8000_4005)));
+}
+
+// The description with a command line that has no end.
+fn open_program() -> [u8; 78] {
+    let mut open = PROGRAM;
+    open[48] = 1;
+    open
+}
+
+// The reply about a session with the wrong command, and of this size.
+fn wrong_session(size: u8) -> [u8; 28] {
+    let mut wrong = SESSION;
+    wrong[17] = 1;
+    wrong[14] = size;
+    wrong
 }
 
 // A description that is cut in its header and in its texts, and one whose command line has no end. Then a session with the
 // wrong command, and one that has the wrong size before it.
 #[test]
 fn a_reply_is_bad_at_its_first_wrong_field(rt: HostRuntime) {
-    let mut open = PROGRAM;
-    open[48] = 1;
-    let mut wrong = SESSION;
-    wrong[17] = 1;
-    let mut short = wrong;
-    short[14] = 27;
+    let (open, wrong, short) = (open_program(), wrong_session(28), wrong_session(27));
     let table: [(&[u8], bool, u64); 5] = [
         (&PROGRAM[..10], true, 10),
         (&PROGRAM[..50], true, 50),
@@ -174,6 +174,6 @@ fn a_reply_is_bad_at_its_first_wrong_field(rt: HostRuntime) {
     ];
     for (bytes, wants_info, at) in table {
         let read = reply_in(rt.alloc(), bytes, wants_info);
-        assert_eq!(rt; read, Err(ReplyFault::Bad { at }));
+        same(&rt, read, Err(ReplyFault::Bad { at }));
     }
 }

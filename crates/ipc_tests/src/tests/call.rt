@@ -1,10 +1,10 @@
-use crate::tests::program::{PARTS, PROGRAM, parts_of};
+use crate::tests::program::{PROGRAM, SAID, Said, said_in};
+use crate::tests::same;
 use ep_defs::{Rule, Units};
 use ipc_body::{Asked, collect_size};
 use ipc_call::{CallFault, collect, info, stop};
 use pt_io::{MemLink, MemSink, MemSource};
 use std::alloc::{AllocError, Global};
-use std::test::Fail;
 
 // The replies and the request of the worked examples, byte by byte.
 const SESSION: [u8; 28] = *b"DOTNET_IPC_V1\0\x1c\0\xff\0\0\0\x01\0\0\0\0\0\0\0";
@@ -58,27 +58,25 @@ fn ask(alloc: Global, link: &mut MemLink, output: &mut MemSink) -> Answer {
     collect(alloc, link, &asked, output)
 }
 
-// What the call answered, what its link took, and what the output took.
-#[derive(Drop)]
-struct Told {
-    answer: Answer,
-    request: Vec<u8>,
-    output: Vec<u8>,
+// What the call answered, whether its link took the request, how many bytes the output took, and whether all are the stream's.
+type Told = (Answer, bool, usize, bool);
+
+fn tell(answer: Answer, link: &MemLink, output: &MemSink) -> Told {
+    let taken = output.taken();
+    let is_stream = taken.iter().all(|byte| *byte == 7);
+    (
+        answer,
+        link.taken() == COLLECT.as_slice(),
+        taken.len(),
+        is_stream,
+    )
 }
 
-fn tell(
-    alloc: Global,
-    answer: Answer,
-    link: &MemLink,
-    output: &MemSink,
-) -> Result<Told, AllocError> {
-    let request = link.taken().to_vec(alloc)?;
-    let output = output.taken().to_vec(alloc)?;
-    Ok(Told {
-        answer,
-        request,
-        output,
-    })
+// Asks for it over a link, into an output whose write with this number fails.
+fn collect_over(alloc: Global, link: &mut MemLink, write: u64) -> Result<Told, AllocError> {
+    let mut output = MemSink::new([write].to_vec(alloc)?);
+    let answer = ask(alloc, link, &mut output);
+    Ok(tell(answer, link, &output))
 }
 
 // Asks for it over a link of these bytes. The read of the link and the write of the output with these numbers fail.
@@ -89,16 +87,16 @@ fn collected(
     read: u64,
     write: u64,
 ) -> Result<Told, AllocError> {
-    let mut link = link_of(alloc, bytes, most, read, 0)?;
-    let mut output = MemSink::new([write].to_vec(alloc)?);
-    let answer = ask(alloc, &mut link, &mut output);
-    tell(alloc, answer, &link, &output)
+    match &mut link_of(alloc, bytes, most, read, 0) {
+        Ok(link) => collect_over(alloc, link, write),
+        Err(_) => Err(AllocError),
+    }
 }
 
-// The answer alone.
-fn answer_to(alloc: Global, bytes: &[u8], read: u64, write: u64) -> Result<Answer, AllocError> {
-    let told = collected(alloc, bytes, 10, read, write)?;
-    Ok(told.answer)
+// The answer alone, where the read of the link and the write of the output with these numbers fail.
+fn answer_to(alloc: Global, read: u64, write: u64) -> Result<Answer, AllocError> {
+    let told = collected(alloc, &session_and_stream(), 10, read, write)?;
+    Ok(told.0)
 }
 
 // The answer, and how many bytes the output took.
@@ -108,7 +106,7 @@ fn answer_and_length(
     most: usize,
 ) -> Result<(Answer, usize), AllocError> {
     let told = collected(alloc, bytes, most, 0, 0)?;
-    Ok((told.answer, told.output.len()))
+    Ok((told.0, told.2))
 }
 
 // The same for a session's stream of this many bytes.
@@ -119,27 +117,24 @@ fn answer_of_stream(alloc: Global, count: usize) -> Result<(Answer, usize), Allo
 }
 
 #[test]
-fn collect_sends_57_bytes_and_copies_the_stream(rt: HostRuntime) -> Result<(), Fail> {
-    let told = collected(rt.alloc(), &session_and_stream(), 10, 0, 0)?;
-    assert_eq!(rt;
-        (told.answer, told.request.as_slice(), told.output.as_slice()),
-        (Ok(1), COLLECT.as_slice(), [7; 40].as_slice())
+fn collect_sends_57_bytes_and_copies_the_stream(rt: HostRuntime) {
+    let told = collected(rt.alloc(), &session_and_stream(), 10, 0, 0);
+    same(&rt, told, Ok((Ok(1), true, 40, true)));
+}
+
+#[test]
+fn a_stream_of_ten_megabytes_is_copied(rt: HostRuntime) {
+    let told = answer_of_stream(rt.alloc(), 10_000_028);
+    same(&rt, told, Ok((Ok(1), 10_000_000)));
+}
+
+#[test]
+fn nothing_is_copied_after_an_error_reply(rt: HostRuntime) {
+    same(
+        &rt,
+        answer_and_length(rt.alloc(), &REFUSED, 10),
+        Ok((REFUSAL, 0)),
     );
-    Ok(())
-}
-
-#[test]
-fn a_stream_of_ten_megabytes_is_copied(rt: HostRuntime) -> Result<(), Fail> {
-    let told = answer_of_stream(rt.alloc(), 10_000_028)?;
-    assert_eq!(rt; told, (Ok(1), 10_000_000));
-    Ok(())
-}
-
-#[test]
-fn nothing_is_copied_after_an_error_reply(rt: HostRuntime) -> Result<(), Fail> {
-    let told = answer_and_length(rt.alloc(), &REFUSED, 10)?;
-    assert_eq!(rt; told, (REFUSAL, 0));
-    Ok(())
 }
 
 // The answer where the call with this number fails, if the call with the last number is never made.
@@ -149,33 +144,33 @@ fn want_of(number: u64, last: u64, fault: CallFault) -> Answer {
 
 // The eighth read finds the end of the link's bytes, and the fourth write has the last of the stream.
 #[test]
-fn each_read_and_write_of_a_session_fails_in_turn(rt: HostRuntime) -> Result<(), Fail> {
-    let bytes = session_and_stream();
+fn each_read_and_write_of_a_session_fails_in_turn(rt: HostRuntime) {
     for number in 1..=9 {
-        let read = answer_to(rt.alloc(), &bytes, number, 0)?;
-        let write = answer_to(rt.alloc(), &bytes, 0, number)?;
-        assert_eq!(rt;
-            [read, write],
-            [
-                want_of(number, 9, CallFault::LinkFault),
-                want_of(number, 5, CallFault::WriteFault)
-            ]
+        let read = (number, answer_to(rt.alloc(), number, 0));
+        let write = (number, answer_to(rt.alloc(), 0, number));
+        same(
+            &rt,
+            read,
+            (number, Ok(want_of(number, 9, CallFault::LinkFault))),
+        );
+        same(
+            &rt,
+            write,
+            (number, Ok(want_of(number, 5, CallFault::WriteFault))),
         );
     }
-    Ok(())
 }
 
+// The request for the end of the session 7.
+const STOP: [u8; 28] = *b"DOTNET_IPC_V1\0\x1c\0\x02\x01\0\0\x07\0\0\0\0\0\0\0";
+
 // Asks for the end of the session of this id over a link of these bytes, whose write with this number fails. It tells the
-// answer, and what the link took.
-fn stopped(
-    alloc: Global,
-    bytes: &[u8],
-    id: u64,
-    write: u64,
-) -> Result<(Answer, Vec<u8>), AllocError> {
-    let mut link = link_of(alloc, bytes, 10, 0, write)?;
-    let answer = stop(alloc, &mut link, id);
-    Ok((answer, link.taken().to_vec(alloc)?))
+// answer, and whether the link took the request for the session 7.
+fn stopped(alloc: Global, bytes: &[u8], id: u64, write: u64) -> Result<(Answer, bool), AllocError> {
+    match &mut link_of(alloc, bytes, 10, 0, write) {
+        Ok(link) => Ok((stop(alloc, link, id), link.taken() == STOP.as_slice())),
+        Err(_) => Err(AllocError),
+    }
 }
 
 fn stop_answer(alloc: Global, bytes: &[u8], id: u64, write: u64) -> Result<Answer, AllocError> {
@@ -184,77 +179,68 @@ fn stop_answer(alloc: Global, bytes: &[u8], id: u64, write: u64) -> Result<Answe
 }
 
 #[test]
-fn a_stop_is_answered_with_the_replys_id(rt: HostRuntime) -> Result<(), Fail> {
-    let (answer, request) = stopped(rt.alloc(), &SESSION, 7, 0)?;
-    let want = b"DOTNET_IPC_V1\0\x1c\0\x02\x01\0\0\x07\0\0\0\0\0\0\0";
-    assert_eq!(rt; (answer, request.as_slice()), (Ok(1), want.as_slice()));
-    Ok(())
+fn a_stop_is_answered_with_the_replys_id(rt: HostRuntime) {
+    same(&rt, stopped(rt.alloc(), &SESSION, 7, 0), Ok((Ok(1), true)));
 }
 
 // A reply with a byte over is bad there, an error reply is the peer's error, and a request that is not written is a fault.
 #[test]
-fn a_stop_says_why_it_has_no_answer(rt: HostRuntime) -> Result<(), Fail> {
+fn a_stop_says_why_it_has_no_answer(rt: HostRuntime) {
     let table: [(&[u8], u64, u64, Answer); 3] = [
         (&LONGER, 1, 0, Err(CallFault::BadReply { at: 28 })),
         (&REFUSED, 7, 0, REFUSAL),
         (&SESSION, 1, 1, Err(CallFault::LinkFault)),
     ];
     for (bytes, id, write, want) in table {
-        assert_eq!(rt; stop_answer(rt.alloc(), bytes, id, write)?, want);
+        same(&rt, stop_answer(rt.alloc(), bytes, id, write), Ok(want));
     }
-    Ok(())
 }
 
 #[test]
-fn a_reply_cut_short_is_bad_at_its_end(rt: HostRuntime) -> Result<(), Fail> {
+fn a_reply_cut_short_is_bad_at_its_end(rt: HostRuntime) {
     for count in 0..28 {
-        let answer = stop_answer(rt.alloc(), &SESSION[..count], 1, 0)?;
+        let answer = stop_answer(rt.alloc(), &SESSION[..count], 1, 0);
         let at = count as u64;
-        assert_eq!(rt; answer, Err(CallFault::BadReply { at }));
+        same(&rt, answer, Ok(Err(CallFault::BadReply { at })));
     }
-    Ok(())
 }
 
-// Asks a program what it is. It tells the answer's parts.
-fn parts_said(alloc: Global, link: &mut MemLink) -> Result<Vec<u64>, CallFault> {
-    let program = info(alloc, link)?;
-    Ok(parts_of(alloc, &program)?)
+// What a program says over a link, and whether the link took the request.
+fn asked(alloc: Global, link: &mut MemLink) -> (Result<Said, CallFault>, bool) {
+    let said = match &info(alloc, link) {
+        Ok(program) => Ok(said_in(program)),
+        Err(fault) => Err(*fault),
+    };
+    let request = b"DOTNET_IPC_V1\0\x14\0\x04\0\0\0";
+    (said, link.taken() == request.as_slice())
 }
 
-// The parts that a program that answers with these bytes says, and what its link took.
-fn described(alloc: Global, bytes: &[u8]) -> Result<(Vec<u64>, Vec<u8>), CallFault> {
-    let mut link = link_of(alloc, bytes, 10, 0, 0)?;
-    let parts = parts_said(alloc, &mut link)?;
-    Ok((parts, link.taken().to_vec(alloc)?))
+// What a program that answers with these bytes says, and whether its link took the request.
+fn described(alloc: Global, bytes: &[u8]) -> Result<(Result<Said, CallFault>, bool), AllocError> {
+    match &mut link_of(alloc, bytes, 10, 0, 0) {
+        Ok(link) => Ok(asked(alloc, link)),
+        Err(_) => Err(AllocError),
+    }
 }
 
 // Why a program that answers with these bytes says nothing of itself.
 fn info_fault(alloc: Global, bytes: &[u8]) -> Result<Option<CallFault>, AllocError> {
-    let mut link = link_of(alloc, bytes, 10, 0, 0)?;
-    Ok(info(alloc, &mut link).err())
+    let (said, _) = described(alloc, bytes)?;
+    Ok(said.err())
 }
 
 #[test]
-fn a_program_says_what_it_is(rt: HostRuntime) -> Result<(), Fail> {
-    let (parts, request) = described(rt.alloc(), &PROGRAM)?;
-    assert_eq!(rt;
-        (parts.as_slice(), request.as_slice()),
-        (
-            PARTS.as_slice(),
-            b"DOTNET_IPC_V1\0\x14\0\x04\0\0\0".as_slice()
-        )
-    );
-    Ok(())
+fn a_program_says_what_it_is(rt: HostRuntime) {
+    same(&rt, described(rt.alloc(), &PROGRAM), Ok((Ok(SAID), true)));
 }
 
 #[test]
-fn a_programs_reply_cut_short_is_bad_at_its_end(rt: HostRuntime) -> Result<(), Fail> {
+fn a_programs_reply_cut_short_is_bad_at_its_end(rt: HostRuntime) {
     for count in 0..78 {
-        let fault = info_fault(rt.alloc(), &PROGRAM[..count])?;
+        let fault = info_fault(rt.alloc(), &PROGRAM[..count]);
         let at = count as u64;
-        assert_eq!(rt; fault, Some(CallFault::BadReply { at }));
+        same(&rt, fault, Ok(Some(CallFault::BadReply { at })));
     }
-    Ok(())
 }
 
 // What is wrong with the reply of 78 bytes where its header says this size: below the header's own 20 bytes the size, and else
@@ -269,12 +255,17 @@ fn fault_of_size(size: u8) -> Option<CallFault> {
     }
 }
 
-#[test]
-fn a_programs_reply_with_another_size_is_bad_there(rt: HostRuntime) -> Result<(), Fail> {
+// Why a program says nothing of itself whose reply has this size in its header.
+fn fault_with_size(alloc: Global, size: u8) -> Result<Option<CallFault>, AllocError> {
     let mut bytes = PROGRAM;
+    bytes[14] = size;
+    info_fault(alloc, &bytes)
+}
+
+#[test]
+fn a_programs_reply_with_another_size_is_bad_there(rt: HostRuntime) {
     for size in 0..=255 {
-        bytes[14] = size;
-        assert_eq!(rt; info_fault(rt.alloc(), &bytes)?, fault_of_size(size));
+        let fault = fault_with_size(rt.alloc(), size);
+        same(&rt, (size, fault), (size, Ok(fault_of_size(size))));
     }
-    Ok(())
 }

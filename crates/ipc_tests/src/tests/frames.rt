@@ -1,5 +1,6 @@
 //! Messages of the protocol as they stand on a connection.
 
+use crate::tests::same;
 use ipc_frame::{Framed, put_message, take_message};
 use std::alloc::{AllocError, Global};
 
@@ -25,13 +26,13 @@ fn a_request_without_a_body_is_found(rt: HostRuntime) {
         body: &[],
         used: 20,
     };
-    assert_eq!(rt; take_message(&INFO), want);
+    same(&rt, take_message(&INFO), want);
 }
 
 #[test]
 fn each_part_of_a_message_is_waited_for(rt: HostRuntime) {
     for there in 0..20usize {
-        assert_eq!(rt; take_message(&INFO[..there]), Framed::Need(20 - there));
+        same(&rt, take_message(&INFO[..there]), Framed::Need(20 - there));
     }
 }
 
@@ -45,30 +46,26 @@ fn a_longer_body_another_magic_and_a_small_size_are_found(rt: HostRuntime) {
         (14, 19, 16, Framed::BadSize(19)),
     ] {
         let other = changed(place, byte);
-        assert_eq!(rt; take_message(&other[..there]), want);
+        same(&rt, take_message(&other[..there]), want);
     }
 }
 
-// A message as it is put, with a byte behind it.
-fn put_and_more(alloc: Global) -> Result<Vec<u8>, AllocError> {
+// Whether a message is put as the request to stop, and found in that with a byte behind it.
+fn put_and_found(alloc: Global) -> Result<[bool; 2], AllocError> {
     let mut out = Vec::new(alloc);
     put_message(&mut out, 2, 1, &[7, 0, 0, 0, 0, 0, 0, 0])?;
+    let is_put = out.as_slice() == STOP.as_slice();
     out.push(9)?;
-    Ok(out)
-}
-
-#[test]
-fn what_is_put_is_found_before_other_bytes(rt: HostRuntime) -> Result<(), AllocError> {
-    let out = put_and_more(rt.alloc())?;
     let framed = Framed::Message {
         set: 2,
         command: 1,
         body: &[7, 0, 0, 0, 0, 0, 0, 0],
         used: 28,
     };
-    assert_eq!(rt;
-        (out.strip_suffix(&[9]), take_message(&out)),
-        (Some(STOP.as_slice()), framed)
-    );
-    Ok(())
+    Ok([is_put, take_message(&out) == framed])
+}
+
+#[test]
+fn what_is_put_is_found_before_other_bytes(rt: HostRuntime) {
+    same(&rt, put_and_found(rt.alloc()), Ok([true; 2]));
 }

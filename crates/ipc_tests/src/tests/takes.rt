@@ -1,5 +1,6 @@
 //! One message of a link, and no byte after it.
 
+use crate::tests::same;
 use ipc_take::{Lack, receive};
 use pt_io::{MemLink, MemSink, MemSource, Source};
 use std::alloc::{AllocError, Global};
@@ -46,36 +47,46 @@ fn is_first(
     Ok(first.is_some_and(|first| first.as_slice() == message) && rest.as_slice() == later)
 }
 
-#[test]
-fn a_message_is_read_and_no_byte_after_it(rt: HostRuntime) -> Result<(), AllocError> {
-    let mut bytes = COLLECT.to_vec(rt.alloc())?;
+// Whether the request is the message where more bytes are behind it, and those left.
+fn is_first_of_more(alloc: Global, most: usize, later: &[u8]) -> Result<bool, AllocError> {
+    let mut bytes = COLLECT.to_vec(alloc)?;
     bytes.extend_from_slice(b"more")?;
-    let cases: [(usize, &[u8]); 2] = [(65_536, b"more"), (1, b"m")];
-    for (most, later) in cases {
-        assert!(rt; is_first(rt.alloc(), &bytes, most, &COLLECT, later)?);
-    }
-    Ok(())
+    is_first(alloc, &bytes, most, &COLLECT, later)
 }
 
 #[test]
-fn of_a_message_that_is_cut_all_is_read(rt: HostRuntime) -> Result<(), AllocError> {
+fn a_message_is_read_and_no_byte_after_it(rt: HostRuntime) {
+    same(&rt, is_first_of_more(rt.alloc(), 65_536, b"more"), Ok(true));
+    same(&rt, is_first_of_more(rt.alloc(), 1, b"m"), Ok(true));
+}
+
+#[test]
+fn of_a_message_that_is_cut_all_is_read(rt: HostRuntime) {
     for there in 0..57usize {
         let cut = &COLLECT[..there];
-        assert!(rt; is_first(rt.alloc(), cut, 10, cut, b"")?);
+        let read = is_first(rt.alloc(), cut, 10, cut, b"");
+        same(&rt, (there, read), (there, Ok(true)));
     }
-    Ok(())
+}
+
+// Whether the header alone is read of the request with another byte in this place, and the next seven bytes are left.
+fn is_header(alloc: Global, place: usize, byte: u8) -> Result<bool, AllocError> {
+    let mut other = COLLECT;
+    if place < 57 {
+        other[place] = byte;
+    }
+    is_first(alloc, &other, 7, &other[..20], &other[20..27])
 }
 
 #[test]
-fn what_is_no_message_ends_with_its_header(rt: HostRuntime) -> Result<(), AllocError> {
+fn what_is_no_message_ends_with_its_header(rt: HostRuntime) {
     for (place, byte) in [(0usize, b'd'), (14, 19)] {
-        let mut other = COLLECT;
-        if place < 57 {
-            other[place] = byte;
-        }
-        assert!(rt; is_first(rt.alloc(), &other, 7, &other[..20], &other[20..27])?);
+        same(
+            &rt,
+            (place, is_header(rt.alloc(), place, byte)),
+            (place, Ok(true)),
+        );
     }
-    Ok(())
 }
 
 // The sizes of a message that says 65,535 bytes, and of what is left of 65,537.
@@ -89,19 +100,21 @@ fn longest(alloc: Global) -> Result<(usize, usize), AllocError> {
 }
 
 #[test]
-fn a_message_of_65535_bytes_is_read(rt: HostRuntime) -> Result<(), AllocError> {
-    assert_eq!(rt; longest(rt.alloc())?, (65_535, 2));
-    Ok(())
+fn a_message_of_65535_bytes_is_read(rt: HostRuntime) {
+    same(&rt, longest(rt.alloc()), Ok((65_535, 2)));
+}
+
+// The size of the message where the read with this number fails, 0 where it is refused.
+fn size_where_a_read_fails(alloc: Global, number: u64) -> Result<usize, AllocError> {
+    let (first, _) = first_message(alloc, &COLLECT, 10, number)?;
+    Ok(first.map_or(0, |first| first.len()))
 }
 
 #[test]
-fn each_read_fails_in_turn(rt: HostRuntime) -> Result<(), AllocError> {
+fn each_read_fails_in_turn(rt: HostRuntime) {
     for number in 1..=7 {
-        let (first, _) = first_message(rt.alloc(), &COLLECT, 10, number)?;
-        assert_eq!(rt;
-            first.map_or(0, |first| first.len()),
-            if number < 7 { 0 } else { 57 }
-        );
+        let size = size_where_a_read_fails(rt.alloc(), number);
+        let wanted = if number < 7 { 0 } else { 57 };
+        same(&rt, (number, size), (number, Ok(wanted)));
     }
-    Ok(())
 }
