@@ -1,4 +1,5 @@
 //! Definitions of events, configurations and writes: copies, which of them are valid, and what a session gets.
+use crate::tests::same;
 use ep_defs::limits::CHUNKS;
 use ep_defs::{
     Config, Duplicate, EventDef, Facts, FieldDef, FieldList, Items, Marks, Rule, Units, Write,
@@ -116,7 +117,7 @@ fn are_units(alloc: Global) -> Result<bool, AllocError> {
 fn a_list_gives_its_items_back_and_sets_one(rt: HostRuntime) {
     let alloc = rt.alloc();
     let told = (is_given_back(alloc), set_one(alloc), are_units(alloc));
-    assert!(rt; told == (Ok(true), Ok((3, true)), Ok(true)));
+    same(&rt, told, (Ok(true), Ok((3, true)), Ok(true)));
 }
 
 // Whether a copy can be made, and is like the value.
@@ -144,7 +145,7 @@ fn numbers_are_copied(rt: HostRuntime) {
         is_copied(alloc, &(7u64, 8u32)),
         is_copied(alloc, &marks),
     ];
-    assert!(rt; told == [true; 5]);
+    same(&rt, told, [true; 5]);
 }
 
 // How many copies are made of some definitions, and whether they are like them.
@@ -155,8 +156,10 @@ fn copied(alloc: Global, definitions: &[EventDef]) -> Result<(bool, usize), Allo
 
 // Whether a definition is copied, and how many fields it has.
 fn copied_definition(alloc: Global) -> Result<(bool, usize), AllocError> {
-    let def = with_a_field(alloc, 9)?;
-    Ok((is_copied(alloc, &def), def.fields.as_slice().len()))
+    match &with_a_field(alloc, 9) {
+        Ok(def) => Ok((is_copied(alloc, def), def.fields.as_slice().len())),
+        Err(_) => Err(AllocError),
+    }
 }
 
 // Whether two definitions are copied, and how many copies there are.
@@ -167,16 +170,24 @@ fn copied_list(alloc: Global) -> Result<(bool, usize), AllocError> {
 
 // Whether a configuration with both flags is copied, its flags, and how many rules it has.
 fn copied_config(alloc: Global) -> Result<([bool; 3], usize), AllocError> {
-    let asked = config(alloc, &[80], 1, 4, 16, true)?;
-    let told = [is_copied(alloc, &asked), asked.stackwalk, asked.rundown];
-    Ok((told, asked.rules.as_slice().len()))
+    match &config(alloc, &[80], 1, 4, 16, true) {
+        Ok(asked) => {
+            let told = [is_copied(alloc, asked), asked.stackwalk, asked.rundown];
+            Ok((told, asked.rules.as_slice().len()))
+        }
+        Err(_) => Err(AllocError),
+    }
 }
 
 // Whether a write is copied, and has its payload.
 fn copied_write(alloc: Global) -> Result<[bool; 2], AllocError> {
-    let write = write(alloc, 1, &[5, 6])?;
-    let has_payload = write.payload.as_slice() == [5, 6].as_slice();
-    Ok([is_copied(alloc, &write), has_payload])
+    match &write(alloc, 1, &[5, 6]) {
+        Ok(write) => {
+            let has_payload = write.payload.as_slice() == [5, 6].as_slice();
+            Ok([is_copied(alloc, write), has_payload])
+        }
+        Err(_) => Err(AllocError),
+    }
 }
 
 #[test]
@@ -186,7 +197,7 @@ fn a_copy_is_like_what_it_was_made_of(rt: HostRuntime) {
     let others = (copied_config(alloc), copied_write(alloc));
     let wanted = [Ok((true, 1)), Ok((true, 2))];
     let others_wanted = (Ok(([true; 3], 1)), Ok([true; 2]));
-    assert!(rt; (definitions, others) == (wanted, others_wanted));
+    same(&rt, (definitions, others), (wanted, others_wanted));
 }
 
 // A rule's keywords and level, an event's provider, level and keywords, and whether the rule, of the provider `P`, lets
@@ -216,16 +227,19 @@ fn is_admitted(
     level: u32,
     keywords: u64,
 ) -> Result<bool, AllocError> {
-    let config = config(alloc, &[80], asked, least, 16, false)?;
-    let def = definition(alloc, provider, 0, level, keywords, &[])?;
-    Ok(admits(&config, &def))
+    let config = config(alloc, &[80], asked, least, 16, false);
+    let def = definition(alloc, provider, 0, level, keywords, &[]);
+    match (&config, &def) {
+        (Ok(config), Ok(def)) => Ok(admits(config, def)),
+        _ => Err(AllocError),
+    }
 }
 
 #[test]
 fn keywords_level_and_provider_decide_what_a_session_gets(rt: HostRuntime) {
     for row in ADMITTED {
         let got = is_admitted(rt.alloc(), row.0, row.1, row.2, row.3, row.4);
-        assert!(rt; got == Ok(row.5));
+        same(&rt, got, Ok(row.5));
     }
 }
 
@@ -240,21 +254,26 @@ const VALID: &[(&[u16], &[(u32, u8)], bool)] = &[
 ];
 
 fn is_valid(alloc: Global, provider: &[u16], shapes: &[(u32, u8)]) -> Result<bool, AllocError> {
-    Ok(definition(alloc, provider, 0, 4, 0, shapes)?.is_valid())
+    match &definition(alloc, provider, 0, 4, 0, shapes) {
+        Ok(def) => Ok(def.is_valid()),
+        Err(_) => Err(AllocError),
+    }
 }
 
 #[test]
 fn an_event_needs_a_provider_and_fields_that_are_nested(rt: HostRuntime) {
     for row in VALID {
-        assert!(rt; is_valid(rt.alloc(), row.0, row.1) == Ok(row.2));
+        same(&rt, is_valid(rt.alloc(), row.0, row.1), Ok(row.2));
     }
 }
 
 // Whether an event with a field of the type code 9 is the same as another of this version with these fields.
 fn is_same(alloc: Global, version: u32, shapes: &[(u32, u8)]) -> Result<bool, AllocError> {
-    let def = with_a_field(alloc, 9)?;
-    let other = definition(alloc, &[80], version, 3, 4, shapes)?;
-    Ok(def.is_same(&other))
+    let other = definition(alloc, &[80], version, 3, 4, shapes);
+    match (&with_a_field(alloc, 9), &other) {
+        (Ok(def), Ok(other)) => Ok(def.is_same(other)),
+        _ => Err(AllocError),
+    }
 }
 
 #[test]
@@ -265,7 +284,7 @@ fn definitions_differ_by_one_field(rt: HostRuntime) {
         is_same(alloc, 2, &[(0, 10)]),
         is_same(alloc, 0, &[]),
     ];
-    assert!(rt; told == [Ok(true), Ok(false), Ok(false)]);
+    same(&rt, told, [Ok(true), Ok(false), Ok(false)]);
 }
 
 // The name of a configuration's one rule, its chunks, and whether it is valid.
@@ -278,18 +297,24 @@ const ASKED: &[(&[u16], u32, bool)] = &[
 ];
 
 fn can_be_asked(alloc: Global, name: &[u16], chunks: u32) -> Result<bool, AllocError> {
-    Ok(config(alloc, name, 1, 4, chunks, false)?.is_valid())
+    match &config(alloc, name, 1, 4, chunks, false) {
+        Ok(config) => Ok(config.is_valid()),
+        Err(_) => Err(AllocError),
+    }
 }
 
 #[test]
 fn a_configuration_needs_names_and_chunks(rt: HostRuntime) {
     for row in ASKED {
-        assert!(rt; can_be_asked(rt.alloc(), row.0, row.1) == Ok(row.2));
+        same(&rt, can_be_asked(rt.alloc(), row.0, row.1), Ok(row.2));
     }
 }
 
 fn can_be_made(alloc: Global, frames: usize) -> Result<bool, AllocError> {
-    Ok(write(alloc, frames, &[])?.fits())
+    match &write(alloc, frames, &[]) {
+        Ok(write) => Ok(write.fits()),
+        Err(_) => Err(AllocError),
+    }
 }
 
 // Whether facts are valid that have a command line of so many units, and two more units.
@@ -312,5 +337,5 @@ fn a_write_has_100_frames_and_facts_have_30000_units_at_most(rt: HostRuntime) {
     let alloc = rt.alloc();
     let writes = [can_be_made(alloc, 100), can_be_made(alloc, 101)];
     let facts = [are_facts(alloc, 29_998), are_facts(alloc, 29_999)];
-    assert!(rt; [writes, facts] == [[Ok(true), Ok(false)]; 2]);
+    same(&rt, [writes, facts], [[Ok(true), Ok(false)]; 2]);
 }

@@ -1,4 +1,5 @@
 //! What a thread of the sample program writes, and the events that it writes.
+use crate::tests::same;
 use ep_defs::EventDef;
 use pt_load::{Draft, JOBS, Plan, event_at, nth_write, sample_events, units};
 use std::alloc::{AllocError, Global};
@@ -19,7 +20,7 @@ fn a_thread_writes_the_events_in_turn(rt: HostRuntime) -> Result<(), AllocError>
     let mut draft = Draft::new(rt.alloc(), &plan, 2)?;
     for index in 0..32 {
         let wanted = (1 + (5 + index) % 8, (index % 4) as usize);
-        assert!(rt; event_and_frames(&mut draft, index) == wanted);
+        same(&rt, event_and_frames(&mut draft, index), wanted);
     }
     Ok(())
 }
@@ -71,7 +72,7 @@ fn a_write_has_its_thread_and_its_index(rt: HostRuntime) -> Result<(), AllocErro
     let mut draft = Draft::new(rt.alloc(), &plan, 1)?;
     for row in WRITES {
         let told = compare(&mut draft, row.0, row.2, row.3, row.4);
-        assert!(rt; told == (row.1, [true; 4]));
+        same(&rt, told, (row.1, [true; 4]));
     }
     Ok(())
 }
@@ -83,8 +84,10 @@ fn is_lent(
     draft: &mut Draft,
     index: u32,
 ) -> Result<(u32, bool), AllocError> {
-    let write = nth_write(alloc, plan, 3, index)?;
-    Ok((write.event, write == *draft.nth(index)))
+    match &nth_write(alloc, plan, 3, index) {
+        Ok(write) => Ok((write.event, *write == *draft.nth(index))),
+        Err(_) => Err(AllocError),
+    }
 }
 
 #[test]
@@ -97,7 +100,7 @@ fn a_write_of_its_own_is_the_lent_one(rt: HostRuntime) -> Result<(), AllocError>
     let mut draft = Draft::new(rt.alloc(), &plan, 3)?;
     for index in 0..16 {
         let told = is_lent(rt.alloc(), &plan, &mut draft, index);
-        assert!(rt; told == Ok((event_at(&plan, 3, index), true)));
+        same(&rt, told, Ok((event_at(&plan, 3, index), true)));
     }
     Ok(())
 }
@@ -110,7 +113,7 @@ fn is_named(alloc: Global) -> Result<bool, AllocError> {
 
 #[test]
 fn a_provider_has_a_unit_for_each_letter(rt: HostRuntime) {
-    assert!(rt; is_named(rt.alloc()) == Ok(true));
+    same(&rt, is_named(rt.alloc()), Ok(true));
 }
 
 // Whether each event is valid, its level, and how many fields it has.
@@ -141,5 +144,5 @@ fn are_as_told(alloc: Global) -> Result<bool, AllocError> {
 
 #[test]
 fn there_are_eight_events(rt: HostRuntime) {
-    assert!(rt; are_as_told(rt.alloc()) == Ok(true));
+    same(&rt, are_as_told(rt.alloc()), Ok(true));
 }

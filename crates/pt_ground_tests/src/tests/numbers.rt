@@ -1,4 +1,5 @@
 //! Numbers and texts as bytes, both ways.
+use crate::tests::same;
 use pt_num::{
     Taken, TakenText, put_counted, put_u16, put_u32, put_u64, put_utf16z, put_var32, put_var64,
     take_counted, take_u16, take_u32, take_u64, take_utf16z, take_var32, take_var64,
@@ -34,7 +35,11 @@ fn are_taken() -> [bool; 4] {
 
 #[test]
 fn numbers_stand_with_their_low_byte_first(rt: HostRuntime) {
-    assert!(rt; (are_put(rt.alloc()), are_taken()) == (Ok(true), [true; 4]));
+    same(
+        &rt,
+        (are_put(rt.alloc()), are_taken()),
+        (Ok(true), [true; 4]),
+    );
 }
 
 // Numbers of 32 bits, and their shortest varuints.
@@ -77,9 +82,9 @@ fn varuints_are_put_and_taken(rt: HostRuntime) {
             narrow(alloc, row.0, row.1),
             wide(alloc, u64::from(row.0), row.1),
         ];
-        assert!(rt; told == [Ok([true; 2]); 2]);
+        same(&rt, told, [Ok([true; 2]); 2]);
     }
-    assert!(rt; wide(alloc, u64::MAX, GREATEST) == Ok([true; 2]));
+    same(&rt, wide(alloc, u64::MAX, GREATEST), Ok([true; 2]));
 }
 
 // Bytes, and what is taken of them as a varuint of 32 and of 64 bits: that of the fifth row has a long form of zero.
@@ -107,7 +112,7 @@ const EDGES: &[(&[u8], Taken<u32>, Taken<u64>)] = &[
 #[test]
 fn varuints_are_refused_at_their_edges(rt: HostRuntime) {
     for row in EDGES {
-        assert!(rt; (take_var32(row.0), take_var64(row.0)) == (row.1, row.2));
+        same(&rt, (take_var32(row.0), take_var64(row.0)), (row.1, row.2));
     }
 }
 
@@ -128,7 +133,7 @@ fn is_counted(alloc: Global) -> Result<bool, AllocError> {
 #[test]
 fn texts_are_put_with_a_zero_unit_or_their_count(rt: HostRuntime) {
     let told = [is_ended(rt.alloc()), is_counted(rt.alloc())];
-    assert!(rt; told == [Ok(true); 2]);
+    same(&rt, told, [Ok(true); 2]);
 }
 
 // Bytes, and what is taken of them as a text that a zero unit ends, and as one with its count.
@@ -169,6 +174,10 @@ const TEXTS: &[(&[u8], TakenText, TakenText)] = &[
 #[test]
 fn texts_are_taken_up_to_their_end(rt: HostRuntime) {
     for row in TEXTS {
-        assert!(rt; (take_utf16z(row.0), take_counted(row.0)) == (row.1, row.2));
+        same(
+            &rt,
+            (take_utf16z(row.0), take_counted(row.0)),
+            (row.1, row.2),
+        );
     }
 }

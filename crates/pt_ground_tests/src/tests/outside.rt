@@ -2,6 +2,7 @@
 ghost use Rattle.std.specs.Prelude.{IfOk, All};
 ghost use Rattle.pt_io.specs.Memory.{IsUnused};
 
+use crate::tests::same;
 use pt_io::{
     Arrival, Caller, Clock, Dock, Failed, Gate, Link, MemCaller, MemDock, MemLink, MemSink,
     MemSource, Moment, OpenGate, Sink, Source, StepClock,
@@ -36,7 +37,7 @@ fn a_source_gives_its_bytes_in_pieces_of_most(rt: HostRuntime) {
         (Ok(1), [5, 0, 0, 0]),
         (Ok(0), [0, 0, 0, 0]),
     ];
-    assert!(rt; pieces(rt.alloc()) == Ok(wanted));
+    same(&rt, pieces(rt.alloc()), Ok(wanted));
 }
 
 // What three reads into one buffer of two bytes answer, and what it holds after each.
@@ -65,7 +66,7 @@ fn a_buffer_bounds_a_piece_and_a_read_behind_a_failing_one_goes_on(rt: HostRunti
     let told = [bounded(rt.alloc()), failing(rt.alloc())];
     let bounded = [(Ok(2), [7, 8]), (Ok(1), [9, 8]), (Ok(0), [9, 8])];
     let failing = [(Ok(2), [1, 2]), (Err(Failed), [1, 2]), (Ok(1), [3, 2])];
-    assert!(rt; told == [Ok(bounded), Ok(failing)]);
+    same(&rt, told, [Ok(bounded), Ok(failing)]);
 }
 
 // What four writes answer, and whether these bytes are taken then.
@@ -112,7 +113,7 @@ fn a_sink_takes_all_pieces_but_those_of_failing_writes(rt: HostRuntime) {
         Ok(([failed, Ok(()), failed, Ok(())], true)),
         Ok(([failed, failed, failed, Ok(())], true)),
     ];
-    assert!(rt; told == ((0, ([Ok(()); 4], true)), wanted));
+    same(&rt, told, ((0, ([Ok(()); 4], true)), wanted));
 }
 
 // A link that gives these bytes and takes all.
@@ -142,7 +143,7 @@ fn talk(alloc: Global) -> Result<([Result<usize, Failed>; 2], [u8; 4], [bool; 2]
 #[test]
 fn a_link_gives_and_takes(rt: HostRuntime) {
     let wanted = ([Ok(3), Ok(0)], [1, 2, 3, 0], [true; 2]);
-    assert!(rt; talk(rt.alloc()) == Ok(wanted));
+    same(&rt, talk(rt.alloc()), Ok(wanted));
 }
 
 // One link, which gives a byte.
@@ -221,12 +222,12 @@ fn calls(alloc: Global) -> Result<[bool; 3], AllocError> {
 
 #[test]
 fn a_caller_fails_where_it_is_told_and_where_no_link_is_left(rt: HostRuntime) {
-    assert!(rt; calls(rt.alloc()) == Ok([false, true, false]));
+    same(&rt, calls(rt.alloc()), Ok([false, true, false]));
 }
 
 #[test]
 fn a_clock_stands_still_and_a_gate_is_open(rt: HostRuntime) {
     let clock = StepClock::new(7);
-    assert!(rt; [clock.now(), clock.now()] == [7, 7]);
+    same(&rt, [clock.now(), clock.now()], [7, 7]);
     OpenGate.pass(Moment::Answered { conn: 1 });
 }

@@ -1,4 +1,5 @@
 //! Printed lines.
+use crate::tests::same;
 use pt_print::{put_end, put_number, put_text, put_units, put_word};
 use std::alloc::{AllocError, Global};
 
@@ -26,7 +27,7 @@ fn is_line(alloc: Global) -> Result<bool, AllocError> {
 
 #[test]
 fn numbers_stand_right_and_texts_as_they_are(rt: HostRuntime) {
-    assert!(rt; is_line(rt.alloc()) == Ok(true));
+    same(&rt, is_line(rt.alloc()), Ok(true));
 }
 
 fn are_escaped(alloc: Global) -> Result<bool, AllocError> {
@@ -37,5 +38,5 @@ fn are_escaped(alloc: Global) -> Result<bool, AllocError> {
 
 #[test]
 fn units_that_are_not_visible_are_escaped(rt: HostRuntime) {
-    assert!(rt; are_escaped(rt.alloc()) == Ok(true));
+    same(&rt, are_escaped(rt.alloc()), Ok(true));
 }

@@ -1,3 +1,4 @@
+use crate::tests::same;
 use pt_words::{one_text, run_texts, session_text, several_texts, trace_texts, two_texts};
 use std::alloc::{AllocError, Global};
 
@@ -261,27 +262,30 @@ fn runs() -> &'static [RunRow] {
 fn words_are_texts_by_their_number_and_begin_with_no_hyphen(rt: HostRuntime) {
     for (words, one, two, several) in positions() {
         let are = are_positions(rt.alloc(), *words, *one, *two, *several);
-        assert_eq!(rt; are, [true; 3], "{words:?}");
+        same(&rt, (words, are), (words, [true; 3]));
     }
 }
 
 #[test]
 fn the_session_is_behind_its_option_and_other_words_are_refused(rt: HostRuntime) {
     for (words, text) in sessions() {
-        assert!(rt; has_session(rt.alloc(), *words, *text), "{words:?}");
+        let is = has_session(rt.alloc(), *words, *text);
+        same(&rt, (words, is), (words, true));
     }
 }
 
 #[test]
 fn the_options_of_a_trace_are_anywhere_and_other_words_are_refused(rt: HostRuntime) {
     for (words, options) in traces() {
-        assert!(rt; has_trace(rt.alloc(), words, *options), "{words}");
+        let is = has_trace(rt.alloc(), words, *options);
+        same(&rt, (words, is), (words, true));
     }
 }
 
 #[test]
 fn the_options_of_a_run_are_anywhere_and_other_words_are_refused(rt: HostRuntime) {
     for (words, options) in runs() {
-        assert!(rt; has_run(rt.alloc(), words, *options), "{words}");
+        let is = has_run(rt.alloc(), words, *options);
+        same(&rt, (words, is), (words, true));
     }
 }
