@@ -1,6 +1,7 @@
 //! Locks in many threads. Each loop has a stated limit of turns.
 ghost use Rattle.std.specs.Prelude.{◌≡◌, ◌<◌, ℕ, Some, IfOk, slice_get, vec_len};
 
+use crate::tests::same;
 use ep_locks::{Guards, Locks};
 use std::alloc::{AllocError, Global};
 use std::sync::Wait;
@@ -134,7 +135,11 @@ fn raised_by_four<R: Threads + Wait + Sync>(rt: &R, four: &Four) {
 fn four_threads_take_two_locks_each(rt: HostRuntime) -> Result<(), AllocError> {
     let four = four_locks(rt.alloc())?;
     raised_by_four(&rt, &four);
-    assert_eq!(rt; (four.row.count(), four.counts(&rt)), (4, [2 * TURNS; 4]));
+    same(
+        &rt,
+        (four.row.count(), four.counts(&rt)),
+        (4, [2 * TURNS; 4]),
+    );
     Ok(())
 }
 
@@ -152,7 +157,7 @@ fn raised_beside_a_holder<R: Threads + Wait + Sync>(rt: &R, four: &Four) {
 fn a_holder_delays_no_other_number(rt: HostRuntime) -> Result<(), AllocError> {
     let four = four_locks(rt.alloc())?;
     raised_beside_a_holder(&rt, &four);
-    assert_eq!(rt; four.counts(&rt), [TURNS, 0, 2 * TURNS, TURNS]);
+    same(&rt, four.counts(&rt), [TURNS, 0, 2 * TURNS, TURNS]);
     Ok(())
 }
 
@@ -196,6 +201,6 @@ fn three_wait_for_one<R: Threads + Wait + Clock + Sync>(rt: &R, four: &Four) {
 fn each_waiter_is_woken(rt: HostRuntime) -> Result<(), AllocError> {
     let four = four_locks(rt.alloc())?;
     three_wait_for_one(&rt, &four);
-    assert_eq!(rt; four.counts(&rt), [4, 0, 0, 0]);
+    same(&rt, four.counts(&rt), [4, 0, 0, 0]);
     Ok(())
 }

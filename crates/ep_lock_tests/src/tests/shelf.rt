@@ -2,6 +2,7 @@
 ghost use Rattle.std.specs.Prelude.{◌≡◌};
 ghost use Rattle.ep_shelf.specs.Shelf.{IsOf};
 
+use crate::tests::same;
 use ep_shelf::{Shelf, Token};
 use std::alloc::{AllocError, Global};
 use std::collections::VecDeque;
@@ -125,7 +126,7 @@ fn read_while_placed<N: Named, R: Threads + Wait + Sync>(
 fn values_are_read_while_others_are_placed(rt: HostRuntime) -> Result<(), AllocError> {
     let shelf = Shelf::<u64>::new(rt.alloc())?;
     let counts = read_while_placed::<Brand, _>(&rt, rt.alloc(), shelf)?;
-    assert_eq!(rt; counts, (VALUES, VALUES, VALUES));
+    same(&rt, counts, (VALUES, VALUES, VALUES));
     Ok(())
 }
 
@@ -145,7 +146,6 @@ fn copied(rt: &(impl Wait + AllocGlobal)) -> Result<([usize; 3], [u64; 3]), Allo
 }
 
 #[test]
-fn a_copy_shows_the_same_value(rt: HostRuntime) -> Result<(), AllocError> {
-    assert_eq!(rt; copied(&rt)?, ([0, 1, 1], [7, 8, 8]));
-    Ok(())
+fn a_copy_shows_the_same_value(rt: HostRuntime) {
+    same(&rt, copied(&rt), Ok(([0, 1, 1], [7, 8, 8])));
 }

@@ -1,6 +1,7 @@
 //! Two owners that agree on a count, each under a lock of its own.
 ghost use Rattle.std.specs.Prelude.{◌≡◌, Some};
 
+use crate::tests::same;
 use ep_tie::{Blank, Left, Named, Right, Ties};
 use std::alloc::AllocError;
 use std::marker::Brand;
@@ -91,6 +92,6 @@ fn raised_by_four<N: Named + Send + Sync, R: Threads + Wait + Sync>(
 fn halves_agree_after_four_threads(rt: HostRuntime) -> Result<(), AllocError> {
     let blank = Blank::<u64>::new(rt.alloc(), 2)?;
     let raised = raised_by_four::<Brand, _>(&rt, blank);
-    assert_eq!(rt; raised, (1, 2, 4 * TURNS, 4 * TURNS));
+    same(&rt, raised, (1, 2, 4 * TURNS, 4 * TURNS));
     Ok(())
 }
