@@ -17,7 +17,7 @@ here, program = sys.argv[1], os.path.abspath(sys.argv[2])
 README = f"{here}/README.md"
 DOCUMENTS = [README, f"{here}/CONTRIBUTING.md", *sorted(glob.glob(f"{here}/docs/*.md"))]
 CRATES = {os.path.basename(it) for it in glob.glob(f"{here}/crates/*")}
-OURS = re.compile(r"\./tracepipe (?!(run|ps|collect|stop) )|xxd ")
+OURS = re.compile(r"\./tracepipe (?!(run|greet|ps|collect|stop) )|xxd ")
 # README.md is to be read at once.
 MOST_LINES, MOST_BYTES = 200, 14_000
 # Limits that documents say: the document, the words around the number, the file of the constant and its name.
@@ -47,6 +47,9 @@ LIMITS = [
     ("docs/COMMANDS.md", "| `--streamers K` | 1 to 64 | # |", "pt_run/src/limits.rt", "USUAL_STREAMERS"),
     ("docs/COMMANDS.md", "| `--lives L` | 1 to # |", "pt_run/src/limits.rt", "MOST_LIVES"),
     ("docs/COMMANDS.md", "| `--lives L` | 1 to 100 | # |", "pt_run/src/limits.rt", "USUAL_LIVES"),
+    ("docs/COMMANDS.md", "| `--calls M` | 1 to # |", "pt_run/src/limits.rt", "MOST_CALLS"),
+    ("docs/COMMANDS.md", "Each link begins with # bytes", "ipc_reverse/src/limits.rt", "ADVERT_BYTES"),
+    ("docs/COMMANDS.md", "is called again after # ms", "pt_system/src/caller.rt", "REST_MILLISECONDS"),
     ("docs/COMMANDS.md", "`long`, more than # events", "nt_write/src/limits.rt", "FRAMED_EVENTS"),
     ("docs/COMMANDS.md", "up to # at once", "ep_defs/src/limits.rt", "SESSIONS"),
     ("docs/COMMANDS.md", "a run takes # connections", "ep_journal/src/limits.rt", "CONNECTIONS"),

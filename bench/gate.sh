@@ -2,8 +2,8 @@
 # Runs the gate, or another command, and prints what each crate costs it: a table of processor-seconds of its proof, of the
 # proof of its tests, and of its wrong bodies, the dearest crate first, and their sums. It reads the system's times of the
 # prover's processes four times a second while they run, so what a process takes in its last quarter of a second is missed.
-# The gate proves and tries what this machine has not passed before, and `rt ci --anew` all of it; a command as
-# `rt must-fail NAME` or `rt all check` shows its own part.
+# A command as `rt must-fail NAME` or `rt all check` shows its own part of what the gate does. (There are kits whose gate
+# counts what passed on this machine before, and does all of it by `rt ci --anew`.)
 # It needs python3.
 #
 #   bench/gate.sh [COMMAND WORD...]

@@ -7,17 +7,19 @@ ghost use Rattle.ep_model.specs.History.{Past};
 ghost use Rattle.ep_defs.specs.Event.{is_valid_event};
 ghost use Rattle.ep_defs.specs.Definitions.{AreDistinct, definition_at};
 ghost use Rattle.ep_defs.specs.declared.limits.TheConstants.{EVENTS};
+ghost use Rattle.ep_rundown.specs.Rundown.{lacks_rundown};
 ghost use Rattle.ep_tables.specs.Judged.{step_of};
 ghost use Rattle.ep_core.specs.state.Works.{CanWork, IsNext, MakesWith, EndedFollow, Standing};
 
 use crate::ended::Ended;
 use crate::work::Work;
 use ep_defs::{EventDef, Marks, TraceInfo};
-use ep_model::laws::{finished_sessions_are_faithful, other_sessions_steps_do_not_matter};
+use ep_model::laws::finished_sessions_are_faithful;
 use ep_model::{Step, Unlawful};
 use ep_stream_laws::a_finished_session_stays;
 use ep_tables::Judged;
-use nt_laws::a_faithful_stream_is_found;
+use ep_told::{the_program_has_no_thread_0, what_is_told_is_a_session_s_own};
+use nt_laws::{a_faithful_stream_is_found, a_stream_with_a_rundown_is_faithful};
 use std::alloc::{AllocError, Global};
 use std::collections::BTreeMap;
 
@@ -47,7 +49,7 @@ impl Machine {
     ghost use Rattle.ep_model.specs.declared.step.Unlawful.{Unlawful};
     ghost use Rattle.ep_model.specs.History.{is_finished};
     ghost use Rattle.ep_model.specs.Lawful.{objection_to, first_unlawful};
-    ghost use Rattle.ep_model.specs.Entries.{entries};
+    ghost use Rattle.ep_told.specs.Told.{told_entries};
     ghost use Rattle.ep_model.specs.Marks.{marks_of};
     ghost use Rattle.ep_model.specs.Only.{only};
     ghost use Rattle.ep_core.specs.declared.machine.StepFault.TheVariants.{Unlawful as Refused, OutOfMemory};
@@ -55,11 +57,12 @@ impl Machine {
     ghost use Rattle.ep_core.specs.Streams.{IsStreamOf};
 
     /// A machine that has made no step. Its events are numbered from 1 in the order of their definitions, of which there
-    /// are at most `limits::EVENTS`, all valid and no two the same.
+    /// are at most `limits::EVENTS`, all valid, no two the same and none that of the rundown.
     pub fn new(alloc: Global, events: Vec<EventDef>, info: TraceInfo) -> Result<Machine, AllocError>
         requires few { length events.items ≤ EVENTS }
         requires valid { IsTrue (list_all is_valid_event events.items) }
         requires distinct { AreDistinct (definition_at events.items) }
+        requires lacks { IsTrue (lacks_rundown events.items) }
         ensures fresh { IfOk result (λ machine. Follows events.items info [] machine) }
         ensures counted { IfOk result (λ machine. steps_of machine ≡ 0) }
         ensures working { IfOk result (λ machine. has_failed machine ≡ false) }
@@ -159,11 +162,13 @@ impl Machine {
         // It depends on the session's own steps alone.
         ensures alone { (events : List EventDef) (info : TraceInfo) (past : Past)
             → Follows events info past self.now
-            → IfSome result (λ bytes. IsCanonical info (entries events session (only session past)) bytes.now) }
+            → IfSome result (λ bytes. IsCanonical info (told_entries events session (only session past)) bytes.now) }
     {
         finished_sessions_are_faithful();
+        the_program_has_no_thread_0();
         a_faithful_stream_is_found();
-        other_sessions_steps_do_not_matter();
+        a_stream_with_a_rundown_is_faithful();
+        what_is_told_is_a_session_s_own();
         let ended = self.ended.get(&session)?;
         Some(ended.sink.taken())
     }

@@ -6,6 +6,7 @@ ghost use Rattle.ep_defs.specs.Event.{is_valid_event};
 ghost use Rattle.ep_defs.specs.declared.event.EventDef.{EventDef as EventValue};
 ghost use Rattle.ep_defs.specs.declared.limits.TheConstants.{EVENTS as MOST_EVENTS};
 ghost use Rattle.ep_defs.specs.declared.session.TraceInfo.{TraceInfo as InfoValue};
+ghost use Rattle.ep_rundown.specs.Rundown.{lacks_rundown};
 ghost use Rattle.nt_write.specs.declared.fault.Fault.TheVariants.{TooLong};
 ghost use Rattle.ep_tables.specs.declared.judged.Judged.TheVariants.{Accept, Enter, Leave, Open, Begin, Show, End, Steal, Give, Point, Close, Finish};
 
@@ -42,6 +43,7 @@ impl Work {
         requires few { length events.items ≤ EVENTS }
         requires valid { IsTrue (list_all is_valid_event events.items) }
         requires distinct { AreDistinct (definition_at events.items) }
+        requires lacks { IsTrue (lacks_rundown events.items) }
         ensures { (info : InfoValue) → IfOk result (HasWorked events.items info []) }
     {
         a_machine_follows_its_start();

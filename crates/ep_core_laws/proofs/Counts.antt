@@ -38,7 +38,7 @@ events_all [] = refl
 events_all (e ∷ es) = omega (arith, events_all es)
 
 -- Of the entries since the last point at most all events have a stack.
-framed_from : (before : ℕ) (es : List Entry) → fold framed_after before es ≤ before + events_in es
+pub framed_from : (before : ℕ) (es : List Entry) → fold framed_after before es ≤ before + events_in es
 framed_from before [] = omega arith
 framed_from before (Event e ∷ es) = omega (arith, framed_one before e.stack, framed_from (framed_with before e.stack) es)
 framed_from before (Point p ∷ es) = omega (arith, framed_from 0 es)

@@ -9,10 +9,10 @@ ghost use Rattle.pt_io.specs.Memory.{SinkState};
 ghost use Rattle.nt_write.specs.Canonical.{IsCanonical};
 ghost use Rattle.ep_model.specs.declared.step.Step.{Step};
 ghost use Rattle.ep_model.specs.declared.step.Step.TheVariants.{Accept, Enter, Leave, Open, Begin, Show, End, Steal, Give, Point, Close, Finish};
-ghost use Rattle.ep_model.specs.Entries.{entries};
 ghost use Rattle.ep_model.specs.History.{Past};
 ghost use Rattle.ep_model.specs.Lawful.{IsLawful};
 ghost use Rattle.ep_model.specs.Marks.{marks_of};
+ghost use Rattle.ep_told.specs.Told.{told_entries};
 ghost use Rattle.ep_stream.specs.Steps.{ToldRows};
 ghost use Rattle.ep_stream.specs.Session.{rest_of};
 ghost use Rattle.ep_stream.specs.declared.session.SessionEnd.{SessionEnd};
@@ -27,9 +27,10 @@ ghost use Rattle.ep_core_laws.specs.Works.{Works, WorksBefore};
 
 use ep_model::laws::{a_budget_can_be_counted, lawful_lists_are_limited};
 use ep_stream_laws::{
-    a_closed_thread_is_marked, a_new_session_keeps_nothing, a_point_forgets_closed_threads,
-    an_opened_thread_is_named, entries_are_what_was_told, other_steps_change_nothing_kept,
-    the_last_marks_are_all, what_is_given_back_is_not_in_hand, what_is_stolen_is_told,
+    a_closed_thread_is_marked, a_finished_session_tells_its_last_entries,
+    a_new_session_keeps_nothing, a_point_forgets_closed_threads, an_opened_thread_is_named,
+    entries_are_what_was_told, other_steps_change_nothing_kept, the_last_marks_are_all,
+    what_is_given_back_is_not_in_hand, what_is_stolen_is_told,
 };
 
 // ---- the start
@@ -191,7 +192,7 @@ pub fn a_machine_follows_a_finish()
 }
 
 /// A session that finishes leaves the marks that the steps so far say (`marks`), and where its end is the program's,
-/// the one stream of its entries (`stream`).
+/// the one stream of its entries, with the section of a rundown where it was asked for one (`stream`).
 pub fn a_session_ends_with_its_entries()
     ensures marks { (events : List EventDef) (info : TraceInfo) (past : Past) (session stamp : ℕ)
         (tables : Tables) (begun : List (Option Write)) (end : SessionEnd SinkState)
@@ -203,10 +204,10 @@ pub fn a_session_ends_with_its_entries()
         → WorksBefore events info (Finish session stamp) past tables begun
         → EndsAs session stamp tables end
         → end.fate ≡ ProgramEnd
-        → IsCanonical info (entries events session (Finish session stamp ∷ past)) end.sink.taken }
+        → IsCanonical info (told_entries events session (Finish session stamp ∷ past)) end.sink.taken }
 {
     the_last_marks_are_all();
-    entries_are_what_was_told();
+    a_finished_session_tells_its_last_entries();
 }
 
 // ---- what a step needs

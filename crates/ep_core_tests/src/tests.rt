@@ -1,5 +1,6 @@
-ghost use Rattle.std.specs.Prelude.{◌≡◌, ◌∷◌, [], IsTrue, IfOk};
-ghost use Rattle.ep_defs.specs.Event.{is_valid_event};
+ghost use Rattle.std.specs.Prelude.{◌≡◌, ◌∷◌, [], not, IsTrue, IfOk};
+ghost use Rattle.ep_defs.specs.Event.{is_valid_event, is_same_event};
+ghost use Rattle.ep_rundown.specs.Rundown.{rundown_def};
 ghost use Rattle.ep_core.specs.Machine.{steps_of};
 
 use ep_core::{Machine, StepFault};
@@ -18,7 +19,8 @@ fn text(alloc: Global, unit: u16) -> Result<Units, AllocError>
 
 // The event E of P, without fields.
 fn event(alloc: Global) -> Result<EventDef, AllocError>
-    ensures { IfOk result (λ def. IsTrue (is_valid_event def)) }
+    ensures valid { IfOk result (λ def. IsTrue (is_valid_event def)) }
+    ensures other { IfOk result (λ def. IsTrue (not (is_same_event def rundown_def))) }
 {
     let provider = text(alloc, 0x50)?;
     let name = text(alloc, 0x45)?;

@@ -37,7 +37,7 @@ pub struct Config {
     pub chunks: u32,
     /// Whether the stream has the stack of each event.
     pub stackwalk: bool,
-    /// Whether the stream ends with a rundown of the program's methods.
+    /// Whether the stream ends with a rundown of the definitions that it used.
     pub rundown: bool,
 }
 

@@ -1,11 +1,14 @@
 -- No more events with a stack were told than events were taken of all threads.
 use Rattle.std.proofs.Common.{◌≡◌, ℕ, ◌+◌, ◌<◌, ◌≤◌, true, false, inl, inr, List, [], ◌∷◌, ◌++◌, length, map, Option, None, refl, sym, subst, arith}
-use Rattle.std.specs.Prelude.{fold, ◌==◌, if◌then◌else◌}
+use Rattle.std.specs.Prelude.{Bool, fold, ◌==◌, if◌then◌else◌}
 use Rattle.std.specs.List.{sum_by, AllByRecursion}
 use Rattle.std.proofs.lemmas.Bool.{eq-eqb, eqb-true, or_cases, or_left, or_right}
+use Rattle.std.proofs.lemmas.Grind.{fold-append}
 use Rattle.std.proofs.lemmas.List.Sums.{sum_by-cons, sum_by-le-sum_by}
 use Rattle.ep_defs.specs.declared.session.Marks.{Marks}
-use Rattle.ep_defs.specs.Entry.{EventEntry, Entry, Event, Point}
+use Rattle.ep_defs.specs.declared.event.EventDef.{EventDef}
+use Rattle.ep_defs.specs.Entry.{EventEntry, PointEntry, Entry, Event, Point}
+use Rattle.ep_rundown.specs.Rundown.{describing_from, ending, naming, section, used}
 use Rattle.ep_model.specs.Faithful.{contents_of, events_of}
 use Rattle.ep_model.proofs.Lists.{has}
 use Rattle.ep_slot.specs.Hand.{HandState}
@@ -15,6 +18,7 @@ use Rattle.nt_write.proofs.Entries.{framed_one}
 use Rattle.ep_stream.specs.declared.opened.Named.{Named}
 use Rattle.ep_live_laws.specs.Tracing.{Account, Keeps, TellsPart, Watch, marks_by, speaks_of}
 use Rattle.ep_live_laws.proofs.Ends.{marks-all}
+use Rattle.ep_live_laws.proofs.Part.{each-append, each-front}
 
 -- A sum is less where one of its terms is less and none is more.
 sum-less : (f g : ℕ → ℕ) (x : ℕ) (xs : List ℕ) → ((t : ℕ) → f t ≤ g t) → f x < g x → has x xs ≡ true → sum_by f xs < sum_by g xs
@@ -70,3 +74,30 @@ framed-taken watch opened accounts hands named marks told keeps none part =
     let taken = told-taken accounts told opened (λ t is. part.few t is) in
     let count = framed-told 0 opened told part.alone in
     subst (λ ms. framed told ≤ sum_by (λ (m : Marks). m.taken) ms) (sym all) (omega (arith, taken, count))
+
+-- ---- what comes at the end
+
+-- The entry is no event with a stack.
+abbrev IsBare : Entry → Type 0
+IsBare (Event e) = e.stack ≡ []
+IsBare (Point p) = Unit {0}
+
+bare-framed : (before : ℕ) (more : List Entry) → AllByRecursion IsBare more → fold framed_after before more ≤ before
+bare-framed before [] bare = omega arith
+bare-framed before (Event e ∷ more) bare = rw bare.0 (bare-framed before more bare.1)
+bare-framed before (Point p ∷ more) bare = let rest = bare-framed 0 more bare.1 in omega (arith, rest)
+
+describing-bare : (stamp id : ℕ) (defs : List EventDef) → AllByRecursion IsBare (describing_from stamp id defs)
+describing-bare stamp id [] = tt
+describing-bare stamp id (def ∷ defs) = (refl, describing-bare stamp (id + 1) defs)
+
+ending-bare : (rundown : Bool) (told : List Entry) (point : PointEntry) → AllByRecursion IsBare (ending rundown told point)
+ending-bare false told point = (tt, tt)
+ending-bare true told point =
+    each-append IsBare (section point.stamp told) (Point (naming (length (used told)) point) ∷ []) (describing-bare point.stamp 1 (used told)) (tt, tt)
+
+-- No event at the end has a stack.
+pub framed-ending : (rundown : Bool) (told : List Entry) (point : PointEntry) (done rest : List Entry) → done ++ rest ≡ ending rundown told point → framed (told ++ done) ≤ framed told
+framed-ending rundown told point done rest is =
+    let bare = each-front IsBare done rest (subst (AllByRecursion IsBare) (sym is) (ending-bare rundown told point)) in
+    subst (λ n. n ≤ framed told) (sym (fold-append framed_after 0 told done)) (bare-framed (framed told) done bare)

@@ -10,5 +10,6 @@ mod Keeping
 mod Numbered
 mod Part
 mod Points
+mod Rundown
 mod Shares
 mod Sweeps

@@ -93,20 +93,23 @@ pub record ClosedIn {S : Type 0} (side : Sink S) (watch : Watch) (old new : Sess
 
 -- ---- the end
 
--- The session, which was opened on these threads of a run and is open on none, has ended.
+-- The session, which was opened on these threads of a run and is open on none, has ended with the definitions of the
+-- program's events.
 pub record EndsOver {S : Type 0} (side : Sink S) (watch : Watch) (opened : List ℕ) (handed : Fate) (session : Session S) (fate : Fate) (sink : S) : Type 0 where
   pub told : List Entry
+  pub given : List EventDef
   pub stamp : ℕ
+  pub events : given ≡ watch.events
   pub tracing : IsTracing side watch opened told session
   pub shut : (row : ℕ) → hand_on session row ≡ None
-  pub ended : Ended side.tells_taken side.taken side.write_faults stamp handed session fate sink
+  pub ended : Ended side.tells_taken side.taken side.write_faults given stamp handed session fate sink
 
 -- What such a session comes to.
 pub record IsOutcome {S : Type 0} (side : Sink S) (watch : Watch) (opened : List ℕ) (handed : Fate) (marks : List Marks) (fate : Fate) (sink : S) : Type 0 where
   -- its marks are those of the threads
   pub marks_are : AreMarks watch.events watch.config watch.writes opened marks
   -- where it ended well its sink took the stream of all that the threads wrote and it got, less what its marks count as
-  -- refused
+  -- refused, with the section where it was asked for a rundown
   pub whole : is_fault fate ≡ false → ((thread : ℕ) → length (watch.writes thread) ≤ WRITES) → TookTraced side watch.before watch.info watch.events watch.config watch.writes marks sink
   -- whatever its fate is, it took what begins the stream of a part of that
   pub part : TookTracedPart side watch.before watch.info watch.events watch.config watch.writes marks sink

@@ -74,6 +74,10 @@ pub record ArePart (events : List EventDef) (config : Config) (writes : ℕ → 
 
 -- ---- the marks
 
+-- The marks are of threads that write: these have numbers above 0.
+abbrev pub AreOfThreads : List Marks → Type 0
+AreOfThreads marks = AllByRecursion (λ mark. 0 < mark.thread) marks
+
 -- The marks are those of the threads on which the session was opened, in their order, and each counts what the session
 -- gets of its thread's writes.
 pub record AreMarks (events : List EventDef) (config : Config) (writes : ℕ → List Write) (opened : List ℕ) (marks : List Marks) : Type 0 where

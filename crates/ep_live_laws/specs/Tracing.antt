@@ -10,6 +10,7 @@ use Rattle.ep_defs.specs.declared.session.TraceInfo.{TraceInfo}
 use Rattle.ep_defs.specs.declared.session.Write.{Write}
 use Rattle.ep_defs.specs.Entry.{Entry, Event, Point}
 use Rattle.ep_defs.specs.Gaps.{Sighting, Known, sightings, missing}
+use Rattle.ep_rundown.specs.Rundown.{with_section}
 use Rattle.ep_model.specs.Faithful.{events_of, last_sighting}
 use Rattle.ep_model.specs.History.{admitted_from}
 use Rattle.ep_slot.specs.Hand.{HandState}
@@ -21,7 +22,7 @@ use Rattle.ep_stream.specs.declared.session.Fate.{Fate}
 use Rattle.ep_stream.specs.declared.session.Fate.TheVariants as fate
 use Rattle.ep_stream.specs.declared.session.Session.{Session}
 use Rattle.ep_stream.specs.Session.{writer_of, fault_of, hand_on, rest_of}
-use Rattle.ep_stream.specs.Telling.{IsTelling}
+use Rattle.ep_stream.specs.Telling.{IsFront, IsTelling}
 use Rattle.ep_live_laws.specs.Traced.{AreInPlace, ArePart, AreRising, AreTraced, contents_from}
 
 -- ---- a session over a run
@@ -166,15 +167,18 @@ is_fault fate.LinkFault = true
 is_fault fate.TooLong = true
 is_fault fate.OutOfMemory = true
 
--- The sink took, behind what it had taken before, the one stream of entries that trace the threads.
+-- The sink took, behind what it had taken before, the one stream of entries that trace the threads, with the section of a
+-- rundown before the last point where the configuration asks for one.
 pub record TookTraced {S : Type 0} (side : Sink S) (before : List ℕ) (info : TraceInfo) (events : List EventDef) (config : Config) (writes : ℕ → List Write) (marks : List Marks) (sink : S) : Type 0 where
   pub entries : List Entry
-  pub stream : TookStream side.tells_taken side.taken before info entries sink
+  pub stream : TookStream side.tells_taken side.taken before info (with_section config.rundown entries) sink
   pub traced : AreTraced events config writes marks entries
 
--- The sink took, behind what it had taken before, what begins the stream of entries that trace a part of what the
--- threads wrote, or all of it.
+-- The sink took, behind what it had taken before, what begins the stream of what is told first of such entries, which trace
+-- a part of what the threads wrote, or all of it.
 pub record TookTracedPart {S : Type 0} (side : Sink S) (before : List ℕ) (info : TraceInfo) (events : List EventDef) (config : Config) (writes : ℕ → List Write) (marks : List Marks) (sink : S) : Type 0 where
   pub entries : List Entry
-  pub stream : TookPart side.tells_taken side.taken before info entries sink
   pub part : ArePart events config writes marks entries
+  pub told : List Entry
+  pub front : IsFront told (with_section config.rundown entries)
+  pub stream : TookPart side.tells_taken side.taken before info told sink

@@ -12,7 +12,10 @@ ghost use Rattle.ep_live_laws.specs.Calls.{IsNew, OpensOn, TakesNothing, SweptIn
 ghost use Rattle.ep_live_laws.specs.Streams.{TracesAreFound, PartsAreFound};
 ghost use Rattle.ep_live_laws.specs.Tracing.{IsOneOf, IsTracing, Watch};
 
-use nt_laws::{a_faithful_stream_is_found, a_part_of_a_stream_is_found};
+use ep_rundown::the_section_stands_before_the_last_point;
+use nt_laws::{
+    a_faithful_stream_is_found, a_part_of_a_stream_is_found, a_stream_with_a_rundown_is_faithful,
+};
 use pt_io::Sink;
 
 /// A session that was just started was opened on no thread and has told nothing.
@@ -64,19 +67,23 @@ pub fn a_session_that_ends_has_traced<S: Sink>()
     ensures { (watch : Watch) (opened : List ℕ) (handed fate : Fate) (old : Session S) (sink : S)
         → EndsOver S.Sink watch opened handed old fate sink
         → IsOutcome S.Sink watch opened handed (rest_of old).marks fate sink }
-{}
+{
+    the_section_stands_before_the_last_point();
+}
 
-/// The stream of entries that trace the threads is found whole, and its items tell of each thread what it wrote and
-/// the session got, less the writes whose numbers are missing.
+/// The stream of entries that trace the threads, with the section of a rundown where one is asked for, is found whole,
+/// and its items, without what is the rundown's, tell of each thread what it wrote and the session got, less the writes
+/// whose numbers are missing.
 pub fn a_traced_stream_is_found()
     ensures { (events : List EventDef) (config : Config) (writes : ℕ → List Write)
         → TracesAreFound events config writes }
 {
     a_faithful_stream_is_found();
+    a_stream_with_a_rundown_is_faithful();
 }
 
-/// What begins the stream of entries that trace a part of what the threads wrote, or is all of it, is read as far as it
-/// goes: nothing in it is refused, and its items stand in order and tell the first entries.
+/// What begins the stream of what is told first of entries that trace a part of what the threads wrote, or is all of it,
+/// is read as far as it goes: nothing in it is refused, and its items stand in order and tell the first entries.
 pub fn a_part_is_found()
     ensures { (events : List EventDef) (config : Config) (writes : ℕ → List Write)
         → PartsAreFound events config writes }

@@ -1,17 +1,16 @@
 -- What is wrong with an `event` line.
 use Rattle.std.proofs.Common.{◌≡◌, ◌==◌, ◌&&◌, ◌≤◌, ◌+◌, ℕ, Bool, true, false, nat_le, if◌then◌else◌, List, [], ◌∷◌, length, Option, Some, None, option_map, Result, Err, refl, sym, ap, ◌∙◌, arith}
 use Rattle.std.specs.Option.{option_or}
-use Rattle.std.specs.List.{list_any}
 use Rattle.std.proofs.lemmas.Bool.Decides.{nat_tests}
 use Rattle.ep_defs.specs.declared.event.EventDef.{EventDef}
-use Rattle.ep_defs.specs.Event.{is_valid_event, is_same_event}
+use Rattle.ep_defs.specs.Event.{is_valid_event}
 use Rattle.ep_defs.specs.declared.limits.TheConstants.{EVENTS}
 use Rattle.ep_plan.specs.declared.cursor.Cursor.{Cursor}
 use Rattle.ep_plan.specs.declared.line.LineFault.{LineFault}
 use Rattle.ep_plan.specs.declared.line.LineFault.TheVariants.{Bad as BadLine}
 use Rattle.ep_plan.specs.declared.line.LineKind.{LineKind}
 use Rattle.ep_plan.specs.declared.line.LineKind.TheVariants as kind
-use Rattle.ep_plan.specs.Lines.{Part, Index, Bad, bad_at, first_bad, fault_of, order_fault, number_of, event_parts, definition_of, definition_fault, definition_bad, event_bad}
+use Rattle.ep_plan.specs.Lines.{Part, Index, Bad, bad_at, first_bad, fault_of, order_fault, number_of, event_parts, definition_of, is_there, definition_fault, definition_bad, event_bad}
 use Rattle.ep_plan.specs.Cursor.{left, bad_left, BeginsAt}
 
 -- ---- from the parts of the line
@@ -93,11 +92,11 @@ judged-good true true h = cc
 judged-good true false h = (refl, refl)
 judged-good false same h = cc
 
-pub event-facts : (events : List EventDef) (stepped : Bool) (past : ℕ) (number : List ℕ) (words : List (List ℕ)) (index : ℕ) (def : EventDef) → event_bad events stepped past (number ∷ words) ≡ None → number_of number ≡ Some index → definition_of words ≡ Some def → (stepped ≡ false) × (index ≡ length events + 1) × (index ≤ EVENTS) × (is_valid_event def ≡ true) × (list_any (λ other. is_same_event other def) events ≡ false)
+pub event-facts : (events : List EventDef) (stepped : Bool) (past : ℕ) (number : List ℕ) (words : List (List ℕ)) (index : ℕ) (def : EventDef) → event_bad events stepped past (number ∷ words) ≡ None → number_of number ≡ Some index → definition_of words ≡ Some def → (stepped ≡ false) × (index ≡ length events + 1) × (index ≤ EVENTS) × (is_valid_event def ≡ true) × (is_there events def ≡ false)
 event-facts events stepped past number words index def good spelled defined =
     let parts = event-good events stepped past (number ∷ words) good in
     let order = index-good past 7 (length events + 1) _ number words index parts.1 spelled in
     let whole = sym (definition-by events (number ∷ words) words number def (definition_fault events def) refl defined refl) ∙ parts.2 in
     let fault = map-none (definition_fault events def) 1 whole in
-    let valid = judged-good (is_valid_event def) (list_any (λ other. is_same_event other def) events) fault in
+    let valid = judged-good (is_valid_event def) (is_there events def) fault in
     (parts.0, order.0, order.1, valid.0, valid.1)

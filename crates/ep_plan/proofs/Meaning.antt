@@ -1,9 +1,8 @@
 -- A line means one thing.
 use Rattle.std.proofs.Common.{◌≡◌, inl, inr, ℕ, ◌+◌, ◌*◌, ◌≤◌, Bool, true, false, List, [], ◌∷◌, length, get_or, Option, Some, None, refl, sym, ap, ◌∙◌, arith, codes, IsTrue, nat_lt, if◌then◌else◌}
-use Rattle.std.specs.List.{list_any}
 use Rattle.ep_defs.specs.declared.event.EventDef.{EventDef}
 use Rattle.ep_defs.specs.declared.session.Config.{Config}
-use Rattle.ep_defs.specs.Event.{is_valid_event, is_same_event}
+use Rattle.ep_defs.specs.Event.{is_valid_event}
 use Rattle.ep_model.specs.declared.step.Step.{Step}
 use Rattle.ep_model.specs.declared.step.Step.TheVariants as step
 use Rattle.ep_defs.specs.declared.limits.TheConstants.{EVENTS}
@@ -11,7 +10,7 @@ use Rattle.ep_plan.specs.declared.limits.TheConstants.{LINE_BYTES}
 use Rattle.ep_plan.specs.declared.line.Line.{Line}
 use Rattle.ep_plan.specs.declared.line.Line.TheVariants as line
 use Rattle.ep_plan.specs.Words.{words_of, rule_in, all_in}
-use Rattle.ep_plan.specs.Lines.{number_of, flag_of, Spells, Means, IsLine, is_blank, Bad, bad_at, bad_of, words_bad, event_bad}
+use Rattle.ep_plan.specs.Lines.{number_of, flag_of, is_there, AsksFor, Spells, Means, IsLine, is_blank, Bad, bad_at, bad_of, words_bad, event_bad}
 use Rattle.ep_plan.proofs.EventWords.{event-facts}
 use Rattle.ep_plan.specs.declared.line.LineKind.TheVariants as kind
 
@@ -37,9 +36,14 @@ lead_of (step.Point s stamp) = lead (codes "poi" ∷ [])
 lead_of (step.Close s t) = lead (codes "clo" ∷ [])
 lead_of (step.Finish s stamp) = lead (codes "fin" ∷ [])
 
+asked-lead : (words : List (List ℕ)) (a b : List ℕ) (rules : List (List ℕ)) (stackwalk rundown : Bool) → AsksFor words a b rules stackwalk rundown → lead words ≡ lead (codes "acc" ∷ [])
+asked-lead words a b rules stackwalk rundown (inl two) = ap lead two.0
+asked-lead words a b rules stackwalk rundown (inr (inl three)) = ap lead three.1
+asked-lead words a b rules stackwalk rundown (inr (inr four)) = ap lead four.2
+
 leads : (words : List (List ℕ)) (s : Step) → Spells words s → lead words ≡ lead_of s
 unfolding Spells
-leads words (step.Accept s config) h = elim h.3 [ inl accept ↦ ap lead accept.0 | inr accept3 ↦ ap lead accept3.1 ]
+leads words (step.Accept s config) h = asked-lead words h.0 h.1 h.2 config.stackwalk config.rundown h.3
 leads words (step.Enter t) h = ap lead h.1
 leads words (step.Leave t) h = ap lead h.1
 leads words (step.Open s t) h = ap lead h.2
@@ -56,9 +60,43 @@ same-config : (a b : Config) → a.rules ≡ b.rules → a.chunks ≡ b.chunks �
 same-config a b rules chunks stackwalk rundown =
     λ i. record { rules = rules i; chunks = chunks i; stackwalk = stackwalk i; rundown = rundown i }
 
--- An `accept` line is no `accept3` line.
-accept-accept3 : (words others : List (List ℕ)) → codes "accept" ∷ words ≡ codes "accept3" ∷ others → ⊥
-accept-accept3 words others e = absurd (omega (arith, ap (λ line. length (first_of line)) e))
+-- The seventh byte of the first word, which tells the lines of an Accept apart.
+abbrev seventh : List (List ℕ) → ℕ
+seventh words = get_or (first_of words) 6 0
+
+-- What the words of an Accept ask for.
+record SameAsked (a a' b b' : List ℕ) (rules rules' : List (List ℕ)) (stackwalk stackwalk' rundown rundown' : Bool) : Type 0 where
+  session : a ≡ a'
+  chunks : b ≡ b'
+  others : rules ≡ rules'
+  stacks : stackwalk ≡ stackwalk'
+  ends : rundown ≡ rundown'
+
+same-flag : (flag flag' : List ℕ) (b b' : Bool) → flag ≡ flag' → flag_of flag ≡ Some b → flag_of flag' ≡ Some b' → b ≡ b'
+same-flag flag flag' b b' same one other =
+    let both : Some b ≡ Some b' = sym one ∙ ap flag_of same ∙ other in
+    cc
+
+-- The words of a line ask for one thing at most.
+same-asked : (words : List (List ℕ)) (a a' b b' : List ℕ) (rules rules' : List (List ℕ)) (stackwalk stackwalk' rundown rundown' : Bool) → AsksFor words a b rules stackwalk rundown → AsksFor words a' b' rules' stackwalk' rundown' → SameAsked a a' b b' rules rules' stackwalk stackwalk' rundown rundown'
+same-asked words a a' b b' rules rules' stackwalk stackwalk' rundown rundown' (inl one) (inl other) =
+    let e : codes "accept" ∷ a ∷ b ∷ rules ≡ codes "accept" ∷ a' ∷ b' ∷ rules' = sym one.0 ∙ other.0 in
+    record { session = cc; chunks = cc; others = cc; stacks = one.1 ∙ sym other.1; ends = one.2 ∙ sym other.2 }
+same-asked words a a' b b' rules rules' stackwalk stackwalk' rundown rundown' (inr (inl one)) (inr (inl other)) =
+    let e : codes "accept3" ∷ a ∷ b ∷ one.0 ∷ rules ≡ codes "accept3" ∷ a' ∷ b' ∷ other.0 ∷ rules' = sym one.1 ∙ other.1 in
+    let flag : one.0 ≡ other.0 = cc in
+    record { session = cc; chunks = cc; others = cc; stacks = same-flag one.0 other.0 stackwalk stackwalk' flag one.2 other.2; ends = one.3 ∙ sym other.3 }
+same-asked words a a' b b' rules rules' stackwalk stackwalk' rundown rundown' (inr (inr one)) (inr (inr other)) =
+    let e : codes "accept4" ∷ a ∷ b ∷ one.0 ∷ one.1 ∷ rules ≡ codes "accept4" ∷ a' ∷ b' ∷ other.0 ∷ other.1 ∷ rules' = sym one.2 ∙ other.2 in
+    let flag : one.0 ≡ other.0 = cc in
+    let second : one.1 ≡ other.1 = cc in
+    record { session = cc; chunks = cc; others = cc; stacks = same-flag one.0 other.0 stackwalk stackwalk' flag one.3 other.3; ends = same-flag one.1 other.1 rundown rundown' second one.4 other.4 }
+same-asked words a a' b b' rules rules' stackwalk stackwalk' rundown rundown' (inl one) (inr (inl other)) = absurd (omega (arith, ap seventh (sym one.0 ∙ other.1)))
+same-asked words a a' b b' rules rules' stackwalk stackwalk' rundown rundown' (inl one) (inr (inr other)) = absurd (omega (arith, ap seventh (sym one.0 ∙ other.2)))
+same-asked words a a' b b' rules rules' stackwalk stackwalk' rundown rundown' (inr (inl one)) (inl other) = absurd (omega (arith, ap seventh (sym one.1 ∙ other.0)))
+same-asked words a a' b b' rules rules' stackwalk stackwalk' rundown rundown' (inr (inl one)) (inr (inr other)) = absurd (omega (arith, ap seventh (sym one.1 ∙ other.2)))
+same-asked words a a' b b' rules rules' stackwalk stackwalk' rundown rundown' (inr (inr one)) (inl other) = absurd (omega (arith, ap seventh (sym one.2 ∙ other.0)))
+same-asked words a a' b b' rules rules' stackwalk stackwalk' rundown rundown' (inr (inr one)) (inr (inl other)) = absurd (omega (arith, ap seventh (sym one.2 ∙ other.1)))
 
 same-accept : (s s' : ℕ) (config config' : Config) (a b a' b' : List ℕ) (rules rules' : List (List ℕ)) → a ≡ a' → b ≡ b' → rules ≡ rules' → number_of a ≡ Some s → number_of a' ≡ Some s' → number_of b ≡ Some config.chunks → number_of b' ≡ Some config'.chunks → all_in rule_in rules ≡ Some config.rules → all_in rule_in rules' ≡ Some config'.rules → config.stackwalk ≡ config'.stackwalk → config.rundown ≡ config'.rundown → ◌≡◌ {A = Step} (step.Accept s config) (step.Accept s' config')
 same-accept s s' config config' a b a' b' rules rules' first second others session session' chunks chunks' list list' stackwalk rundown =
@@ -75,31 +113,8 @@ same-accept s s' config config' a b a' b' rules rules' first second others sessi
 same-step : (words : List (List ℕ)) (a b : Step) → Spells words a → Spells words b → a ≡ b
 unfolding Spells
 same-step words (step.Accept s config) (step.Accept s' config') h k =
-    elim h.3 [
-      | inl one ↦
-          elim k.3 [
-            | inl other ↦
-                let e : codes "accept" ∷ h.0 ∷ h.1 ∷ h.2 ≡ codes "accept" ∷ k.0 ∷ k.1 ∷ k.2 = sym one.0 ∙ other.0 in
-                let first : h.0 ≡ k.0 = cc in
-                let second : h.1 ≡ k.1 = cc in
-                let others : h.2 ≡ k.2 = cc in
-                same-accept s s' config config' h.0 h.1 k.0 k.1 h.2 k.2 first second others h.4 k.4 h.5 k.5 h.6 k.6 (one.1 ∙ sym other.1) (h.7 ∙ sym k.7)
-            | inr other ↦ absurd (accept-accept3 _ _ (sym one.0 ∙ other.1))
-          ]
-      | inr one ↦
-          elim k.3 [
-            | inl other ↦ absurd (accept-accept3 _ _ (sym other.0 ∙ one.1))
-            | inr other ↦
-                let e : codes "accept3" ∷ h.0 ∷ h.1 ∷ one.0 ∷ h.2 ≡ codes "accept3" ∷ k.0 ∷ k.1 ∷ other.0 ∷ k.2 = sym one.1 ∙ other.1 in
-                let flag : one.0 ≡ other.0 = cc in
-                let same : Some config.stackwalk ≡ Some config'.stackwalk = sym one.2 ∙ ap flag_of flag ∙ other.2 in
-                let stackwalk : config.stackwalk ≡ config'.stackwalk = cc in
-                let first : h.0 ≡ k.0 = cc in
-                let second : h.1 ≡ k.1 = cc in
-                let others : h.2 ≡ k.2 = cc in
-                same-accept s s' config config' h.0 h.1 k.0 k.1 h.2 k.2 first second others h.4 k.4 h.5 k.5 h.6 k.6 stackwalk (h.7 ∙ sym k.7)
-          ]
-    ]
+    let same = same-asked words h.0 k.0 h.1 k.1 h.2 k.2 config.stackwalk config'.stackwalk config.rundown config'.rundown h.3 k.3 in
+    same-accept s s' config config' h.0 h.1 k.0 k.1 h.2 k.2 same.session same.chunks same.others h.4 k.4 h.5 k.5 h.6 k.6 same.stacks same.ends
 same-step words (step.Enter t) (step.Enter t') h k = cc
 same-step words (step.Leave t) (step.Leave t') h k = cc
 same-step words (step.Open s t) (step.Open s' t') h k = cc
@@ -165,7 +180,7 @@ unfolding words_bad
 event-words events stepped past words = refl
 
 -- What a line says that is a good event.
-pub event-line : (events : List EventDef) (stepped : Bool) (text : List ℕ) (index : ℕ) (def : EventDef) → IsLine events stepped text (line.Event index def) → (stepped ≡ false) × (index ≡ length events + 1) × (index ≤ EVENTS) × IsTrue (is_valid_event def) × (list_any (λ other. is_same_event other def) events ≡ false)
+pub event-line : (events : List EventDef) (stepped : Bool) (text : List ℕ) (index : ℕ) (def : EventDef) → IsLine events stepped text (line.Event index def) → (stepped ≡ false) × (index ≡ length events + 1) × (index ≤ EVENTS) × IsTrue (is_valid_event def) × (is_there events def ≡ false)
 unfolding Means
 event-line events stepped text index def x =
     let means = x.meaning in

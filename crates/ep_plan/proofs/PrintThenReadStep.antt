@@ -1,8 +1,8 @@
 -- The line that is written for a step is read as that step.
-use Rattle.std.proofs.Common.{◌≡◌, ◌==◌, not, cond, inl, inr, option_map, ℕ, zero, suc, ◌+◌, ◌-◌, ◌^◌, ◌<◌, ◌≤◌, Bool, true, false, nat_le, List, [], ◌∷◌, length, map, codes, Some, None, IsTrue, refl, sym, ap, ◌∙◌, subst, arith}
+use Rattle.std.proofs.Common.{◌≡◌, ◌==◌, inl, inr, option_map, ℕ, zero, suc, ◌+◌, ◌-◌, ◌^◌, ◌<◌, ◌≤◌, Bool, true, false, nat_le, List, [], ◌∷◌, length, map, codes, Some, None, IsTrue, refl, sym, ap, ◌∙◌, subst, arith}
 use Rattle.std.specs.List.{list_all, join_with_byte}
 use Rattle.std.specs.Int.{is_in_range}
-use Rattle.std.proofs.lemmas.Bool.{and_parts, and_from, not-true, cases_lt}
+use Rattle.std.proofs.lemmas.Bool.{and_parts, and_from, cases_lt, cases_Bool}
 use Rattle.std.proofs.lemmas.Bool.Decides.{nat_tests}
 use Rattle.std.specs.Prelude.{All, slice_index}
 use Rattle.std.proofs.lemmas.List.{get_or_past}
@@ -12,7 +12,7 @@ use Rattle.ep_defs.specs.declared.session.Config.{Config}
 use Rattle.ep_defs.specs.declared.session.Rule.{Rule as RuleValue}
 use Rattle.ep_defs.specs.declared.session.Write.{Write}
 use Rattle.ep_defs.specs.Event.{is_same_text}
-use Rattle.ep_defs.specs.Ranges.{RuleFits, WriteFits, AreBytes}
+use Rattle.ep_defs.specs.Ranges.{ConfigFits, RuleFits, WriteFits, AreBytes}
 use Rattle.ep_model.specs.Ranges.{StepFits}
 use Rattle.ep_model.specs.declared.step.Step.{Step}
 use Rattle.ep_defs.specs.declared.limits.TheConstants.{RULES}
@@ -21,12 +21,13 @@ use Rattle.ep_plan.specs.declared.limits.TheConstants.{LINE_BYTES}
 use Rattle.ep_plan.specs.declared.verb.Verb.{Verb}
 use Rattle.ep_plan.specs.Words.{space, words_of, is_name, rule_in, all_in, with_first, number_text, id_text, frames_text, payload_text, rule_text}
 use Rattle.ep_plan.specs.Lines.{more_than_one, Part, Number, Flag, Stamp, Id, Frames, Payload, Rule, form_of, verb_in, unless, number_of, flag_of, stamp_of, write_of, first_bad, fault_of, spelling_fault, form_bad, step_bad, is_blank, Spells, Means, IsLine}
-use Rattle.ep_plan.specs.Printing.{step_words, step_text, can_print, has_rules, has_parts}
+use Rattle.ep_plan.specs.Printing.{flag_text, step_words, step_text, can_print, has_rules, has_parts}
 use Rattle.ep_plan.proofs.Separated.{lacks, all_lack}
 use Rattle.ep_plan.proofs.NumberTexts.{number_in-number_text}
 use Rattle.ep_plan.proofs.PrintThenReadWord.{id_in-id_text, payload_in-payload_text, frames_in-frames_text, rule_in-rule_text}
 use Rattle.ep_plan.proofs.WordTexts.{IsWord, IsWord-number_text, IsWord-id_text, IsWord-payload_text, IsWord-frames_text, IsWord-rule_text, words_of-join}
 use Rattle.ep_plan.proofs.Forms.{write-is}
+use Rattle.ep_plan.proofs.Printed.{accept-words, accept3-words, accept4-words}
 use Rattle.ep_plan.proofs.WholeLines.{worded, step-first}
 use Rattle.ep_model.specs.declared.step.Step.TheVariants as step
 use Rattle.ep_plan.specs.declared.line.Line.TheVariants as line
@@ -188,38 +189,82 @@ write-read write fits =
 
 -- ---- steps
 
--- The words of an Accept without stacks, after the first.
-abbrev words_of_three : ℕ → Config → List (List ℕ)
-words_of_three session config = number_text session ∷ number_text config.chunks ∷ number_text 0 ∷ map rule_text config.rules
+reads-flag : (flag : Bool) → flag_of (flag_text flag) ≡ Some flag
+reads-flag true = ap (option_map (λ n. n == 1)) (number_in-number_text 1 1 (omega arith) (omega arith))
+reads-flag false = ap (option_map (λ n. n == 1)) (number_in-number_text 1 0 (omega arith) (omega arith))
 
-accept-again : (events : List EventDef) (stepped : Bool) (session : ℕ) (config : Config) → StepFits (step.Accept session config) → IsTrue (can_print (step.Accept session config)) → has_rules config.rules ≡ true → config.rundown ≡ false → (stackwalk : Bool) → config.stackwalk ≡ stackwalk → IsLine events stepped (step_text (step.Accept session config)) (line.Step (step.Accept session config))
+flag-word : (flag : Bool) → IsWord (flag_text flag)
+flag-word true = is-word 1 (omega arith)
+flag-word false = is-word 0 (omega arith)
+
+good-flag : (flag : Bool) → fault_of Flag (flag_text flag) ≡ None
+good-flag flag = good-as Flag (flag_text flag) (flag-word flag) (ap (λ o. unless o kind.Number) (reads-flag flag))
+
+-- The rules of an Accept, which end its line.
+record AreRules (rules : List RuleValue) : Type 0 where
+  count : is_in_range 1 RULES (length rules) ≡ true
+  names : list_all (λ rule. is_name rule.name) rules ≡ true
+  fits : All RuleFits rules
+
+rules-are : (config : Config) → has_rules config.rules ≡ true → ConfigFits config → AreRules config.rules
+rules-are config has fits =
+    let rules = and_parts (is_in_range 1 RULES (length config.rules)) (list_all (λ rule. is_name rule.name) config.rules) has in
+    record { count = rules.0; names = rules.1; fits = fits.rules }
+
+-- The line of an Accept with these flags after its numbers.
+accept-line : (events : List EventDef) (stepped : Bool) (session : ℕ) (config : Config) (first : List ℕ) (words : List (List ℕ)) (verb : Verb) → IsTrue (can_print (step.Accept session config)) → step_words (step.Accept session config) ≡ first ∷ number_text session ∷ number_text config.chunks ∷ words → session < 2 ^ 32 → ConfigFits config → all_lack space words ≡ true → all_lack space (first ∷ []) ≡ true → is_blank (join_with_byte space (first ∷ number_text session ∷ number_text config.chunks ∷ words)) ≡ false → is_same_text first (codes "event") ≡ false → verb_in first ≡ Some verb → AreGood (form_of verb).parts (form_of verb).more_rules (number_text session ∷ number_text config.chunks ∷ words) → Spells (first ∷ number_text session ∷ number_text config.chunks ∷ words) (step.Accept session config) → IsLine events stepped (step_text (step.Accept session config)) (line.Step (step.Accept session config))
+accept-line events stepped session config first words verb can is small fits lack first_lacks other name named good spells =
+    let rest = lack-more (number_text session) (number_text config.chunks ∷ words) (is-word session small) (lack-more (number_text config.chunks) words (is-word config.chunks fits.chunks) lack) in
+    line-of events stepped (step.Accept session config) first (number_text session ∷ number_text config.chunks ∷ words) verb can is
+    (and_from (lacks space first) (all_lack space (number_text session ∷ number_text config.chunks ∷ words)) (and_parts (lacks space first) true first_lacks).0 rest)
+    (ap (λ ws. is_blank (join_with_byte space ws)) is ∙ other) name named good spells
+
+accept4-again : (events : List EventDef) (stepped : Bool) (session : ℕ) (config : Config) → session < 2 ^ 32 → ConfigFits config → IsTrue (can_print (step.Accept session config)) → AreRules config.rules → config.rundown ≡ true → IsLine events stepped (step_text (step.Accept session config)) (line.Step (step.Accept session config))
 unfolding Spells
-accept-again events stepped session config fits can has none true walks =
-    let rules = and_parts (is_in_range 1 RULES (length config.rules)) (list_all (λ rule. is_name rule.name) config.rules) has in
-    let words = number_text session ∷ number_text config.chunks ∷ map rule_text config.rules in
-    let text = ap (λ b. join_with_byte space (cond b (codes "accept" ∷ words) (codes "accept3" ∷ words_of_three session config))) walks in
-    line-of events stepped (step.Accept session config) (codes "accept") words verb.Accept can (rw walks refl)
-    (lack-more (number_text session) (number_text config.chunks ∷ map rule_text config.rules) (is-word session fits.0) (lack-more (number_text config.chunks) (map rule_text config.rules) (is-word config.chunks fits.1.chunks) (rules-lack config.rules rules.1 fits.1.rules)))
-    (ap is_blank text) refl refl
-    (good-number session fits.0, (good-number config.chunks fits.1.chunks, accept-good config.rules rules.0 rules.1 fits.1.rules))
-    (number_text session, number_text config.chunks, map rule_text config.rules, inl (refl, walks), reads session fits.0, reads config.chunks fits.1.chunks, rules-read config.rules rules.1 fits.1.rules, none)
-accept-again events stepped session config fits can has none false walks =
-    let rules = and_parts (is_in_range 1 RULES (length config.rules)) (list_all (λ rule. is_name rule.name) config.rules) has in
-    let words = number_text session ∷ number_text config.chunks ∷ map rule_text config.rules in
-    let text = ap (λ b. join_with_byte space (cond b (codes "accept" ∷ words) (codes "accept3" ∷ words_of_three session config))) walks in
-    let flag : flag_of (number_text 0) ≡ Some false = ap (option_map (λ n. n == 1)) (number_in-number_text 1 0 (omega arith) (omega arith)) in
-    line-of events stepped (step.Accept session config) (codes "accept3") (words_of_three session config) verb.Accept3 can (rw walks refl)
-    (lack-more (number_text session) (number_text config.chunks ∷ number_text 0 ∷ map rule_text config.rules) (is-word session fits.0) (lack-more (number_text config.chunks) (number_text 0 ∷ map rule_text config.rules) (is-word config.chunks fits.1.chunks) (lack-more (number_text 0) (map rule_text config.rules) (is-word 0 (omega arith)) (rules-lack config.rules rules.1 fits.1.rules))))
-    (ap is_blank text) refl refl
-    (good-number session fits.0, (good-number config.chunks fits.1.chunks, (good-as Flag (number_text 0) (is-word 0 (omega arith)) (ap (λ o. unless o kind.Number) flag), accept-good config.rules rules.0 rules.1 fits.1.rules)))
-    (number_text session, number_text config.chunks, map rule_text config.rules, inr (number_text 0, refl, flag ∙ ap Some (sym walks)), reads session fits.0, reads config.chunks fits.1.chunks, rules-read config.rules rules.1 fits.1.rules, none)
+accept4-again events stepped session config small fits can rules ends =
+    let words = map rule_text config.rules in
+    accept-line events stepped session config (codes "accept4") (flag_text config.stackwalk ∷ flag_text true ∷ words) verb.Accept4 can (accept4-words session config ends) small fits
+    (lack-more (flag_text config.stackwalk) (flag_text true ∷ words) (flag-word config.stackwalk) (lack-more (flag_text true) words (flag-word true) (rules-lack config.rules rules.names rules.fits)))
+    refl refl refl refl
+    (good-number session small, (good-number config.chunks fits.chunks, (good-flag config.stackwalk, (good-flag true, accept-good config.rules rules.count rules.names rules.fits))))
+    (number_text session, number_text config.chunks, words, inr (inr (flag_text config.stackwalk, flag_text true, refl, reads-flag config.stackwalk, reads-flag true ∙ ap Some (sym ends))), reads session small, reads config.chunks fits.chunks, rules-read config.rules rules.names rules.fits)
+
+accept-again : (events : List EventDef) (stepped : Bool) (session : ℕ) (config : Config) → session < 2 ^ 32 → ConfigFits config → IsTrue (can_print (step.Accept session config)) → AreRules config.rules → config.rundown ≡ false → config.stackwalk ≡ true → IsLine events stepped (step_text (step.Accept session config)) (line.Step (step.Accept session config))
+unfolding Spells
+accept-again events stepped session config small fits can rules none walks =
+    let words = map rule_text config.rules in
+    accept-line events stepped session config (codes "accept") words verb.Accept can (accept-words session config none walks) small fits
+    (rules-lack config.rules rules.names rules.fits)
+    refl refl refl refl
+    (good-number session small, (good-number config.chunks fits.chunks, accept-good config.rules rules.count rules.names rules.fits))
+    (number_text session, number_text config.chunks, words, inl (refl, walks, none), reads session small, reads config.chunks fits.chunks, rules-read config.rules rules.names rules.fits)
+
+accept3-again : (events : List EventDef) (stepped : Bool) (session : ℕ) (config : Config) → session < 2 ^ 32 → ConfigFits config → IsTrue (can_print (step.Accept session config)) → AreRules config.rules → config.rundown ≡ false → config.stackwalk ≡ false → IsLine events stepped (step_text (step.Accept session config)) (line.Step (step.Accept session config))
+unfolding Spells
+accept3-again events stepped session config small fits can rules none walks =
+    let words = map rule_text config.rules in
+    accept-line events stepped session config (codes "accept3") (flag_text false ∷ words) verb.Accept3 can (accept3-words session config none walks) small fits
+    (lack-more (flag_text false) words (flag-word false) (rules-lack config.rules rules.names rules.fits))
+    refl refl refl refl
+    (good-number session small, (good-number config.chunks fits.chunks, (good-flag false, accept-good config.rules rules.count rules.names rules.fits)))
+    (number_text session, number_text config.chunks, words, inr (inl (flag_text false, refl, reads-flag false ∙ ap Some (sym walks), none)), reads session small, reads config.chunks fits.chunks, rules-read config.rules rules.names rules.fits)
+
+-- The line of an Accept, by its flags.
+any-accept : (events : List EventDef) (stepped : Bool) (session : ℕ) (config : Config) → session < 2 ^ 32 → ConfigFits config → IsTrue (can_print (step.Accept session config)) → AreRules config.rules → IsLine events stepped (step_text (step.Accept session config)) (line.Step (step.Accept session config))
+any-accept events stepped session config small fits can rules = elim (cases_Bool config.rundown) [
+  | inl ends ↦ accept4-again events stepped session config small fits can rules ends
+  | inr none ↦
+      elim (cases_Bool config.stackwalk) [
+        | inl walks ↦ accept-again events stepped session config small fits can rules none walks
+        | inr walks ↦ accept3-again events stepped session config small fits can rules none walks
+      ]
+]
 
 pub read-again : (events : List EventDef) (stepped : Bool) (made : Step) → StepFits made → IsTrue (can_print made) → IsLine events stepped (step_text made) (line.Step made)
 unfolding Spells can_print
 read-again events stepped (step.Accept session config) fits can =
     let parts = and_parts (has_parts (step.Accept session config)) (nat_le (length (step_text (step.Accept session config))) LINE_BYTES) can in
-    let whole = and_parts (has_rules config.rules) (not config.rundown) parts.0 in
-    accept-again events stepped session config fits can whole.0 (not-true config.rundown whole.1) config.stackwalk refl
+    any-accept events stepped session config fits.0 fits.1 can (rules-are config parts.0 fits.1)
 read-again events stepped (step.Enter thread) fits can =
     line-of events stepped (step.Enter thread) (codes "enter") (number_text thread ∷ []) verb.Enter can refl
     (lack-one _ (is-word thread fits)) refl refl refl

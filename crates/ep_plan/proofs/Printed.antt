@@ -5,7 +5,7 @@ use Rattle.std.proofs.lemmas.List.{append-nil, take_more, map-append}
 use Rattle.ep_defs.specs.declared.session.Config.{Config}
 use Rattle.ep_defs.specs.declared.session.Rule.{Rule}
 use Rattle.ep_plan.specs.Words.{space, number_text, rule_text}
-use Rattle.ep_plan.specs.Printing.{spaced, number_words, step_words}
+use Rattle.ep_plan.specs.Printing.{spaced, number_words, flag_text, step_words}
 use Rattle.ep_plan.proofs.Separated.{join-push}
 use Rattle.ep_model.specs.declared.step.Step.TheVariants as step
 
@@ -75,8 +75,11 @@ ok-line (Err e) start line next first xs ys h more = tt
 
 -- ---- accept lines
 
-pub accept-words : (session : ℕ) (config : Config) → config.stackwalk ≡ true → step_words (step.Accept session config) ≡ codes "accept" ∷ number_text session ∷ number_text config.chunks ∷ map rule_text config.rules
-accept-words session config h = rw h refl
+pub accept-words : (session : ℕ) (config : Config) → config.rundown ≡ false → config.stackwalk ≡ true → step_words (step.Accept session config) ≡ codes "accept" ∷ number_text session ∷ number_text config.chunks ∷ map rule_text config.rules
+accept-words session config none walks = rw (none, walks) refl
 
-pub accept3-words : (session : ℕ) (config : Config) → config.stackwalk ≡ false → step_words (step.Accept session config) ≡ codes "accept3" ∷ number_text session ∷ number_text config.chunks ∷ number_text 0 ∷ map rule_text config.rules
-accept3-words session config h = rw h refl
+pub accept3-words : (session : ℕ) (config : Config) → config.rundown ≡ false → config.stackwalk ≡ false → step_words (step.Accept session config) ≡ codes "accept3" ∷ number_text session ∷ number_text config.chunks ∷ number_text 0 ∷ map rule_text config.rules
+accept3-words session config none walks = rw (none, walks) refl
+
+pub accept4-words : (session : ℕ) (config : Config) → config.rundown ≡ true → step_words (step.Accept session config) ≡ codes "accept4" ∷ number_text session ∷ number_text config.chunks ∷ flag_text config.stackwalk ∷ number_text 1 ∷ map rule_text config.rules
+accept4-words session config ends = rw ends refl

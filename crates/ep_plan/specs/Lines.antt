@@ -1,11 +1,12 @@
 -- What a line of a schedule means, and what is wrong with it.
-use Rattle.std.specs.Prelude.{◌≡◌, ℕ, zero, suc, ◌+◌, ◌-◌, ◌^◌, Bool, true, false, ◌&&◌, ◌⊎◌, List, [], ◌∷◌, length, codes, find, Option, Some, None, option_map, option_and_then, nat_lt, nat_le, ◌==◌, if◌then◌else◌}
+use Rattle.std.specs.Prelude.{◌≡◌, ℕ, zero, suc, ◌+◌, ◌-◌, ◌^◌, Bool, true, false, ◌&&◌, ◌||◌, ◌⊎◌, List, [], ◌∷◌, length, codes, find, Option, Some, None, option_map, option_and_then, nat_lt, nat_le, ◌==◌, if◌then◌else◌}
 use Rattle.std.specs.List.{list_any}
 use Rattle.std.specs.Option.{option_or}
 use Rattle.ep_defs.specs.declared.event.EventDef.{EventDef}
 use Rattle.ep_defs.specs.declared.limits.TheConstants.{EVENTS, RULES}
 use Rattle.ep_defs.specs.Event.{is_valid_event, is_same_event, is_same_text}
 use Rattle.ep_defs.specs.declared.session.Write.{Write}
+use Rattle.ep_rundown.specs.Rundown.{rundown_def}
 use Rattle.ep_model.specs.declared.step.Step.{Step}
 use Rattle.ep_model.specs.declared.step.Step.TheVariants as step
 use Rattle.ep_plan.specs.declared.line.Line.{Line}
@@ -60,6 +61,10 @@ accept_form = record { name = codes "accept"; parts = Number ∷ Number ∷ Rule
 abbrev pub accept3_form : Form
 accept3_form = record { name = codes "accept3"; parts = Number ∷ Number ∷ Flag ∷ Rule ∷ []; more_rules = more_than_one }
 
+-- The same with one flag more: whether the session has a rundown.
+abbrev pub accept4_form : Form
+accept4_form = record { name = codes "accept4"; parts = Number ∷ Number ∷ Flag ∷ Flag ∷ Rule ∷ []; more_rules = more_than_one }
+
 -- The numbers of a definition: ID VERSION LEVEL KEYWORDS.
 abbrev pub number_parts : List Part
 number_parts = Number ∷ Number ∷ Number ∷ Keywords ∷ []
@@ -84,6 +89,7 @@ begin_parts = Number ∷ Stamp ∷ write_parts
 abbrev pub form_of : Verb → Form
 form_of verb.Accept = accept_form
 form_of verb.Accept3 = accept3_form
+form_of verb.Accept4 = accept4_form
 form_of verb.Enter = form (codes "enter") (Number ∷ [])
 form_of verb.Leave = form (codes "leave") (Number ∷ [])
 form_of verb.Open = form (codes "open") (Number ∷ Number ∷ [])
@@ -99,8 +105,8 @@ form_of verb.Finish = form (codes "finish") (Number ∷ Stamp ∷ [])
 -- The first words that a line of a step can have.
 abbrev pub verbs : List Verb
 verbs =
-    verb.Accept ∷ verb.Accept3 ∷ verb.Enter ∷ verb.Leave ∷ verb.Open ∷ verb.Begin ∷ verb.Show ∷ verb.End ∷ verb.Steal
-    ∷ verb.Give ∷ verb.Point ∷ verb.Close ∷ verb.Finish ∷ []
+    verb.Accept ∷ verb.Accept3 ∷ verb.Accept4 ∷ verb.Enter ∷ verb.Leave ∷ verb.Open ∷ verb.Begin ∷ verb.Show ∷ verb.End
+    ∷ verb.Steal ∷ verb.Give ∷ verb.Point ∷ verb.Close ∷ verb.Finish ∷ []
 
 -- The verb that has this name.
 abbrev pub verb_in : List ℕ → Option Verb
@@ -224,12 +230,14 @@ definition_of (provider ∷ id ∷ version ∷ level ∷ keywords ∷ name ∷ f
   Some (record { provider = provider; id = id; version = version; level = level; keywords = keywords; name = name; fields = fields })
 definition_of words = None
 
--- A definition has to be valid, and unlike those before it.
+-- A definition is there already: it is that of the rundown, which every program has, or one before it.
+abbrev pub is_there : List EventDef → EventDef → Bool
+is_there events def = is_same_event def rundown_def || list_any (λ other. is_same_event other def) events
+
+-- A definition has to be valid, and none that is there already.
 abbrev pub definition_fault : List EventDef → EventDef → Option LineKind
 definition_fault events def =
-    if is_valid_event def then
-    (if list_any (λ other. is_same_event other def) events then Some kind.Same else None)
-    else Some kind.Fields
+    if is_valid_event def then (if is_there events def then Some kind.Same else None) else Some kind.Fields
 
 -- What is wrong with the definition after the number of an event.
 unfoldable pub definition_bad : List EventDef → List (List ℕ) → Option Bad
@@ -276,18 +284,21 @@ abbrev pub SpellStamp : List ℕ → List (List ℕ) → ℕ → ℕ → Type 0
 SpellStamp name words number stamp =
     (a : List ℕ) × (b : List ℕ) × (words ≡ name ∷ a ∷ b ∷ []) × (number_of a ≡ Some number) × (stamp_of b ≡ Some stamp)
 
--- An `accept` line asks for stacks; an `accept3` line says whether.
-abbrev pub AsksFor : List (List ℕ) → List ℕ → List ℕ → List (List ℕ) → Bool → Type 0
-AsksFor words session chunks rules stackwalk =
-    ((words ≡ codes "accept" ∷ session ∷ chunks ∷ rules) × (stackwalk ≡ true))
-    ⊎ ((flag : List ℕ) × (words ≡ codes "accept3" ∷ session ∷ chunks ∷ flag ∷ rules) × (flag_of flag ≡ Some stackwalk))
+-- An `accept` line asks for stacks and for no rundown; an `accept3` line says whether it asks for stacks, and an `accept4`
+-- line whether it asks for stacks and for a rundown.
+abbrev pub AsksFor : List (List ℕ) → List ℕ → List ℕ → List (List ℕ) → Bool → Bool → Type 0
+AsksFor words session chunks rules stackwalk rundown =
+    ((words ≡ codes "accept" ∷ session ∷ chunks ∷ rules) × (stackwalk ≡ true) × (rundown ≡ false))
+    ⊎ (((stacks : List ℕ) × (words ≡ codes "accept3" ∷ session ∷ chunks ∷ stacks ∷ rules)
+    × (flag_of stacks ≡ Some stackwalk) × (rundown ≡ false))
+    ⊎ ((stacks : List ℕ) × (ends : List ℕ) × (words ≡ codes "accept4" ∷ session ∷ chunks ∷ stacks ∷ ends ∷ rules)
+    × (flag_of stacks ≡ Some stackwalk) × (flag_of ends ≡ Some rundown)))
 
 -- The words of a line spell this step.
 unfoldable pub Spells : List (List ℕ) → Step → Type 0
 Spells words (step.Accept session config) =
-    (a : List ℕ) × (b : List ℕ) × (rules : List (List ℕ)) × AsksFor words a b rules config.stackwalk
+    (a : List ℕ) × (b : List ℕ) × (rules : List (List ℕ)) × AsksFor words a b rules config.stackwalk config.rundown
     × (number_of a ≡ Some session) × (number_of b ≡ Some config.chunks) × (all_in rule_in rules ≡ Some config.rules)
-    × (config.rundown ≡ false)
 Spells words (step.Enter thread) = SpellNumber (codes "enter") words thread
 Spells words (step.Leave thread) = SpellNumber (codes "leave") words thread
 Spells words (step.Open session thread) = SpellNumbers (codes "open") words session thread

@@ -1,8 +1,9 @@
 -- The line that is written for a step.
-use Rattle.std.specs.Prelude.{ℕ, Bool, true, not, ◌&&◌, List, [], ◌∷◌, length, map, codes, nat_le, if◌then◌else◌}
+use Rattle.std.specs.Prelude.{ℕ, Bool, true, false, ◌&&◌, List, [], ◌∷◌, length, map, codes, nat_le, if◌then◌else◌}
 use Rattle.std.specs.List.{list_all, join_with_byte, flat_map}
-use Rattle.std.specs.Int.{is_in_range}
+use Rattle.std.specs.Int.{is_in_range, from_bool}
 use Rattle.ep_defs.specs.declared.limits.TheConstants.{RULES}
+use Rattle.ep_defs.specs.declared.session.Config.{Config}
 use Rattle.ep_defs.specs.declared.session.Rule.{Rule}
 use Rattle.ep_model.specs.declared.step.Step.{Step}
 use Rattle.ep_model.specs.declared.step.Step.TheVariants as step
@@ -17,12 +18,22 @@ spaced words = flat_map (λ word. space ∷ word) words
 abbrev pub number_words : List ℕ → List ℕ → List (List ℕ)
 number_words name numbers = name ∷ map number_text numbers
 
--- The words of a step's line. A line can say nothing of a rundown.
-abbrev pub step_words : Step → List (List ℕ)
-step_words (step.Accept session config) =
-    if config.stackwalk
+-- A flag is written as 0 or 1.
+abbrev pub flag_text : Bool → List ℕ
+flag_text flag = number_text (from_bool flag)
+
+-- The words of an Accept's line: the shortest that says which flags the session has.
+abbrev pub accept_words : ℕ → Config → List (List ℕ)
+accept_words session config =
+    if config.rundown
+    then codes "accept4" ∷ number_text session ∷ number_text config.chunks ∷ flag_text config.stackwalk ∷ flag_text true ∷ map rule_text config.rules
+    else if config.stackwalk
     then codes "accept" ∷ number_text session ∷ number_text config.chunks ∷ map rule_text config.rules
-    else codes "accept3" ∷ number_text session ∷ number_text config.chunks ∷ number_text 0 ∷ map rule_text config.rules
+    else codes "accept3" ∷ number_text session ∷ number_text config.chunks ∷ flag_text false ∷ map rule_text config.rules
+
+-- The words of a step's line.
+abbrev pub step_words : Step → List (List ℕ)
+step_words (step.Accept session config) = accept_words session config
 step_words (step.Enter thread) = number_words (codes "enter") (thread ∷ [])
 step_words (step.Leave thread) = number_words (codes "leave") (thread ∷ [])
 step_words (step.Open session thread) = number_words (codes "open") (session ∷ thread ∷ [])
@@ -45,9 +56,9 @@ step_text made = join_with_byte space (step_words made)
 abbrev pub has_rules : List Rule → Bool
 has_rules rules = is_in_range 1 RULES (length rules) && list_all (λ rule. is_name rule.name) rules
 
--- The text has a word for each part of the step: of an Accept it has no word for rundown.
+-- The text has a word for each part of the step.
 abbrev pub has_parts : Step → Bool
-has_parts (step.Accept session config) = has_rules config.rules && not config.rundown
+has_parts (step.Accept session config) = has_rules config.rules
 has_parts _ = true
 
 -- A line can hold the step.

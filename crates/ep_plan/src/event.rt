@@ -2,6 +2,7 @@
 ghost use Rattle.std.specs.Prelude.{◌≡◌, ℕ, List, [], ◌∷◌, Some, None, IfOk, OnOk};
 ghost use Rattle.std.specs.List.{list_any};
 ghost use Rattle.ep_defs.specs.Event.{is_same_event};
+ghost use Rattle.ep_rundown.specs.Rundown.{rundown_def as rundown_value};
 ghost use Rattle.ep_plan.specs.Lines.{Name, Fields as FieldsPart, definition_parts, number_parts, number_of, definition_of, definition_fault, event_bad};
 ghost use Rattle.ep_plan.specs.Words.{hex_in, event_name_in, fields_in};
 ghost use Rattle.ep_plan.specs.Cursor.{left, bad_left, BeginsAt, IfBad, IsBadAt, IsBadAmong, TookAll};
@@ -9,6 +10,7 @@ ghost use Rattle.ep_plan.specs.Cursor.{left, bad_left, BeginsAt, IfBad, IsBadAt,
 use crate::cursor::Cursor;
 use crate::line::{LineFault, LineKind};
 use ep_defs::{EventDef, FieldList, Units};
+use ep_rundown::rundown_def;
 use std::alloc::Global;
 
 /// The number and the definition that the words after `event` spell.
@@ -30,7 +32,8 @@ pub(crate) fn read_event(
     }
     let index = words.index(events.len())?;
     let def = read_definition(alloc, words)?;
-    match definition_fault(events, &def) {
+    let rundown = rundown_def(alloc)?;
+    match definition_fault(events, &rundown, &def) {
         Some(kind) => Err(words.bad(1, kind)),
         None => Ok((index, def)),
     }
@@ -86,14 +89,15 @@ fn read_name_and_fields(alloc: Global, words: &mut Cursor) -> Result<(Units, Fie
     Ok((name, fields))
 }
 
-// What is wrong with a definition after these.
-fn definition_fault(events: &[EventDef], def: &EventDef) -> Option<LineKind>
+// What is wrong with a definition after these and that of the rundown.
+fn definition_fault(events: &[EventDef], rundown: &EventDef, def: &EventDef) -> Option<LineKind>
+    requires { rundown.now ≡ rundown_value }
     ensures { result ≡ definition_fault events.now def.now }
 {
     if !def.is_valid() {
         return Some(LineKind::Fields);
     }
-    if is_defined(events, def) {
+    if def.is_same(rundown) || is_defined(events, def) {
         return Some(LineKind::Same);
     }
     None

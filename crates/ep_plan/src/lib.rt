@@ -3,7 +3,8 @@
 //! `line` reads a line, `event` and `step` the words of one, taken by a `cursor`; `verb` has the words that lines of
 //! steps begin with, and `words` what a word spells and how a value is written; `print` writes the line of a step. What
 //! a line means is defined in `specs/`: `Words` for a word, `Lines` for a line, `Printing` for what is written, under
-//! the bounds of `limits`. It stands on ep_model, for the steps, ep_defs, for the types, hex, for bytes in digits, and
+//! the bounds of `limits`. It stands on ep_model, for the steps, ep_rundown, for the one definition that no line
+//! may repeat, ep_defs, for the types, hex, for bytes in digits, and
 //! itoa, for decimal digits.
 //!
 //! Its one contract: a line is read as what the definition says, or refused at its first bad word; a step that is

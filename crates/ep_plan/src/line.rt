@@ -1,14 +1,13 @@
 //! Reading a line.
 ghost use Rattle.std.specs.Prelude.{◌≡◌, ◌≤◌, ◌+◌, ℕ, false, List, length, Some, None, Err, IsTrue, IfOk, IfErr};
-ghost use Rattle.std.specs.List.{list_any};
 ghost use Rattle.ep_defs.specs.declared.event.EventDef.{EventDef};
 ghost use Rattle.ep_defs.specs.declared.limits.TheConstants.{EVENTS};
-ghost use Rattle.ep_defs.specs.Event.{is_valid_event, is_same_event};
+ghost use Rattle.ep_defs.specs.Event.{is_valid_event};
 ghost use Rattle.ep_plan.specs.declared.line.Line.{Line};
 ghost use Rattle.ep_plan.specs.declared.line.Line.TheVariants.{Event};
 ghost use Rattle.ep_plan.specs.declared.line.LineKind.{LineKind};
 ghost use Rattle.ep_plan.specs.declared.line.LineFault.TheVariants.{Bad as BadLine, OutOfMemory};
-ghost use Rattle.ep_plan.specs.Lines.{kind_name, bad_of, is_blank, IsLine};
+ghost use Rattle.ep_plan.specs.Lines.{kind_name, is_there, bad_of, is_blank, IsLine};
 
 use crate::cursor::Cursor;
 use crate::event::read_event;
@@ -122,7 +121,7 @@ fn is_blank(text: &[u8]) -> bool
     }
 }
 
-/// A good line means one thing; a definition in it is the next one, valid and unlike those before it.
+/// A good line means one thing; a definition in it is the next one, valid, and none that is there already.
 pub fn a_line_means_one_thing()
     ensures one { (events : List EventDef) (stepped : _) (text : List ℕ) (a b : Line)
         → IsLine events stepped text a → IsLine events stepped text b → a ≡ b }
@@ -130,5 +129,5 @@ pub fn a_line_means_one_thing()
         (def : EventDef) → IsLine events stepped text (Event index def)
         → (stepped ≡ false) × (index ≡ length events + 1) × (index ≤ EVENTS)
         × IsTrue (is_valid_event def)
-        × (list_any (λ other. is_same_event other def) events ≡ false) }
+        × (is_there events def ≡ false) }
 {}

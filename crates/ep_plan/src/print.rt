@@ -1,5 +1,5 @@
 //! Writing the line of a step.
-ghost use Rattle.std.specs.Prelude.{◌≡◌, ◌++◌, ℕ, [], ◌∷◌, List, map, IsTrue, IfOk, OnOk};
+ghost use Rattle.std.specs.Prelude.{◌≡◌, ◌++◌, ℕ, true, [], ◌∷◌, List, map, IsTrue, IfOk, OnOk};
 ghost use Rattle.std.specs.List.{list_all, join_with_byte};
 ghost use Rattle.ep_defs.specs.declared.event.EventDef.{EventDef};
 ghost use Rattle.ep_model.specs.declared.step.Step.TheVariants.{Accept};
@@ -63,11 +63,15 @@ fn put_step(line: &mut Vec<u8>, step: &Step) -> Result<(), AllocError>
     }
 }
 
-// Appends the line of an Accept: `accept` where the session has stacks, else `accept3` with the flag 0.
+// Appends the line of an Accept: `accept4` where the session has a rundown, else `accept` where it has stacks, else
+// `accept3` with the flag 0.
 fn put_accept(line: &mut Vec<u8>, session: u32, config: &Config) -> Result<(), AllocError>
     requires { IsTrue (has_parts (Accept session config.now)) }
     ensures { OnOk result (line.new.items ≡ line.old.items ++ step_text (Accept session config.now)) }
 {
+    if config.rundown {
+        return put_accept4(line, session, config);
+    }
     let session = u64::from(session);
     let chunks = u64::from(config.chunks);
     let rules = config.rules.as_slice();
@@ -78,6 +82,19 @@ fn put_accept(line: &mut Vec<u8>, session: u32, config: &Config) -> Result<(), A
         put_numbers(line, Verb::Accept3, &[session, chunks, 0])?;
         put_rules(line, rules)
     }
+}
+
+// Appends the line of an Accept with a rundown, which has both flags.
+fn put_accept4(line: &mut Vec<u8>, session: u32, config: &Config) -> Result<(), AllocError>
+    requires parts { IsTrue (has_parts (Accept session config.now)) }
+    requires ends { config.now.rundown ≡ true }
+    ensures { OnOk result (line.new.items ≡ line.old.items ++ step_text (Accept session config.now)) }
+{
+    let session = u64::from(session);
+    let chunks = u64::from(config.chunks);
+    let stacks = u64::from(config.stackwalk);
+    put_numbers(line, Verb::Accept4, &[session, chunks, stacks, 1])?;
+    put_rules(line, config.rules.as_slice())
 }
 
 // Appends a verb and two numbers below 2 ^ 32.

@@ -1,6 +1,6 @@
 //! Reading the words of a step's line.
 ghost use Rattle.std.specs.Prelude.{◌≡◌, ◌+◌, ℕ, List, [], ◌∷◌, ◌++◌, length, codes, None, Some, IfOk, OnOk};
-ghost use Rattle.ep_plan.specs.Lines.{Number, Stamp, Rule as RulePart, accept_form, accept3_form, begin_parts, write_parts, more_than_one, form_of, write_of, step_bad, SpellNumber, SpellNumbers, SpellStamp, Spells};
+ghost use Rattle.ep_plan.specs.Lines.{Number, Stamp, Rule as RulePart, accept_form, accept3_form, accept4_form, begin_parts, write_parts, more_than_one, form_of, write_of, step_bad, SpellNumber, SpellNumbers, SpellStamp, Spells};
 ghost use Rattle.ep_plan.specs.Words.{rule_in, all_in};
 ghost use Rattle.ep_plan.specs.Cursor.{left, bad_left, bad_form, BeginsAt, IfBad, IsBadAt};
 
@@ -34,6 +34,7 @@ fn read_words(alloc: Global, verb: Verb, words: &mut Cursor) -> Result<Step, Lin
     match verb {
         Verb::Accept => read_accept(alloc, words),
         Verb::Accept3 => read_accept3(alloc, words),
+        Verb::Accept4 => read_accept4(alloc, words),
         Verb::Enter => one_number(words).map(|thread| Step::Enter { thread }),
         Verb::Leave => one_number(words).map(|thread| Step::Leave { thread }),
         Verb::Open => two_numbers(words).map(|(session, thread)| Step::Open { session, thread }),
@@ -127,7 +128,7 @@ fn read_write(alloc: Global, words: &mut Cursor) -> Result<Write, LineFault>
     })
 }
 
-// The words after `accept`: a session with stacks.
+// The words after `accept`: a session with stacks and without a rundown.
 fn read_accept(alloc: Global, words: &mut Cursor) -> Result<Step, LineFault>
     ensures read { IfOk result (λ step. Spells (codes "accept" ∷ left words.old) step) }
     ensures good { OnOk result (bad_form words.old accept_form ≡ None) }
@@ -147,7 +148,7 @@ fn read_accept(alloc: Global, words: &mut Cursor) -> Result<Step, LineFault>
     })
 }
 
-// The words after `accept3`, which say whether the session has stacks.
+// The words after `accept3`, which say whether the session has stacks; it has no rundown.
 fn read_accept3(alloc: Global, words: &mut Cursor) -> Result<Step, LineFault>
     ensures read { IfOk result (λ step. Spells (codes "accept3" ∷ left words.old) step) }
     ensures good { OnOk result (bad_form words.old accept3_form ≡ None) }
@@ -164,6 +165,28 @@ fn read_accept3(alloc: Global, words: &mut Cursor) -> Result<Step, LineFault>
             chunks,
             stackwalk,
             rundown: false,
+        },
+    })
+}
+
+// The words after `accept4`, which say whether the session has stacks and whether it has a rundown.
+fn read_accept4(alloc: Global, words: &mut Cursor) -> Result<Step, LineFault>
+    ensures read { IfOk result (λ step. Spells (codes "accept4" ∷ left words.old) step) }
+    ensures good { OnOk result (bad_form words.old accept4_form ≡ None) }
+    ensures bad { IfBad result (IsBadAt words.old (bad_form words.old accept4_form)) }
+{
+    let session = words.number()?;
+    let chunks = words.number()?;
+    let stackwalk = words.flag()?;
+    let rundown = words.flag()?;
+    let rules = read_rules(alloc, words)?;
+    Ok(Step::Accept {
+        session,
+        config: Config {
+            rules,
+            chunks,
+            stackwalk,
+            rundown,
         },
     })
 }

@@ -9,6 +9,8 @@ pub(crate) enum Verb {
     Accept,
     /// A session, and whether it has stacks.
     Accept3,
+    /// A session, and whether it has stacks and a rundown.
+    Accept4,
     Enter,
     Leave,
     Open,
@@ -22,9 +24,10 @@ pub(crate) enum Verb {
     Finish,
 }
 
-const VERBS: [Verb; 13] = [
+const VERBS: [Verb; 14] = [
     Verb::Accept,
     Verb::Accept3,
+    Verb::Accept4,
     Verb::Enter,
     Verb::Leave,
     Verb::Open,
@@ -52,6 +55,7 @@ impl Verb {
         match self {
             Verb::Accept => b"accept",
             Verb::Accept3 => b"accept3",
+            Verb::Accept4 => b"accept4",
             Verb::Enter => b"enter",
             Verb::Leave => b"leave",
             Verb::Open => b"open",

@@ -6,3 +6,4 @@ pub mod Taking
 pub mod Sweep
 pub mod Staying
 pub mod Refused
+pub mod Describing

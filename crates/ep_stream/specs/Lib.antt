@@ -5,5 +5,6 @@ pub mod Hands
 pub mod Named
 pub mod Opened
 pub mod Fates
+pub mod Rundown
 pub mod Session
 pub mod Sweep

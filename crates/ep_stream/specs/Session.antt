@@ -8,7 +8,8 @@ use Rattle.ep_defs.specs.declared.session.Config.{Config}
 use Rattle.ep_defs.specs.declared.session.Marks.{Marks}
 use Rattle.ep_defs.specs.declared.session.Write.{Write}
 use Rattle.ep_defs.specs.declared.session.TraceInfo.{TraceInfo}
-use Rattle.ep_defs.specs.Entry.{Entry, Point}
+use Rattle.ep_defs.specs.Entry.{Entry}
+use Rattle.ep_rundown.specs.Rundown.{ending}
 use Rattle.ep_chunk.specs.Record.{Record}
 use Rattle.ep_slot.specs.Hand.{HandState}
 use Rattle.ep_row.specs.AtRest.{write_of}
@@ -161,14 +162,19 @@ Writes tells taken events entries old new result =
 
 -- ---- the end
 
--- The session's stream was ended with a last point, or the session has failed; its fate says which. A fault of the sink is
+-- What a session's stream ends with once these entries were told: the section, where it was asked for a rundown, and the
+-- last point.
+abbrev pub last_entries : ℕ → List Entry → Rest → List Entry
+last_entries stamp told rest = ending rest.config.rundown told (point_of stamp (numbers_of rest.named))
+
+-- The session's stream was ended with that, or the session has failed; its fate says which. A fault of the sink is
 -- this call's or was there before, and without one the sink's count of faults is as before.
-pub record Ended {S : Type 0} (tells : S → Bool) (taken : S → List ℕ) (faults : S → ℕ) (stamp : ℕ) (handed : Fate) (session : Session S) (fate : Fate) (sink : S) : Type 0 where
+pub record Ended {S : Type 0} (tells : S → Bool) (taken : S → List ℕ) (faults : S → ℕ) (events : List EventDef) (stamp : ℕ) (handed : Fate) (session : Session S) (fate : Fate) (sink : S) : Type 0 where
   pub answer : Result (Unit {0}) Fault
   pub fate_is : fate ≡ fate_after answer handed
-  pub stream : (before : List ℕ) (events : List EventDef) (info : TraceInfo) (told : List Entry)
+  pub stream : (before : List ℕ) (info : TraceInfo) (told : List Entry)
       → IsTelling tells taken before (definition_at events) info told (writer_of session)
-      → Ends tells taken before info told (Point (point_of stamp (numbers_of (rest_of session).named)) ∷ []) answer sink
+      → Ends tells taken before info told (last_entries stamp told (rest_of session)) answer sink
   pub stays : (fault : Fault) → fault_of session ≡ Some fault → answer ≡ Err fault
   pub write_fault : answer ≡ Err WriteFault → (fault_of session ≡ Some WriteFault) ⊎ HasRisen (faults (sink_of session)) (faults sink)
   pub wrote : answer ≢ Err WriteFault → faults sink ≡ faults (sink_of session)

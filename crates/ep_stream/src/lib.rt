@@ -2,7 +2,8 @@
 //!
 //! A session opens itself on rows, takes what they kept for it, writes it into its stream, gives the chunks back, and
 //! says in points how far each thread had come. It does so over a row set, whether the rows are its caller's own or
-//! stand behind locks that threads share. It stands on ep_row for the rows and on nt_write for the stream.
+//! stand behind locks that threads share. It stands on ep_row for the rows, on nt_write for the stream, and on ep_rundown
+//! for what describes definitions before its last point.
 //!
 //! Its one contract: each record that is taken is told in the stream, in order and once, and what a session told is all
 //! that its sink's bytes stand for. `specs/Rows` and `specs/Steps` say what a row set promises, `specs/Telling` what a
@@ -13,6 +14,7 @@
 
 mod opened;
 mod row_set;
+mod rundown;
 mod session;
 mod write;
 

@@ -1,5 +1,5 @@
 //! The threads on which a session is open or was.
-ghost use Rattle.std.specs.Prelude.{◌≡◌, ℕ, ◌&&◌, ◌+◌, ◌-◌, ◌<◌, ◌≤◌, [], None, Some, is_some, IsSome, slice_index_or, slice_set, length, vec_len, vec_capacity, IfOk, OnOk};
+ghost use Rattle.std.specs.Prelude.{◌≡◌, ℕ, ◌&&◌, ◌+◌, ◌-◌, ◌<◌, ◌≤◌, [], ◌∷◌, None, Some, is_some, IsSome, slice_index_or, slice_set, length, vec_len, vec_capacity, IfOk, OnOk};
 ghost use Rattle.std.specs.List.Sorted.{IsNonDecreasingBy};
 ghost use Rattle.ep_defs.specs.declared.limits.TheConstants.{SESSION_THREADS as MOST_THREADS};
 ghost use Rattle.ep_defs.specs.declared.session.Marks.{Marks as MarksValue};
@@ -167,6 +167,18 @@ impl Opened {
         ensures count { opened_count self.new ≡ opened_count self.old }
     {
         put_numbers(&mut self.numbers, self.named.as_slice());
+    }
+
+    /// Puts thread 0 in front of what was put down, with the number of its last event.
+    pub(crate) fn count_first(&mut self, number: u32) -> Result<(), AllocError>
+        ensures numbers { OnOk result (numbers_in self.new ≡ (0, number) ∷ numbers_in self.old) }
+        ensures hands { hands_in self.new ≡ hands_in self.old }
+        ensures named { named_in self.new ≡ named_in self.old }
+        ensures marks { marks_in self.new ≡ marks_in self.old }
+        ensures count { opened_count self.new ≡ opened_count self.old }
+    {
+        self.numbers.insert(0, (0, number))?;
+        Ok(())
     }
 
     /// What the point says that was put down last.

@@ -1,5 +1,5 @@
 //! A session: its stream, and what it has of the threads that it is open on.
-ghost use Rattle.std.specs.Prelude.{◌≡◌, ◌≢◌, ℕ, ◌+◌, ◌<◌, ◌≤◌, ◌++◌, ◌↔◌, List, [], ◌∷◌, None, Some, Err, length, IsSome, IsTrue, IfOk, IfErr, OnOk, OnErr};
+ghost use Rattle.std.specs.Prelude.{◌≡◌, ◌≢◌, ℕ, ◌+◌, ◌<◌, ◌≤◌, ◌++◌, ◌↔◌, List, [], ◌∷◌, Option, None, Some, Err, length, IsSome, IsTrue, IfOk, IfErr, OnOk, OnErr};
 ghost use Rattle.std.specs.List.{list_all};
 ghost use Rattle.std.specs.Option.{ForSome};
 ghost use Rattle.ep_defs.specs.Definitions.{AreDistinct, definition_at};
@@ -15,12 +15,15 @@ ghost use Rattle.nt_write.specs.declared.fault.Fault.TheVariants.{TooLong, Write
 ghost use Rattle.nt_write.specs.Writer.{point_of};
 ghost use Rattle.ep_stream.specs.Rows.{IsRow, CountsRefused, KeepsSet, KeepsSlots};
 ghost use Rattle.ep_stream.specs.Steps.{TellsStep, CanOpen, CanClose, Opens, Steals, Closes, GivesBack, Stays};
-ghost use Rattle.ep_stream.specs.Telling.{IsTelling, IsFaulty, entries_of};
+ghost use Rattle.ep_rundown.specs.Rundown.{lacks_rundown, naming};
+ghost use Rattle.ep_stream.specs.Rundown.{last_definitions};
+ghost use Rattle.ep_stream.specs.Telling.{IsTelling, Tells, IsFaulty, entries_of};
 ghost use Rattle.ep_stream.specs.Named.{still_open, numbers_of};
 ghost use Rattle.ep_stream.specs.Fates.{fate_after};
 
 use crate::opened::Opened;
 use crate::row_set::RowSet;
+use crate::rundown::describe_used;
 use crate::write::write_chain;
 use ep_defs::limits::{EVENTS, SESSION_THREADS, SESSIONS};
 use ep_defs::{Config, EventDef, Items, MarkList, TraceInfo};
@@ -87,7 +90,7 @@ struct Place {
 
 impl<S: Sink> Session<S> {
     ghost use Rattle.ep_stream.specs.Sweep.{Swept, SweptRow, MayFail, TellsTakings, entries_in, sweep_entries, point_after, named_behind};
-    ghost use Rattle.ep_stream.specs.Session.{writer_of, sink_of, fault_of, hand_on, opened_count, rest_of, new_rest, WasOpened, AreRowsOf, SameHands, Started, TookStart, Attached, Stolen, Detached, Writes, Ended};
+    ghost use Rattle.ep_stream.specs.Session.{writer_of, sink_of, fault_of, hand_on, opened_count, rest_of, new_rest, WasOpened, AreRowsOf, SameHands, Started, TookStart, Attached, Stolen, Detached, Writes, last_entries, Ended};
 
     /// Begins the stream of a session: writes the reply to who asked for it, if there is one, and the stream's start. It
     /// takes the memory for so many rows first. The sink comes back where that fails.
@@ -413,20 +416,27 @@ impl<S: Sink> Session<S> {
 
     /// Ends the session, which is open nowhere and has nothing in hand: writes the last point and the end of the stream,
     /// unless the session has failed. Its fate is then that of the fault, and else the one that is handed in.
-    pub fn finish(self, alloc: Global, stamp: u64, fate: Fate) -> SessionEnd<S>
+    ///
+    /// Where the session was asked for a rundown, an event of thread 0 with this stamp describes each definition that its
+    /// events named, before the last point, which then names thread 0 too. `events` are the definitions of its steals.
+    pub fn finish(self, alloc: Global, stamp: u64, fate: Fate, events: &[EventDef]) -> SessionEnd<S>
         requires closed { (row : ℕ) → hand_on self row ≡ None }
         requires empty { (rest_of self).in_hand ≡ 0 }
+        requires few { length events.now ≤ EVENTS }
+        requires valid { IsTrue (list_all is_valid_event events.now) }
+        requires distinct { AreDistinct (definition_at events.now) }
+        requires lacks { IsTrue (lacks_rundown events.now) }
         ensures id { result.id ≡ (rest_of self).seat.id }
         ensures slot { result.slot ≡ (rest_of self).seat.slot }
         ensures conn { result.conn ≡ (rest_of self).seat.conn }
         ensures config { result.config ≡ (rest_of self).config }
         ensures marks { result.marks ≡ (rest_of self).marks }
-        ensures ended { Ended S.tells_taken S.taken S.write_faults stamp fate self result.fate result.sink }
+        ensures ended { Ended S.tells_taken S.taken S.write_faults events.now stamp fate self result.fate result.sink }
         ensures later { S.write_faults (sink_of self) ≤ S.write_faults result.sink }
         ensures other_side { S.read_side result.sink ≡ S.read_side (sink_of self) }
     {
         let mut session = self;
-        let _ = session.point(alloc, stamp);
+        let _ = session.write_last(alloc, stamp, events);
         let Session {
             place,
             config,
@@ -444,6 +454,44 @@ impl<S: Sink> Session<S> {
             fate: fate_of(answer, fate),
             sink,
         }
+    }
+
+    // Writes the last entries of the stream: the section, where the session was asked for a rundown, and the last point.
+    fn write_last(&mut self, alloc: Global, stamp: u64, events: &[EventDef]) -> Result<(), Fault>
+        requires few { length events.now ≤ EVENTS }
+        requires valid { IsTrue (list_all is_valid_event events.now) }
+        requires distinct { AreDistinct (definition_at events.now) }
+        requires lacks { IsTrue (lacks_rundown events.now) }
+        ensures writes { (before : List ℕ) (info : InfoValue) (told : List Entry)
+            → IsTelling S.tells_taken S.taken before (definition_at events.now) info told (writer_of self.old)
+            → Tells S.tells_taken S.taken before (last_definitions (rest_of self.old).config.rundown events.now) info told (last_entries stamp told (rest_of self.old)) result (writer_of self.new) }
+        ensures others { rest_of self.new ≡ record (rest_of self.old) { named = (rest_of self.new).named } }
+        ensures faulty { IsFaulty S.write_faults (writer_of self.old) (writer_of self.new) result }
+        ensures other_side { S.read_side (sink_of self.new) ≡ S.read_side (sink_of self.old) }
+    {
+        if !self.config.rundown {
+            return self.point(alloc, stamp);
+        }
+        let described = describe_used(alloc, &mut self.writer, events, stamp)?;
+        self.point_with_rundown(alloc, stamp, described)
+    }
+
+    // Writes how far each thread had come, and thread 0, which has so many descriptions, first.
+    fn point_with_rundown(&mut self, alloc: Global, stamp: u64, described: u32) -> Result<(), Fault>
+        requires sound { fault_of self.old ≡ None }
+        ensures writes { (before : List ℕ) (defs : ℕ → Option EventValue) (info : InfoValue) (told : List Entry)
+            → IsTelling S.tells_taken S.taken before defs info told (writer_of self.old)
+            → Tells S.tells_taken S.taken before defs info told (Point (naming described (point_of stamp (numbers_of (rest_of self.old).named))) ∷ []) result (writer_of self.new) }
+        ensures rest { rest_of self.new ≡ rest_of self.old }
+        ensures faulty { IsFaulty S.write_faults (writer_of self.old) (writer_of self.new) result }
+        ensures other_side { S.read_side (sink_of self.new) ≡ S.read_side (sink_of self.old) }
+    {
+        self.opened.count_off();
+        let Ok(()) = self.opened.count_first(described) else {
+            self.writer.give_up();
+            return Err(Fault::OutOfMemory);
+        };
+        self.writer.point(alloc, stamp, self.opened.numbers())
     }
 }
 

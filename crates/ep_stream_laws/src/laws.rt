@@ -14,11 +14,13 @@ ghost use Rattle.ep_model.specs.Marks.{marks_on, marks_of};
 ghost use Rattle.nt_write.specs.Writer.{point_of};
 ghost use Rattle.ep_stream.specs.declared.session.Seat.{Seat};
 ghost use Rattle.ep_stream.specs.Named.{first_named, insert_by, with_number, still_open, numbers_of, with_marks};
-ghost use Rattle.ep_stream.specs.Session.{Rest, new_rest};
+ghost use Rattle.ep_rundown.specs.Rundown.{with_section};
+ghost use Rattle.ep_stream.specs.Session.{Rest, new_rest, last_entries};
 ghost use Rattle.ep_stream_laws.specs.Kept.{RestFollows};
 ghost use Rattle.ep_stream_laws.specs.Makers.{is_made_by, is_told_by};
 
 use ep_model::laws::a_budget_can_be_counted;
+use ep_rundown::the_section_stands_before_the_last_point;
 
 // ---- what is kept
 
@@ -110,6 +112,16 @@ pub fn entries_are_what_was_told()
         → is_told_by session step ≡ false
         → entries events session (step ∷ past) ≡ entries events session past }
 {}
+
+/// A finished session tells, with the section of a rundown where it was asked for one, what its stream had told before and
+/// what ep_stream's call for a Finish ends it with.
+pub fn a_finished_session_tells_its_last_entries()
+    ensures { (events : List EventDef) (past : Past) (rest : Rest) (stamp : ℕ) → RestFollows past rest
+        → with_section rest.config.rundown (entries events rest.seat.id (Finish rest.seat.id stamp ∷ past))
+        ≡ entries events rest.seat.id past ++ last_entries stamp (entries events rest.seat.id past) rest }
+{
+    the_section_stands_before_the_last_point();
+}
 
 // ---- the end
 

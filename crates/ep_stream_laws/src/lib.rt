@@ -13,8 +13,8 @@
 mod laws;
 
 pub use laws::{
-    a_closed_thread_is_marked, a_finished_session_stays, a_new_session_keeps_nothing,
-    a_point_forgets_closed_threads, an_opened_thread_is_named, entries_are_what_was_told,
-    other_steps_change_nothing_kept, the_last_marks_are_all, what_is_given_back_is_not_in_hand,
-    what_is_stolen_is_told,
+    a_closed_thread_is_marked, a_finished_session_stays, a_finished_session_tells_its_last_entries,
+    a_new_session_keeps_nothing, a_point_forgets_closed_threads, an_opened_thread_is_named,
+    entries_are_what_was_told, other_steps_change_nothing_kept, the_last_marks_are_all,
+    what_is_given_back_is_not_in_hand, what_is_stolen_is_told,
 };

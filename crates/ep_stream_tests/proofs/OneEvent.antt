@@ -7,6 +7,7 @@ use Rattle.ep_defs.specs.declared.event.EventDef.{EventDef}
 use Rattle.ep_defs.specs.declared.session.Marks.{Marks}
 use Rattle.ep_defs.specs.Definitions.{AreDistinct, definition_at}
 use Rattle.ep_defs.specs.Event.{is_valid_event}
+use Rattle.ep_rundown.specs.Rundown.{lacks_rundown}
 use Rattle.ep_slot.specs.Hand.{HandState}
 use Rattle.nt_write.specs.Vectors.{event_e}
 use Rattle.ep_stream.specs.declared.session.Session.{Session}
@@ -27,6 +28,17 @@ one_is_distinct events is = subst (λ (es : List EventDef). AreDistinct (definit
 
 pub one_is_few : (events : List EventDef) → events ≡ event_e ∷ [] → length events ≤ 1000
 one_is_few events is = let one = ap (length {A = EventDef}) is in omega (arith, one)
+
+pub one_lacks_rundown : (events : List EventDef) → events ≡ event_e ∷ [] → IsTrue (lacks_rundown events)
+one_lacks_rundown events is = ap lacks_rundown is
+
+-- A program without events.
+pub none_is_distinct : (events : List EventDef) → events ≡ [] → AreDistinct (definition_at events)
+none_is_distinct events is = subst (λ (es : List EventDef). AreDistinct (definition_at es)) (sym is) alone
+  where
+    alone : AreDistinct (definition_at [])
+    alone zero j def at other = absurd (cc)
+    alone (suc i) j def at other = absurd (cc)
 
 -- It was opened on no thread of a row where it is not open, if it was closed nowhere.
 pub not_opened : {S : Type 0} (session : Session S) (row thread : ℕ) → ((r : ℕ) (h : HandState) → hand_on session r ≡ Some h → h.thread ≡ r) → hand_on session row ≡ None → (rest_of session).marks ≡ [] → thread ≡ row

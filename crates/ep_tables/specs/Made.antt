@@ -339,7 +339,7 @@ pub record EndsAs (session stamp : ℕ) (tables : Tables) (end : SessionEnd Sink
   pub was : Present
   pub stands : StandsAt session tables place was
   pub marks : end.marks ≡ (rest_of was.session).marks
-  pub ended : Ended (λ (s : SinkState). true) (λ (s : SinkState). s.taken) (λ (s : SinkState). s.faults) stamp ProgramEnd was.session end.fate end.sink
+  pub ended : Ended (λ (s : SinkState). true) (λ (s : SinkState). s.taken) (λ (s : SinkState). s.faults) tables.events.items stamp ProgramEnd was.session end.fate end.sink
 
 -- ---- before the first step
 

@@ -8,6 +8,7 @@ use Rattle.ep_defs.specs.Definitions.{AreDistinct, definition_at}
 use Rattle.ep_defs.specs.Event.{is_valid_event}
 use Rattle.ep_defs.specs.declared.event.EventDef.{EventDef}
 use Rattle.ep_defs.specs.declared.limits.TheConstants.{EVENTS, SESSIONS}
+use Rattle.ep_rundown.specs.Rundown.{lacks_rundown}
 use Rattle.ep_table.specs.Sessions.{is_held, held_count}
 use Rattle.ep_stream.specs.Session.{rest_of, opened_count, fault_of, WasOpened, AreRowsOf}
 use Rattle.ep_rows.specs.declared.rows.Rows.{Rows}
@@ -16,11 +17,13 @@ use Rattle.ep_tables.specs.declared.tables.Present.{Present}
 use Rattle.ep_tables.specs.declared.tables.Tables.{Tables}
 use Rattle.ep_tables.specs.Tables.{has_slot}
 
--- The events that threads write are definitions that a stream can hold, no two of them the same.
+-- The events that threads write are definitions that a stream can hold, no two of them the same, and none that of the
+-- rundown.
 pub record CanBeTold (events : List EventDef) : Type 0 where
   pub few : length events ≤ EVENTS
   pub valid : IsTrue (list_all is_valid_event events)
   pub distinct : AreDistinct (definition_at events)
+  pub lacks : IsTrue (lacks_rundown events)
 
 -- A session that is present has its slot and number, the rows expect its hands, it knows each thread on which it was
 -- opened, and has not failed.

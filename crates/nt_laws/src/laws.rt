@@ -1,5 +1,5 @@
 //! Laws: what holds of the definitions alone.
-ghost use Rattle.std.specs.Prelude.{◌≡◌, ℕ, ◌<◌, List, ◌++◌, length};
+ghost use Rattle.std.specs.Prelude.{◌≡◌, ℕ, ◌<◌, Bool, List, ◌++◌, length};
 ghost use Rattle.ep_defs.specs.declared.session.TraceInfo.{TraceInfo};
 ghost use Rattle.ep_defs.specs.declared.item.Item.{Item};
 ghost use Rattle.ep_defs.specs.Entry.{Entry};
@@ -8,6 +8,9 @@ ghost use Rattle.nt_blocks.specs.Verdict.{Good, verdict};
 ghost use Rattle.nt_write.specs.Trace.{IsTrace};
 ghost use Rattle.nt_write.specs.Canonical.{IsCanonical};
 ghost use Rattle.ep_model.specs.Faithful.{Share, AreFaithful};
+ghost use Rattle.ep_rundown.specs.Rundown.{with_section};
+ghost use Rattle.ep_told.specs.Told.{AreOfProgram};
+ghost use Rattle.nt_laws.specs.Bare.{bare};
 ghost use Rattle.nt_laws.specs.Faithful.{Faithful};
 ghost use Rattle.nt_laws.specs.Reading.{IsBegun, IsBegunAs, IsReadAs, IsReadUpTo};
 ghost use Rattle.pt_io.specs.Taken.{IsPrefix};
@@ -69,4 +72,15 @@ pub fn a_faithful_stream_is_found()
         → AreFaithful shares entries → (canonical : IsCanonical info entries bytes) → Faithful shares canonical.items }
 {
     a_canonical_stream_is_read_whole();
+}
+
+/// Where a program's entries are faithful, the canonical stream of the entries with the section of a rundown tells of each
+/// thread of the program what its share has, once what is the rundown's is left out.
+pub fn a_stream_with_a_rundown_is_faithful()
+    ensures { (rundown : Bool) (info : TraceInfo) (shares : List Share) (entries : List Entry)
+        (bytes : List ℕ) → AreFaithful shares entries → AreOfProgram entries
+        → (canonical : IsCanonical info (with_section rundown entries) bytes)
+        → Faithful shares (bare rundown canonical.items) }
+{
+    a_faithful_stream_is_found();
 }

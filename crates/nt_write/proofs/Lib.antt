@@ -18,3 +18,4 @@ pub mod Sameness
 pub mod Sinks
 pub mod Told
 pub mod WrittenIsCanonical
+pub mod Used

@@ -1,5 +1,5 @@
 -- What a writer has written, and what it keeps until the next flush.
-use Rattle.std.specs.Prelude.{◌≡◌, ℕ, ◌++◌, Bool, List, Option, None, IsTrue}
+use Rattle.std.specs.Prelude.{◌≡◌, ℕ, ◌++◌, Bool, List, Option, Some, None, Contains, IsTrue}
 use Rattle.std.specs.List.{AllByRecursion}
 use Rattle.ep_defs.specs.declared.event.EventDef.{EventDef}
 use Rattle.ep_defs.specs.declared.session.TraceInfo.{TraceInfo}
@@ -60,3 +60,8 @@ TookPart tells taken before info entries sink =
 abbrev pub TookStream : {S : Type 0} → (S → Bool) → (S → List ℕ) → List ℕ → TraceInfo → List Entry → S → Type 0
 TookStream tells taken before info entries sink =
     IsTrue (tells sink) → (bytes : List ℕ) × IsCanonical info entries bytes × (taken sink ≡ before ++ bytes)
+
+-- The second definitions by number have what the first have, and more: none of those is among what was used.
+pub record Extends (used : List EventDef) (defs more : ℕ → Option EventDef) : Type 0 where
+  pub same : (number : ℕ) (def : EventDef) → defs number ≡ Some def → more number ≡ Some def
+  pub new : (number : ℕ) (def : EventDef) → defs number ≡ None → more number ≡ Some def → Contains used def → ⊥

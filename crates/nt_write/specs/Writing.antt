@@ -1,5 +1,5 @@
 -- What a writer has written of a layout, and what it keeps of it until the next flush.
-use Rattle.std.specs.Prelude.{◌≡◌, ℕ, ◌+◌, ◌%◌, ◌≤◌, ◌++◌, Bool, ◌||◌, List, [], length, Option, Some, None, Result, Err, slice_index, IsTrue, OnOk, if◌then◌else◌}
+use Rattle.std.specs.Prelude.{◌≡◌, ℕ, ◌+◌, ◌%◌, ◌≤◌, ◌++◌, Bool, ◌||◌, List, [], length, Option, Some, None, Result, Err, slice_index, take, map, IsTrue, OnOk, if◌then◌else◌}
 use Rattle.std.specs.Option.{option_map}
 use Rattle.ep_defs.specs.declared.event.EventDef.{EventDef}
 use Rattle.ep_defs.specs.declared.limits.TheConstants.{PAYLOAD_BYTES}
@@ -33,10 +33,16 @@ use Rattle.nt_write.specs.Arriving.{passes_by, IsAtMost, HasRoomFor, CanFlush}
 abbrev pub id_at : IdTable → ℕ → ℕ
 id_at ids number = slice_index ids.table.items number
 
+-- The numbers that have ids, in the order of the ids.
+abbrev pub numbers_in : IdTable → List ℕ
+numbers_in ids = take ids.used ids.numbers.items
+
 -- The table has the ids of the definitions that were used.
 pub record AreIds (defs : ℕ → Option EventDef) (definitions : List EventDef) (ids : IdTable) : Type 0 where
   pub used : ids.used ≡ length definitions
   pub id_is : (number : ℕ) (def : EventDef) → defs number ≡ Some def → id_at ids number ≡ id_in is_same_event def definitions
+  pub none_is : (number : ℕ) → defs number ≡ None → id_at ids number ≡ 0
+  pub numbers : map defs (numbers_in ids) ≡ map Some definitions
 
 -- ---- the sink
 

@@ -32,6 +32,7 @@ pub use vectors::{
     a_new_activity_takes_16_bytes, a_second_event_takes_two_bytes,
     a_session_without_events_takes_158_bytes, a_stack_is_written_again_after_a_point,
     five_events_of_one_thread_and_one_of_another, nested_fields_stand_before_the_name,
-    one_event_takes_310_bytes, the_start_takes_102_bytes, varuints_have_their_low_bits_first,
+    one_event_and_its_description_take_462_bytes, one_event_takes_310_bytes,
+    the_start_takes_102_bytes, varuints_have_their_low_bits_first,
 };
 pub use writer::{EventOut, TraceWriter};

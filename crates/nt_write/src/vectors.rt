@@ -1,5 +1,5 @@
 //! What small streams and their parts are as bytes, computed by the prover and worked out by hand.
-ghost use Rattle.std.specs.Prelude.{◌≡◌, List, Ok, [], ◌∷◌, ◌++◌, length};
+ghost use Rattle.std.specs.Prelude.{◌≡◌, true, List, Ok, [], ◌∷◌, ◌++◌, length};
 ghost use Rattle.std.specs.Int.{w32, w64};
 ghost use Rattle.ep_defs.specs.Session.{standard_info_of};
 ghost use Rattle.ep_defs.specs.declared.item.ItemKind.TheVariants as item;
@@ -11,8 +11,9 @@ ghost use Rattle.nt_meta.specs.Meta.{meta_payload};
 ghost use Rattle.nt_head.specs.Fewest.{head_bytes};
 ghost use Rattle.nt_blocks.specs.Drafts.{blob_body};
 ghost use Rattle.nt_blocks.specs.Refusals.{body_at};
+ghost use Rattle.ep_rundown.specs.Rundown.{with_section};
 ghost use Rattle.nt_write.specs.Canonical.{encoded};
-ghost use Rattle.nt_write.specs.Vectors.{none_written, one_written, start_bytes, none_written_bytes, one_written_bytes, bodies_of, two_threads, two_threads_bytes, one_stack, one_stack_bytes, before_point_bytes, after_point_bytes, nth, many_drafts, some_id, first_of_thread_2, nested, nested_bytes, zero_id, longer_header_bytes};
+ghost use Rattle.nt_write.specs.Vectors.{none_written, one_written, start_bytes, none_written_bytes, one_written_bytes, one_described_bytes, bodies_of, two_threads, two_threads_bytes, one_stack, one_stack_bytes, before_point_bytes, after_point_bytes, nth, many_drafts, some_id, first_of_thread_2, nested, nested_bytes, zero_id, longer_header_bytes};
 
 /// The head of a stream and its Trace object.
 pub fn the_start_takes_102_bytes()
@@ -30,6 +31,14 @@ pub fn a_session_without_events_takes_158_bytes()
 pub fn one_event_takes_310_bytes()
     ensures bytes { encoded (standard_info_of 1 1) one_written ≡ start_bytes ++ one_written_bytes }
     ensures count { length (start_bytes ++ one_written_bytes) ≡ 310 }
+{}
+
+/// A session with one event and a rundown: the start, both definitions, the event, what describes its definition, and a
+/// point that knows of both.
+pub fn one_event_and_its_description_take_462_bytes()
+    ensures bytes { encoded (standard_info_of 1 1) (with_section true one_written)
+        ≡ start_bytes ++ one_described_bytes }
+    ensures count { length (start_bytes ++ one_described_bytes) ≡ 462 }
 {}
 
 /// A varuint has seven bits in each byte, the low ones first.

@@ -1,5 +1,5 @@
 //! The writer of a stream.
-ghost use Rattle.std.specs.Prelude.{◌≡◌, ◌≢◌, ℕ, ◌+◌, ◌%◌, ◌^◌, ◌<◌, ◌≤◌, ◌⊎◌, ◌↔◌, ◌++◌, List, [], ◌∷◌, length, Option, Some, None, Ok, Err, IsTrue, IfOk, IfErr, OnOk, OnErr};
+ghost use Rattle.std.specs.Prelude.{◌≡◌, ◌≢◌, ℕ, ◌+◌, ◌%◌, ◌^◌, ◌<◌, ◌≤◌, ◌⊎◌, ◌↔◌, ◌++◌, List, [], ◌∷◌, length, Option, Some, None, Ok, Err, IsTrue, IfOk, IfErr, OnOk, OnErr, map};
 ghost use Rattle.std.specs.List.{AllByRecursion};
 ghost use Rattle.std.specs.Option.{option_map};
 ghost use Rattle.ep_defs.specs.declared.limits.TheConstants.{FRAME_BYTES, PAYLOAD_BYTES};
@@ -66,7 +66,8 @@ impl<S: Sink> TraceWriter<S> {
     ghost use Rattle.nt_write.specs.Value.{framed_with};
     ghost use Rattle.nt_write.specs.Arriving.{HasRoomFor, IsInterned, roomy, with_definition};
     ghost use Rattle.nt_write.specs.Writing.{IsAt, IsKept, HasRoom, ids_of, pending_of};
-    ghost use Rattle.nt_write.specs.Writer.{fault_of, sink_of, IsWriting, TookPart, TookStream};
+    ghost use Rattle.nt_write.specs.Writer.{fault_of, sink_of, Extends, IsWriting, TookPart, TookStream};
+    ghost use Rattle.ep_rundown.specs.Rundown.{used};
     ghost use Rattle.nt_write.specs.Sinks.{with_sink};
 
     /// Writes the stream's start, 102 bytes in one write. The sink comes back where that fails.
@@ -229,6 +230,37 @@ impl<S: Sink> TraceWriter<S> {
             → TookPart S.tells_taken S.taken before info entries result }
     {
         self.output.replace_sink(sink)
+    }
+
+    /// The numbers of the definitions that its events named so far, in the order of their metadata ids, which are 1, 2,
+    /// 3, ..
+    pub fn used(&self) -> &[u32]
+        ensures named { (before : List ℕ) (defs : ℕ → Option EventDef) (info : TraceInfo)
+            (entries : List Entry)
+            → IsWriting S.tells_taken S.taken before defs info entries self.now
+            → map defs result.now ≡ map Some (used entries) }
+        ensures goes_on { (before : List ℕ) (defs more : ℕ → Option EventDef) (info : TraceInfo)
+            (entries : List Entry)
+            → IsWriting S.tells_taken S.taken before defs info entries self.now
+            → Extends (used entries) defs more
+            → IsWriting S.tells_taken S.taken before more info entries self.now }
+        ensures few { length result.now ≤ LAST_EVENT + 1 }
+    {
+        self.ids.numbers()
+    }
+
+    /// Gives the stream up, for a caller that has no memory for what was to be written: from then on the writer answers
+    /// that fault and writes nothing more.
+    pub fn give_up(&mut self)
+        requires { fault_of self.old ≡ None }
+        ensures fault { fault_of self.new ≡ Some OutOfMemory }
+        ensures sink { sink_of self.new ≡ sink_of self.old }
+        ensures part { (before : List ℕ) (defs : ℕ → Option EventDef) (info : TraceInfo)
+            (entries : List Entry)
+            → IsWriting S.tells_taken S.taken before defs info entries self.old
+            → TookPart S.tells_taken S.taken before info entries (sink_of self.new) }
+    {
+        self.fault = Some(Fault::OutOfMemory);
     }
 
     /// The fault that the writer answered, if it did.

@@ -15,6 +15,10 @@ use Rattle.ep_defs.specs.declared.session.Facts.{Facts}
 use Rattle.pt_roles.specs.declared.live_end.LiveEnd.{LiveEnd}
 use Rattle.pt_run.specs.Command.{RunsTo, end_of, text_of}
 use Rattle.pt_run.specs.declared.words.Asked.{Asked as RunAsked}
+use Rattle.pt_run.specs.declared.words.Reverse.{Reverse}
+use Rattle.pt_run.specs.Reverse.{RunsBy, called}
+use Rattle.ipc_reverse.specs.Advert.{advert_of}
+use Rattle.ipc_reverse.specs.Calls.{dock_of, uncalled}
 use Rattle.pt_cli.specs.declared.words.Command.{Command}
 use Rattle.pt_cli.specs.declared.words.Command.TheVariants as command
 use Rattle.pt_cli.specs.Errors.{words_error}
@@ -69,6 +73,7 @@ plain-causes source sink (Some (command.Trace asked)) input_old input_new old ne
 plain-causes source sink (Some (command.Watch asked)) input_old input_new old new end comes alone = line-causes source sink input_old input_new old new end (alone refl) comes
 plain-causes source sink (Some (command.Run asked)) input_old input_new old new end comes alone = line-causes source sink input_old input_new old new end (alone refl) comes
 plain-causes source sink (Some (command.Client asked)) input_old input_new old new end comes alone = line-causes source sink input_old input_new old new end (alone refl) comes
+plain-causes source sink (Some (command.Greet target)) input_old input_new old new end comes alone = line-causes source sink input_old input_new old new end (alone refl) comes
 plain-causes source sink None input_old input_new old new end comes alone = line-causes source sink input_old input_new old new end (alone refl) comes
 
 -- A command that waits for somebody is refused there.
@@ -82,6 +87,7 @@ plain-words source sink (Some (command.Trace asked)) input_old input_new old new
 plain-words source sink (Some (command.Watch asked)) input_old input_new old new end is comes = comes
 plain-words source sink (Some (command.Run asked)) input_old input_new old new end is comes = comes
 plain-words source sink (Some (command.Client asked)) input_old input_new old new end is comes = comes
+plain-words source sink (Some (command.Greet target)) input_old input_new old new end is comes = comes
 plain-words source sink None input_old input_new old new end is comes = comes
 
 trace-unread : (end : End) → (end ≡ ends.Done) ⊎ (end ≡ ends.WriteFault) ⊎ (end ≡ ends.OutOfMemory) ⊎ (end ≡ ends.TooLong) → end ≢ ends.ReadFault
@@ -108,6 +114,16 @@ client-unread end (inr (inr (inr (inl error)))) other = let is = error.1 in cc
 client-unread end (inr (inr (inr (inr (inl bad))))) other = let is = bad.1 in cc
 client-unread end (inr (inr (inr (inr (inr is))))) other = cc
 
+greet-unread : (end : End) → (end ≡ ends.Done) ⊎ (end ≡ ends.WriteFault) ⊎ (end ≡ ends.LinkFault) ⊎ (end ≡ ends.Refused 0)
+    ⊎ ((code : ℕ) × (end ≡ ends.PeerError code)) ⊎ ((at : ℕ) × (end ≡ ends.BadReply at)) ⊎ (end ≡ ends.OutOfMemory) → end ≢ ends.ReadFault
+greet-unread end (inl is) other = cc
+greet-unread end (inr (inl is)) other = cc
+greet-unread end (inr (inr (inl is))) other = cc
+greet-unread end (inr (inr (inr (inl is)))) other = cc
+greet-unread end (inr (inr (inr (inr (inl error))))) other = let is = error.1 in cc
+greet-unread end (inr (inr (inr (inr (inr (inl bad)))))) other = let is = bad.1 in cc
+greet-unread end (inr (inr (inr (inr (inr (inr is)))))) other = cc
+
 -- The causes of a command that reads the input, or leaves it alone.
 reading-faults : {I O : Type 0} (source : Source I) (sink : Sink O) (asked : Option Command) (input_old input_new : I) (old new : O) (end : End)
     → (end ≡ ends.ReadFault → reads_input asked ≡ true) → HasCauses source sink input_old input_new old new end → HasFaults source sink asked input_old input_new old new end
@@ -131,6 +147,16 @@ runs-causes sink dock takes gave took asked facts old new dock_old dock_new None
     let none = runs.unrun refl in
     let is = none.0 in
     ((λ read. cc), (λ fault. absurd (cc)), (λ _. ap sink.write_faults none.1))
+
+-- The same of a run with peers that came in, or with links to a tool.
+runs-causes-by : {O D K L : Type 0} (sink : Sink O) (dock : Dock D L) (caller : Caller K L) (takes : Sink L) (gave : L → ReadSide) (took : L → WriteSide) (asked : RunAsked) (facts : Facts)
+    (old new : O) (dock_old dock_new : D) (caller_old caller_new : K) (peer : Option L) (live : Option (LiveEnd L)) (end : End) (reverse : Option Reverse)
+    → RunsBy sink dock caller takes gave took asked facts old new dock_old dock_new caller_old caller_new peer live end reverse
+    → (end ≢ ends.ReadFault) × (end ≡ ends.WriteFault → HasRisen (sink.write_faults old) (sink.write_faults new)) × (end ≢ ends.WriteFault → sink.write_faults new ≡ sink.write_faults old)
+runs-causes-by sink dock caller takes gave took asked facts old new dock_old dock_new caller_old caller_new peer live end None runs =
+    runs-causes sink dock takes gave took asked facts old new dock_old dock_new live end runs.0
+runs-causes-by sink dock caller takes gave took asked facts old new dock_old dock_new caller_old caller_new peer live end (Some reverse) runs =
+    runs-causes sink (dock_of caller takes (advert_of facts) reverse.calls) takes gave took asked facts old new (uncalled caller_old) (called caller_new runs.0.given peer) live end runs.0.runs
 
 pub comes-faults : {I O D K L : Type 0} (source : Source I) (sink : Sink O) (dock : Dock D L) (caller : Caller K L) (reads : Source L) (takes : Sink L) (gave : L → ReadSide) (took : L → WriteSide)
     (facts : Facts) (asked : Option Command) (a : Around I O D K L) (end : End)
@@ -160,12 +186,16 @@ comes-faults source sink dock caller reads takes gave took facts (Some (command.
       all_written = λ memory written. trace-written end comes.ends comes.all_written memory written;
     }
 comes-faults source sink dock caller reads takes gave took facts (Some (command.Run asked)) a end comes alone =
-    let of_run = runs-causes sink dock takes gave took asked facts a.output_old a.output_new a.dock_old a.dock_new a.live end comes in
+    let of_run = runs-causes-by sink dock caller takes gave took asked facts a.output_old a.output_new a.dock_old a.dock_new a.caller_old a.caller_new a.peer a.live end asked.reverse comes in
     reading-faults source sink (Some (command.Run asked)) a.input_old a.input_new a.output_old a.output_new end (λ is. absurd (of_run.0 is))
     (unread-causes source sink a.input_old a.input_new a.output_old a.output_new end (alone refl) of_run.0 of_run.1 of_run.2)
 comes-faults source sink dock caller reads takes gave took facts (Some (command.Client asked)) a end comes alone =
     let read = client-unread end comes.ends in
     reading-faults source sink (Some (command.Client asked)) a.input_old a.input_new a.output_old a.output_new end (λ is. absurd (read is))
+    (unread-causes source sink a.input_old a.input_new a.output_old a.output_new end (alone refl) read comes.write_fault comes.all_written)
+comes-faults source sink dock caller reads takes gave took facts (Some (command.Greet target)) a end comes alone =
+    let read = greet-unread end comes.ends in
+    reading-faults source sink (Some (command.Greet target)) a.input_old a.input_new a.output_old a.output_new end (λ is. absurd (read is))
     (unread-causes source sink a.input_old a.input_new a.output_old a.output_new end (alone refl) read comes.write_fault comes.all_written)
 comes-faults source sink dock caller reads takes gave took facts None a end comes alone =
     reading-faults source sink None a.input_old a.input_new a.output_old a.output_new end (λ is. absurd (line-unread sink a.output_old a.output_new end comes is))

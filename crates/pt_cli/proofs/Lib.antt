@@ -1,3 +1,4 @@
 pub mod Causes
 pub mod Nothing
 pub mod Tracing
+pub mod Peers

@@ -5,11 +5,16 @@ use Rattle.pt_io.specs.declared.source.Source.{Ghosts as Source}
 use Rattle.pt_command.specs.declared.end.End.TheVariants as ends
 use Rattle.pt_command.specs.Answers.{Answers}
 use Rattle.pt_command.proofs.Answering.{unanswered, no-refusal, no-done}
-use Rattle.std.proofs.lemmas.List.{append-nil}
-use Rattle.pt_command.specs.declared.limits.TheConstants.{PIECE_BYTES}
-use Rattle.pt_events.proofs.Ending.{spent}
-use Rattle.pt_events.specs.Command.{Lists, SoFar}
+use Rattle.pt_events.specs.Command.{Lists}
 use Rattle.pt_lines.specs.declared.form.Form.{Form}
+use Rattle.ep_defs.specs.declared.session.Facts.{Facts}
+use Rattle.pt_client.specs.Greeting.{Greets}
+use Rattle.pt_io.specs.declared.caller.Caller.{Ghosts as Caller}
+use Rattle.pt_io.specs.declared.dock.Dock.{Ghosts as Dock}
+use Rattle.pt_io.specs.Sides.{ReadSide, WriteSide}
+use Rattle.pt_run.specs.declared.words.Asked.{Asked as RunAsked}
+use Rattle.pt_run.specs.declared.words.Reverse.{Reverse}
+use Rattle.pt_run.specs.Reverse.{RunsBy}
 use Rattle.pt_cli.specs.declared.words.Command.{Command}
 use Rattle.pt_cli.specs.declared.words.Command.TheVariants as command
 use Rattle.pt_cli.specs.Program.{PlainComesTo}
@@ -22,16 +27,53 @@ no-answer source sink IsDone IsError input output =
 -- No line was written.
 pub unlisted : {I O : Type 0} (source : Source I) (sink : Sink O) (form : Form) (input : I) (output : O) → Lists source sink form input input output output ends.OutOfMemory
 unlisted source sink form input output =
-    let unread : SoFar source form input input PIECE_BYTES [] =
     record {
-      bytes = [];
-      last = [];
-      gave = record { given = λ _. sym (append-nil (source.given input)); left = λ _. refl; counted = omega arith };
-      few = omega arith;
-      is_text = inl (search, refl);
-    } in
-    spent source sink form input input output output output [] ends.OutOfMemory unread refl
-    (record { took = λ _. sym (append-nil (sink.taken output)); sound = refl }) refl
+      done = λ is. absurd (cc);
+      refused = λ at is. absurd (cc);
+      unread = λ is. absurd (cc);
+      written_part = λ is. absurd (cc);
+      memory = λ _. inl (refl, refl);
+      causes = record { read_fault = λ is. absurd (cc); all_read = λ _. refl; write_fault = λ is. absurd (cc); all_written = λ _. refl };
+      whole = λ tells whole at is. cc;
+      not_whole = λ tells none is. cc;
+      ends = inr (inr (inr (inr refl)));
+    }
+
+-- No program was waited for.
+pub ungreeted : {O D L : Type 0} (sink : Sink O) (dock : Dock D L) (source : Source L) (takes : Sink L) (output : O) (old : D) → Greets sink dock source takes output output old old None ends.OutOfMemory
+ungreeted sink dock source takes output old =
+    record {
+      answered = tt;
+      peer_line = λ code is. absurd (cc);
+      reply_line = λ at is. absurd (cc);
+      asked = λ is. absurd (cc);
+      asked_part = tt;
+      came = tt;
+      none = refl;
+      nobody = inr (inr (refl, refl, refl));
+      refused = λ at is. absurd (cc);
+      link_fault = λ is. absurd (cc);
+      sound = λ _. (refl, tt);
+      write_fault = λ is. absurd (cc);
+      all_written = λ _. refl;
+      ends = inr (inr (inr (inr (inr (inr refl)))));
+    }
+
+-- Nobody was let in, and no tool called.
+pub unran : {O D K L : Type 0} (sink : Sink O) (dock : Dock D L) (caller : Caller K L) (takes : Sink L) (gave : L → ReadSide) (took : L → WriteSide) (asked : RunAsked) (facts : Facts)
+    (output : O) (old : D) (calls : K) (reverse : Option Reverse) → RunsBy sink dock caller takes gave took asked facts output output old old calls calls None None ends.OutOfMemory reverse
+unran sink dock caller takes gave took asked facts output old calls None = (record { ran = tt; unrun = λ _. (refl, refl, refl) }, refl, refl)
+unran sink dock caller takes gave took asked facts output old calls (Some reverse) = (
+  record {
+    given = 0;
+    runs = record { ran = tt; unrun = λ _. (refl, refl, refl) };
+    links = omega arith;
+    few = omega arith;
+    cut = λ link is. absurd (cc);
+    fault = λ is. absurd (cc);
+  },
+  refl,
+)
 
 pub plain-nothing : {I O : Type 0} (source : Source I) (sink : Sink O) (asked : Option Command) (input : I) (output : O)
     → PlainComesTo source sink asked input input output output ends.OutOfMemory
@@ -62,4 +104,5 @@ plain-nothing source sink (Some (command.Trace asked)) input output = inr (refl,
 plain-nothing source sink (Some (command.Watch asked)) input output = inr (refl, refl)
 plain-nothing source sink (Some (command.Run asked)) input output = inr (refl, refl)
 plain-nothing source sink (Some (command.Client asked)) input output = inr (refl, refl)
+plain-nothing source sink (Some (command.Greet target)) input output = inr (refl, refl)
 plain-nothing source sink None input output = inr (refl, refl)

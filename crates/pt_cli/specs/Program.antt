@@ -10,11 +10,12 @@ use Rattle.pt_command.specs.declared.end.End.{End}
 use Rattle.pt_command.specs.declared.end.End.TheVariants as ends
 use Rattle.pt_command.specs.Says.{SaysLine}
 use Rattle.pt_client.specs.Answers.{Asks}
+use Rattle.pt_client.specs.Greeting.{Greets}
 use Rattle.pt_events.specs.Command.{Lists}
 use Rattle.pt_gen.specs.Command.{Generates}
 use Rattle.pt_replay.specs.Command.{Replays}
 use Rattle.pt_report.specs.Command.{Reports}
-use Rattle.pt_run.specs.Command.{RunsTo}
+use Rattle.pt_run.specs.Reverse.{RunsAs}
 use Rattle.pt_watch.specs.Command.{Watches}
 use Rattle.pt_roles.specs.declared.live_end.LiveEnd.{LiveEnd}
 use Rattle.pt_io.specs.declared.dock.Dock.{Ghosts as Dock}
@@ -24,7 +25,7 @@ use Rattle.pt_cli.specs.declared.words.Command.{Command}
 use Rattle.pt_cli.specs.declared.words.Command.TheVariants as command
 use Rattle.pt_cli.specs.Errors.{words_error}
 use Rattle.pt_cli.specs.Traced.{TracesTo}
-use Rattle.pt_cli.specs.Words.{reads_input, calls_peer, runs_server, runs_threads, writes_early}
+use Rattle.pt_cli.specs.Words.{reads_input, calls_peer, awaits_peers, has_peer, runs_server, runs_threads, writes_early}
 
 -- What a command comes to that waits for nobody. All others are refused there, as words are that ask for nothing.
 abbrev pub PlainComesTo : {I O : Type 0} → Source I → Sink O → Option Command → I → I → O → O → End → Type 0
@@ -34,7 +35,7 @@ PlainComesTo source sink (Some (command.Events form)) input_old input_new old ne
 PlainComesTo source sink (Some (command.Gen asked)) input_old input_new old new end = Generates sink asked old new end
 PlainComesTo source sink asked input_old input_new old new end = SaysLine sink old new words_error ends.Words end
 
--- What a command comes to that runs no server and calls no peer. All others are refused there, as words are that ask for nothing.
+-- What a command comes to that has no peers. All others are refused there, as words are that ask for nothing.
 abbrev pub AloneComesTo : {I O : Type 0} → Source I → Sink O → Option Command → I → I → O → O → List (ℕ × ℕ) → Option SeatState → List Marks → End → Type 0
 AloneComesTo source sink (Some (command.Trace asked)) input_old input_new old new rows seat marks end = TracesTo sink asked old new rows seat marks end
 AloneComesTo source sink (Some (command.Watch asked)) input_old input_new old new rows seat marks end = Watches sink asked old new rows seat marks end
@@ -62,9 +63,11 @@ abbrev pub ComesTo : {I O D K L : Type 0} → Source I → Sink O → Dock D L �
 ComesTo source sink dock caller reads takes gave took facts (Some (command.Trace asked)) a end = TracesTo sink asked a.output_old a.output_new a.rows a.seat a.marks end
 ComesTo source sink dock caller reads takes gave took facts (Some (command.Watch asked)) a end = Watches sink asked a.output_old a.output_new a.rows a.seat a.marks end
 ComesTo source sink dock caller reads takes gave took facts (Some (command.Run asked)) a end =
-    RunsTo sink dock takes gave took asked facts a.output_old a.output_new a.dock_old a.dock_new a.live end
+    RunsAs sink dock caller takes gave took asked facts a.output_old a.output_new a.dock_old a.dock_new a.caller_old a.caller_new a.peer a.live end
 ComesTo source sink dock caller reads takes gave took facts (Some (command.Client asked)) a end =
     Asks sink caller reads takes asked a.output_old a.output_new a.caller_old a.caller_new a.peer end
+ComesTo source sink dock caller reads takes gave took facts (Some (command.Greet target)) a end =
+    Greets sink dock reads takes a.output_old a.output_new a.dock_old a.dock_new a.peer end
 ComesTo source sink dock caller reads takes gave took facts asked a end = PlainComesTo source sink asked a.input_old a.input_new a.output_old a.output_new end
 
 -- A fault of the input or the output comes only from the object that was handed in, in this call, and is answered. But a trace
@@ -80,6 +83,8 @@ pub record HasFaults {I O : Type 0} (source : Source I) (sink : Sink O) (asked :
 pub record LeavesAlone {I D K L : Type 0} (asked : Option Command) (input_old input_new : I) (dock_old dock_new : D) (caller_old caller_new : K) (peer : Option L)
     (live : Option (LiveEnd L)) (rows : List (ℕ × ℕ)) (seat : Option SeatState) (marks : List Marks) : Type 0 where
   pub unread : reads_input asked ≡ false → input_new ≡ input_old
-  pub unserved : runs_server asked ≡ false → (live ≡ None) × (dock_new ≡ dock_old)
-  pub nobody : calls_peer asked ≡ false → (peer ≡ None) × (caller_new ≡ caller_old)
+  pub unserved : runs_server asked ≡ false → live ≡ None
+  pub unasked : awaits_peers asked ≡ false → dock_new ≡ dock_old
+  pub uncalled : calls_peer asked ≡ false → caller_new ≡ caller_old
+  pub nobody : has_peer asked ≡ false → peer ≡ None
   pub untraced : runs_threads asked ≡ false → (rows ≡ []) × (seat ≡ None) × (marks ≡ [])

@@ -1,5 +1,5 @@
 -- What the words of the command line mean (this project's profile).
-use Rattle.std.specs.Prelude.{ℕ, Bool, true, false, ◌≤◌, ◌-◌, ◌^◌, if◌then◌else◌, List, [], ◌∷◌, codes, Option, Some, None, option_map}
+use Rattle.std.specs.Prelude.{ℕ, Bool, true, false, not, ◌≤◌, ◌-◌, ◌^◌, if◌then◌else◌, List, [], ◌∷◌, codes, Option, Some, None, is_some, option_map}
 use Rattle.ep_defs.specs.Event.{is_same_text}
 use Rattle.ep_plan.specs.Words.{number_in, at_least, at_most}
 use Rattle.pt_words.specs.Session.{session_in}
@@ -8,6 +8,7 @@ use Rattle.pt_events.specs.Words.{form_in}
 use Rattle.pt_gen.specs.Words as gen
 use Rattle.pt_client.specs.Answers as client
 use Rattle.pt_client.specs.Words.{command_in}
+use Rattle.pt_client.specs.Greeting.{greet_in}
 use Rattle.pt_run.specs.Words as run
 use Rattle.pt_asked.specs.Words as sample
 use Rattle.pt_cli.specs.declared.words.Command.{Command}
@@ -51,6 +52,7 @@ meant words =
     ∷ option_map (λ asked. command.Watch asked) (sample.asked_in (codes "watch") words)
     ∷ option_map (λ asked. command.Run asked) (run.asked_in words)
     ∷ option_map (λ asked. command.Client asked) (command_in words)
+    ∷ option_map (λ target. command.Greet target) (greet_in words)
     ∷ [])
 
 -- ---- what such words keep to
@@ -65,6 +67,7 @@ Fits (command.Trace asked) = sample.Fits asked
 Fits (command.Watch asked) = sample.Fits asked
 Fits (command.Run asked) = run.Fits asked
 Fits (command.Client asked) = client.Fits asked
+Fits (command.Greet target) = Unit {0}
 
 -- ---- what a command touches
 
@@ -83,10 +86,22 @@ reads_input (Some command.Report) = true
 reads_input (Some (command.Events form)) = true
 reads_input asked = false
 
--- It calls a peer.
+-- It calls a peer, or a tool.
 abbrev pub calls_peer : Option Command → Bool
+calls_peer (Some (command.Run asked)) = is_some asked.reverse
 calls_peer (Some (command.Client asked)) = true
 calls_peer asked = false
+
+-- It waits for peers that come in.
+abbrev pub awaits_peers : Option Command → Bool
+awaits_peers (Some (command.Run asked)) = not (is_some asked.reverse)
+awaits_peers (Some (command.Greet target)) = true
+awaits_peers asked = false
+
+-- It can end with the link to a peer in its hands.
+abbrev pub has_peer : Option Command → Bool
+has_peer (Some (command.Greet target)) = true
+has_peer asked = calls_peer asked
 
 -- It runs the diagnostic server.
 abbrev pub runs_server : Option Command → Bool

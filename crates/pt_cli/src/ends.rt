@@ -17,7 +17,8 @@ pub struct Finished<L> {
     pub code: u32,
     /// The offset of what was refused, 0 where there is none.
     pub at: u64,
-    /// The link that the caller gave to a client's command, none where it gave none.
+    /// The link of a client's command, or of `greet`, to its peer, or, of a run that calls a tool, the one that could not take
+    /// what each is to take first; none where there is none.
     pub peer: Option<L>,
     /// Each thread of the sample program that `trace` or `watch` ran, from 1, and how many writes it has made; none for all
     /// other commands.

@@ -1,17 +1,18 @@
 //! The top call.
-ghost use Rattle.std.specs.Prelude.{◌≡◌, ℕ, [], false, map, Some, None, IfSome, IsTrue};
+ghost use Rattle.std.specs.Prelude.{◌≡◌, ℕ, List, [], false, not, map, Some, None, is_some, IfSome, IsTrue};
 ghost use Rattle.std.specs.String.{string_bytes};
 ghost use Rattle.pt_command.specs.declared.end.End.TheVariants as ends;
 ghost use Rattle.pt_command.specs.Says.{SaysLine};
 ghost use Rattle.pt_client.specs.declared.words.Command.{Command as ClientCommand};
 ghost use Rattle.pt_client.specs.Answers.{Asks, Fits as ClientFits};
+ghost use Rattle.pt_client.specs.Greeting.{Greets};
 ghost use Rattle.pt_events.specs.Command.{Lists};
 ghost use Rattle.pt_gen.specs.Command.{Generates};
 ghost use Rattle.pt_gen.specs.declared.words.Asked.{Asked as GenAsked};
 ghost use Rattle.pt_lines.specs.declared.form.Form.{Form};
 ghost use Rattle.pt_replay.specs.Command.{Replays};
 ghost use Rattle.pt_report.specs.Command.{Reports};
-ghost use Rattle.pt_run.specs.Command.{RunsTo};
+ghost use Rattle.pt_run.specs.Reverse.{RunsAs};
 ghost use Rattle.pt_run.specs.declared.words.Asked.{Asked as RunAsked};
 ghost use Rattle.pt_asked.specs.declared.words.Asked.{Asked as SessionAsked};
 ghost use Rattle.pt_watch.specs.Command.{Watches};
@@ -30,9 +31,10 @@ use crate::waitless::without_waiting;
 use crate::watched::watched;
 use crate::words::{Command, command_of};
 use ep_defs::{Facts, Items};
-use pt_client::{Called, client};
+use ipc_reverse::Advertise;
+use pt_client::{Called, client, greet};
 use pt_command::End;
-use pt_io::{Caller, Clock, Dock, Gate, Link, Sink, Source};
+use pt_io::{Caller, Clock, Dock, Gate, Sink, Source};
 use pt_run::{Ran, run};
 use std::alloc::{AllocError, Global};
 use std::sync::Wait;
@@ -48,7 +50,8 @@ use std::time;
 ///
 /// With `events` it reads a stream from `input` to its end and writes a line for each event, each point and each place where
 /// events are missing, as it reads them, and an error line behind them where the stream is refused. With `events --json` each
-/// line is an object of JSON, the error line too.
+/// line is an object of JSON, the error line too. With `convert chromium` it writes them as the objects of a file of trace
+/// events, with what stands around these.
 ///
 /// With `gen SEED N` it makes a schedule of N writes, which the seed determines, and writes how many of them each session
 /// admitted, wrote and refused, in one write. It reads no input then.
@@ -57,18 +60,22 @@ use std::time;
 /// and asks it for a session of MB megabytes, for the end of the session ID, or what it is. It writes the session's stream
 /// as it comes, or one line.
 ///
-/// With `run THREADS WRITES [--seed S] [--wait N] [--streamers K] [--lives L]` it runs the sample program with its diagnostic
-/// server, whose peers come in at `dock` and are told what `facts` say of the program. In the end it writes what its sessions
-/// had of each thread, in one write.
+/// With `greet TARGET` it waits for the first program that comes in at `dock`, reads who it is, asks it what it is and writes
+/// the same line as `ps`.
+///
+/// With `run THREADS WRITES [--seed S] [--wait N] [--streamers K] [--lives L] [--reverse TARGET] [--calls M]` it runs the sample
+/// program with its diagnostic server, whose peers come in at `dock` and are told what `facts` say of the program. With
+/// `--reverse` it calls the tool that listens at TARGET in their place, for M links at most, each of which takes first who the
+/// program is. In the end it writes what its sessions had of each thread, in one write.
 ///
 /// With `trace THREADS WRITES TEXT [--seed S] [--mb MB]` it runs the sample program with its threads and a session that the
 /// start-up text TEXT asks for, and writes the session's stream as it comes. Stamps are what `clock` says; the threads pass
 /// `gate` at their moments. With `watch` and the same words it hands the session's events to a callback that counts them, and
 /// writes in one write how many of each thread were heard and refused, and how often each event was heard. These three may
-/// wait for their threads and locks; no other command waits.
+/// wait for their threads and locks, as `greet` waits for a program; no other command waits.
 pub fn tracepipe<
     R: Threads + Wait + time::Clock + Sync,
-    L: Link + Drop,
+    L: Advertise + Drop,
     I: Source,
     O: Sink,
     D: Dock<Link = L>,
@@ -107,11 +114,14 @@ pub fn tracepipe<
         (Watches O.Sink asked output.old output.new result.rows.items result.seat result.marks) }
     ensures ran { (asked : RunAsked) → meant (map string_bytes words.now) ≡ Some (commands.Run asked)
         → EndsSo result.status result.code result.at
-        (RunsTo O.Sink D.Dock L.Sink L.read_side L.write_side asked facts.now
-        output.old output.new dock.old dock.new result.live) }
+        (RunsAs O.Sink D.Dock K.Caller L.Sink L.read_side L.write_side asked facts.now
+        output.old output.new dock.old dock.new caller.old caller.new result.peer result.live) }
     ensures asked { (asked : ClientCommand) → meant (map string_bytes words.now) ≡ Some (commands.Client asked)
         → EndsSo result.status result.code result.at
         (Asks O.Sink K.Caller L.Source L.Sink asked output.old output.new caller.old caller.new result.peer) }
+    ensures greeted { (target : List ℕ) → meant (map string_bytes words.now) ≡ Some (commands.Greet target)
+        → EndsSo result.status result.code result.at
+        (Greets O.Sink D.Dock L.Source L.Sink output.old output.new dock.old dock.new result.peer) }
     ensures words { meant (map string_bytes words.now) ≡ None
         → EndsSo result.status result.code result.at (SaysLine O.Sink output.old output.new words_error ends.Words) }
     ensures faults { EndsSo result.status result.code result.at
@@ -130,7 +140,7 @@ pub fn tracepipe<
 // Does what the command asks for; without one the words are refused.
 fn carry_out<
     R: Threads + Wait + time::Clock + Sync,
-    L: Link + Drop,
+    L: Advertise + Drop,
     I: Source,
     O: Sink,
     D: Dock<Link = L>,
@@ -171,13 +181,16 @@ fn carry_out<
         result.peer result.live result.rows.items result.seat result.marks }
 {
     match command {
-        Some(Command::Run(asked)) => ran(rt, alloc, asked, facts, output, dock, clock, gate),
+        Some(Command::Run(asked)) => ran(
+            rt, alloc, &asked, facts, output, dock, caller, clock, gate,
+        ),
         Some(Command::Client(command)) => asked(alloc, &command, output, caller),
+        Some(Command::Greet(_)) => greeted(rt, alloc, output, dock),
         command => alone(rt, alloc, command, input, output, clock, gate),
     }
 }
 
-// Does what runs no server and calls no peer.
+// Does what has no peers.
 fn alone<L, R: Threads + Wait + time::Clock + Sync, I: Source, O: Sink, C: Clock, G: Gate>(
     rt: &R,
     alloc: Global,
@@ -207,35 +220,38 @@ fn alone<L, R: Threads + Wait + time::Clock + Sync, I: Source, O: Sink, C: Clock
 // Runs the sample program with its diagnostic server.
 fn ran<
     R: Threads + Wait + time::Clock + Sync,
-    L: Link + Drop,
+    L: Advertise + Drop,
     O: Sink,
     D: Dock<Link = L>,
+    K: Caller<Link = L>,
     C: Clock,
     G: Gate,
 >(
     rt: &R,
     alloc: Global,
-    asked: pt_run::Asked,
+    asked: &pt_run::Asked<'_>,
     facts: &Facts,
     output: &mut O,
     dock: &mut D,
+    caller: &mut K,
     clock: &C,
     gate: &G,
 ) -> Finished<L>
-    requires fits { RunFits asked }
+    requires fits { RunFits asked.now }
     requires facts { IsTrue (is_valid_facts facts.now) }
     ensures runs { EndsSo result.status result.code result.at
-        (RunsTo O.Sink D.Dock L.Sink L.read_side L.write_side asked facts.now
-        output.old output.new dock.old dock.new result.live) }
-    ensures nobody { result.peer ≡ None }
+        (RunsAs O.Sink D.Dock K.Caller L.Sink L.read_side L.write_side asked.now facts.now
+        output.old output.new dock.old dock.new caller.old caller.new result.peer result.live) }
+    ensures unasked { not (is_some asked.now.reverse) ≡ false → dock.new ≡ dock.old }
+    ensures uncalled { is_some asked.now.reverse ≡ false → (caller.new ≡ caller.old) × (result.peer ≡ None) }
     ensures untraced { (result.rows.items ≡ []) × (result.seat ≡ None) × (result.marks ≡ []) }
 {
-    let Ran { end, live } = run(rt, alloc, asked, facts, output, dock, clock, gate);
+    let Ran { end, live, peer } = run(rt, alloc, asked, facts, output, dock, caller, clock, gate);
     Finished {
         status: end.status(),
         code: end.code(),
         at: end.at(),
-        peer: None,
+        peer,
         rows: Vec::new(alloc),
         seat: None,
         marks: Items::new(Vec::new(alloc)),
@@ -256,6 +272,21 @@ fn asked<K: Caller, O: Sink>(
     ensures idle { (result.rows.items ≡ []) × (result.seat ≡ None) × (result.marks ≡ []) × (result.live ≡ None) }
 {
     let Called { end, peer } = client(alloc, command, output, caller);
+    ended_with(alloc, end, peer)
+}
+
+// Waits for a program that calls, and asks it.
+fn greeted<R: Wait, O: Sink, D: Dock>(
+    rt: &R,
+    alloc: Global,
+    output: &mut O,
+    dock: &mut D,
+) -> Finished<D::Link>
+    ensures greets { EndsSo result.status result.code result.at
+        (Greets O.Sink D.Dock D.Link.Source D.Link.Sink output.old output.new dock.old dock.new result.peer) }
+    ensures idle { (result.rows.items ≡ []) × (result.seat ≡ None) × (result.marks ≡ []) × (result.live ≡ None) }
+{
+    let Called { end, peer } = greet(rt, alloc, output, dock);
     ended_with(alloc, end, peer)
 }
 

@@ -26,8 +26,8 @@ use pt_replay::replay;
 use pt_report::write_report;
 use std::alloc::{AllocError, Global};
 
-/// Does what the words of the command line ask for, where that waits for nobody: `replay`, `report`, `events` and `gen`,
-/// as `tracepipe` does. All other words are refused with status 2 and one error line.
+/// Does what the words of the command line ask for, where that waits for nobody: `replay`, `report`, `events`, `convert`
+/// and `gen`, as `tracepipe` does. All other words are refused with status 2 and one error line.
 pub fn plain<I: Source, O: Sink>(
     alloc: Global,
     words: &[String],
@@ -81,7 +81,13 @@ pub(crate) fn without_waiting<I: Source, O: Sink>(
         Some(Command::Report) => write_report(alloc, input, output),
         Some(Command::Events(form)) => write_events(alloc, *form, input, output),
         Some(Command::Gen(asked)) => generate(alloc, *asked, output),
-        Some(Command::Trace(_) | Command::Watch(_) | Command::Run(_) | Command::Client(_)) | None =>
-            { say(output, b"error: words\n", End::Words) }
+        Some(
+            Command::Trace(_)
+            | Command::Watch(_)
+            | Command::Run(_)
+            | Command::Client(_)
+            | Command::Greet(_),
+        )
+        | None => say(output, b"error: words\n", End::Words),
     }
 }

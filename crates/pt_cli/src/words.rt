@@ -5,6 +5,7 @@ ghost use Rattle.pt_cli.specs.Words.{meant, replay_in, is_report, session_number
 
 use ep_plan::number;
 use pt_asked::{Asked, asked_of};
+use pt_client::{Target, greet_of};
 use pt_events::{Form, form_of};
 use pt_words::session_text;
 use std::alloc::{AllocError, Global};
@@ -16,7 +17,7 @@ pub enum Command<'a> {
     Replay { session: u32 },
     /// For the report of a stream.
     Report,
-    /// For the events of a stream one by one, in this form.
+    /// For the events of a stream one by one, in this form: `events` or `convert`.
     Events(Form),
     /// For a schedule that is made and summed up.
     Gen(pt_gen::Asked),
@@ -25,9 +26,11 @@ pub enum Command<'a> {
     /// For a listener over the sample program.
     Watch(Asked),
     /// For a run of the sample program with its diagnostic server.
-    Run(pt_run::Asked),
+    Run(pt_run::Asked<'a>),
     /// For something of a peer.
     Client(pt_client::Command<'a>),
+    /// For who calls first at this path.
+    Greet(Target<'a>),
 }
 
 /// What the words of the command line, without the program's name, ask for.
@@ -59,8 +62,11 @@ pub(crate) fn command_of<'a>(
     if let Some(asked) = pt_run::asked_of(alloc, words)? {
         return Ok(Some(Command::Run(asked)));
     }
-    match pt_client::command_of(alloc, words)? {
-        Some(command) => Ok(Some(Command::Client(command))),
+    if let Some(command) = pt_client::command_of(alloc, words)? {
+        return Ok(Some(Command::Client(command)));
+    }
+    match greet_of(alloc, words)? {
+        Some(target) => Ok(Some(Command::Greet(target))),
         None => Ok(None),
     }
 }

@@ -1,2 +1,3 @@
 pub mod InVain
 pub mod Silent
+pub mod Greeted

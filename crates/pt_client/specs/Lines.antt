@@ -1,5 +1,5 @@
 -- The lines that the client's commands print (this project's profile).
-use Rattle.std.specs.Prelude.{ℕ, List, [], ◌∷◌, codes}
+use Rattle.std.specs.Prelude.{ℕ, List, [], ◌∷◌, ◌++◌, codes}
 use Rattle.std.specs.List.{concat}
 use Rattle.std.specs.Fmt.{decimal}
 use Rattle.std.specs.Int.{w32, to_be_bytes}
@@ -32,3 +32,7 @@ peer_error code = concat (codes "error: peer " ∷ encode_lower (to_be_bytes w32
 -- A reply that is none, with the offset of its first wrong field.
 abbrev pub reply_error : ℕ → List ℕ
 reply_error at = concat (codes "error: reply at " ∷ decimal at ∷ (10 ∷ []) ∷ [])
+
+-- Nobody called, and nobody will.
+abbrev pub no_peer : List ℕ
+no_peer = codes "error: no peer" ++ 10 ∷ []

@@ -7,14 +7,10 @@ use Rattle.ep_defs.specs.declared.session.Rule.{Rule}
 use Rattle.ep_plan.specs.Words.{number_in, rule_in, all_in, at_least, at_most}
 use Rattle.ipc_frame.specs.declared.limits.TheConstants.{MESSAGE_BYTES}
 use Rattle.ipc_body.specs.Asking.{collect_request}
+use Rattle.pt_words.specs.Target.{target_in}
 use Rattle.pt_words.specs.Words.{has_option}
 use Rattle.pt_client.specs.declared.words.Command.{Command}
 use Rattle.pt_client.specs.declared.words.Command.TheVariants as command
-
--- The path of a socket has a byte or more.
-abbrev pub target_in : List ℕ → Option (List ℕ)
-target_in [] = None
-target_in (byte ∷ word) = Some (byte ∷ word)
 
 -- A budget has 1 to 4,294,967,295 megabytes.
 abbrev pub megabytes_in : List ℕ → Option ℕ

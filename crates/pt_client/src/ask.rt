@@ -110,8 +110,8 @@ fn ask_to_stop<L: Link, O: Sink>(
     write(output, &line)
 }
 
-// Asks a program what it is, and writes it.
-fn ask_what_it_is<L: Link, O: Sink>(
+/// Asks a program what it is, and writes it.
+pub(crate) fn ask_what_it_is<L: Link, O: Sink>(
     alloc: Global,
     link: &mut L,
     output: &mut O,

@@ -56,8 +56,8 @@ pub fn client<K: Caller, O: Sink>(
     }
 }
 
-// Ends a command that has no result, with a line where the peer is why.
-fn end_by<O: Sink>(alloc: Global, fault: CallFault, output: &mut O) -> End
+/// Ends a command that has no result, with a line where the peer is why.
+pub(crate) fn end_by<O: Sink>(alloc: Global, fault: CallFault, output: &mut O) -> End
     ensures peer_error { (code : ℕ) → fault ≡ PeerError code
         → SaysLine O.Sink output.old output.new (peer_error code) (ends.PeerError code) result }
     ensures bad_reply { (at : ℕ) → fault ≡ BadReply at

@@ -1,39 +1,15 @@
 //! What the words of the command line ask a client for.
 ghost use Rattle.std.specs.Prelude.{◌≡◌, ℕ, List, map, IfOk, IfSome};
 ghost use Rattle.std.specs.String.{string_bytes};
-ghost use Rattle.pt_client.specs.Words.{command_in, target_in, megabytes_in, rules_in, collect_in, stop_in, ps_in, without_options};
+ghost use Rattle.pt_client.specs.Words.{command_in, megabytes_in, rules_in, collect_in, stop_in, ps_in, without_options};
 ghost use Rattle.pt_client.specs.Answers.{Fits};
 
 use ep_defs::limits::RULES;
 use ep_defs::{Items, RuleList};
 use ep_plan::{number, rule};
 use ipc_body::{Asked, collect_size};
-use pt_words::{one_text, several_texts, two_texts};
+use pt_words::{Target, one_text, several_texts, two_texts};
 use std::alloc::{AllocError, Global};
-use std::marker::Model;
-
-/// The path of a peer's socket.
-#[derive(Debug, Drop)]
-pub struct Target<'a> {
-    path: &'a str,
-}
-
-impl<'a> Model for Target<'a> {
-    ghost use Rattle.std.specs.Prelude.{List, ℕ};
-
-    ghost Value = { List ℕ };
-
-    ghost view = { λ target. target.path.now };
-}
-
-impl<'a> Target<'a> {
-    /// The path as a text.
-    pub fn path(&self) -> &'a str
-        ensures { result.now ≡ self.now }
-    {
-        self.path
-    }
-}
 
 /// What a client is to ask of a peer.
 #[derive(Debug, Drop)]
@@ -95,7 +71,7 @@ fn collect<'a>(alloc: Global, words: &'a [String]) -> Result<Option<Command<'a>>
     let Some(texts) = several_texts(alloc, words)? else {
         return Ok(None);
     };
-    let Some(target) = target_of(texts.one) else {
+    let Some(target) = Target::new(texts.one) else {
         return Ok(None);
     };
     let Some(megabytes) = megabytes_of(texts.two.as_bytes()) else {
@@ -126,7 +102,7 @@ fn stop<'a>(alloc: Global, words: &'a [String]) -> Result<Option<Command<'a>>, A
     let Some((target, id)) = two_texts(alloc, words)? else {
         return Ok(None);
     };
-    let Some(target) = target_of(target) else {
+    let Some(target) = Target::new(target) else {
         return Ok(None);
     };
     let Some(id) = number(id.as_bytes(), u64::MAX) else {
@@ -143,20 +119,10 @@ fn ps<'a>(alloc: Global, words: &'a [String]) -> Result<Option<Command<'a>>, All
     let Some(target) = one_text(alloc, words)? else {
         return Ok(None);
     };
-    let Some(target) = target_of(target) else {
+    let Some(target) = Target::new(target) else {
         return Ok(None);
     };
     Ok(Some(Command::Ps { target }))
-}
-
-// A path.
-fn target_of<'a>(word: &'a str) -> Option<Target<'a>>
-    ensures { result ≡ target_in word.now }
-{
-    if word.is_empty() {
-        return None;
-    }
-    Some(Target { path: word })
 }
 
 // A budget.

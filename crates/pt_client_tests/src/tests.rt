@@ -2,10 +2,11 @@
 ghost use Rattle.std.specs.Prelude.{IfOk};
 ghost use Rattle.pt_io.specs.Memory.{IsUnused};
 
-use pt_client::{Called, client, command_of};
-use pt_io::{MemCaller, MemLink, MemSink, MemSource};
+use pt_client::{Called, client, command_of, greet, greet_of};
+use pt_io::{MemCaller, MemDock, MemLink, MemSink, MemSource};
 use std::alloc::{AllocError, Global};
 use std::collections::VecDeque;
+use std::sync::Wait;
 use std::test::Fail;
 
 // The OK reply with session 1.
@@ -93,6 +94,45 @@ const CASES: [Case; 6] = [
         STOP,
     ),
     ("stop /x 7", [SESSION, b""], 1, (6, 0, 0, false), b"", b""),
+];
+
+// With which a program says who it is that has process id 1 and the cookie 00 to 0f.
+const ADVERT: &[u8; 34] =
+    b"ADVR_V1\0\x00\x01\x02\x03\x04\x05\x06\x07\x08\x09\x0a\x0b\x0c\x0d\x0e\x0f\x01\0\0\0\0\0\0\0\0\0";
+
+/// What comes before and what comes at last of what a program gives that calls; how the command ends, what it writes, and
+/// what it sends.
+type Greeted = ([&'static [u8]; 2], Ended, &'static [u8], &'static [u8]);
+
+const GREETED: [Greeted; 6] = [
+    (
+        [ADVERT, PROGRAM],
+        (0, 0, 0, true),
+        b"process          1 00010203-0405-0607-0809-0a0b0c0d0e0f - linux x64\n",
+        INFO,
+    ),
+    // Who does not say who it is is asked nothing.
+    ([PROGRAM, b""], (8, 0, 0, true), b"error: reply at 0\n", b""),
+    ([b"", b""], (8, 0, 0, true), b"error: reply at 0\n", b""),
+    (
+        [b"ADVR_V1", b""],
+        (8, 0, 7, true),
+        b"error: reply at 7\n",
+        b"",
+    ),
+    // The place of what is wrong in a reply is counted from its own first byte.
+    (
+        [ADVERT, CUT],
+        (8, 0, 10, true),
+        b"error: reply at 10\n",
+        INFO,
+    ),
+    (
+        [ADVERT, REFUSED],
+        (7, 0x8000_4005, 0, true),
+        b"error: peer 80004005\n",
+        INFO,
+    ),
 ];
 
 // Words that ask for nothing.
@@ -199,6 +239,93 @@ fn a_command_sends_what_its_words_say_and_writes_what_comes_of_it(
             (told.ended, told.written.as_slice(), told.sent.as_slice()),
             (ended, written, sent)
         );
+    }
+    Ok(())
+}
+
+// A dock of two links that give these bytes, behind three quiet turns, whose turn with this number fails.
+fn dock_of(
+    alloc: Global,
+    first: [&[u8]; 2],
+    second: [&[u8]; 2],
+    failing: u64,
+) -> Result<MemDock, AllocError> {
+    let fails = [failing].to_vec(alloc)?;
+    let mut links = VecDeque::new(alloc);
+    links.push_back(link_of(alloc, first)?)?;
+    links.push_back(link_of(alloc, second)?)?;
+    Ok(MemDock::new(links, 3, fails))
+}
+
+// What comes of who calls first.
+fn greeted<R: Wait>(rt: &R, alloc: Global, dock: MemDock) -> Result<Told, AllocError> {
+    let mut dock = dock;
+    let mut output = MemSink::new(Vec::new(alloc));
+    let called = Some(greet(rt, alloc, &mut output, &mut dock));
+    told_of(alloc, &called, &output)
+}
+
+#[test]
+fn the_first_program_that_calls_is_asked_what_it_is(rt: HostRuntime) -> Result<(), Fail> {
+    for (bytes, ended, written, sent) in GREETED {
+        let dock = dock_of(rt.alloc(), bytes, [ADVERT, PROGRAM], 0)?;
+        let told = greeted(&rt, rt.alloc(), dock)?;
+        assert_eq!(rt;
+            (told.ended, told.written.as_slice(), told.sent.as_slice()),
+            (ended, written, sent)
+        );
+    }
+    Ok(())
+}
+
+#[test]
+fn nobody_calls(rt: HostRuntime) -> Result<(), Fail> {
+    let alloc = rt.alloc();
+    let empty = MemDock::new(VecDeque::new(alloc), 3, Vec::new(alloc));
+    let nobody = greeted(&rt, alloc, empty)?;
+    let calls: [&[u8]; 2] = [ADVERT, PROGRAM];
+    let failed = greeted(&rt, alloc, dock_of(alloc, calls, calls, 2)?)?;
+    assert_eq!(rt;
+        (
+            nobody.ended,
+            nobody.written.as_slice(),
+            failed.ended,
+            failed.written.as_slice()
+        ),
+        (
+            (3, 0, 0, false),
+            b"error: no peer\n".as_slice(),
+            (6, 0, 0, false),
+            b"".as_slice()
+        )
+    );
+    Ok(())
+}
+
+fn path_of(alloc: Global, words: &[&str]) -> Result<Option<String>, AllocError> {
+    let mut owned = Vec::new(alloc);
+    for word in words {
+        owned.push(String::from_str(alloc, word)?)?;
+    }
+    match greet_of(alloc, &owned)? {
+        Some(target) => Ok(Some(String::from_str(alloc, target.path())?)),
+        None => Ok(None),
+    }
+}
+
+#[test]
+fn greet_has_one_word_behind_it(rt: HostRuntime) -> Result<(), Fail> {
+    let alloc = rt.alloc();
+    let good = path_of(alloc, &["greet", "/x"])?;
+    assert_eq!(rt; good.as_deref(), Some("/x"));
+    for words in [
+        ["greet"].as_slice(),
+        &["greet", ""],
+        &["greet", "/x", "/y"],
+        &["Greet", "/x"],
+        &["greet", "--help"],
+    ] {
+        assert!(rt; path_of(alloc, words)?.is_none());
     }
     Ok(())
 }

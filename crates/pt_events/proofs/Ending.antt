@@ -14,6 +14,7 @@ use Rattle.pt_report.specs.Found.{IsWhole, IsFlaw}
 use Rattle.pt_report.proofs.Whole.{flaw-not_whole}
 use Rattle.pt_events.specs.Found.{IsListed, IsCut, IsError, error_line}
 use Rattle.pt_lines.specs.declared.form.Form.{Form}
+use Rattle.pt_lines.specs.Around.{opened, tail_of}
 use Rattle.pt_events.specs.Command.{Lists, SoFar}
 use Rattle.pt_command.specs.declared.limits.TheConstants.{PIECE_BYTES}
 use Rattle.pt_events.specs.declared.reading.Reading.{Reading}
@@ -33,14 +34,16 @@ cut-not_whole : (form : Form) (bytes : List ℕ) (at : ℕ) (flaw : Flaw) (text 
 cut-not_whole form bytes at flaw text cut whole = flaw-not_whole bytes at flaw (cut-flaw form bytes at flaw text cut) whole
 
 module _ {I O : Type 0} (source : Source I) (sink : Sink O) (form : Form) (input_old input_new : I) (output_old output_mid output_new : O) where
-  -- Nothing is wrong with the whole input.
-  pub done : (bytes text : List ℕ) (result : End) → ReadWhole source input_old input_new bytes → source.read_faults input_new ≡ source.read_faults input_old
-      → TookText sink output_old output_mid text → result ≡ ends.Done → IsListed form bytes text → output_new ≡ output_mid
+  -- Nothing is wrong with the whole input, and what stands behind its lines was said.
+  pub done : (bytes lines : List ℕ) (result : End) → ReadWhole source input_old input_new bytes → source.read_faults input_new ≡ source.read_faults input_old
+      → sink.tells_taken output_mid ≡ sink.tells_taken output_old → TookText sink output_old output_mid (opened form lines) → IsListed form bytes lines
+      → result ≡ ends.Done → TookText sink output_mid output_new (tail_of form)
       → Lists source sink form input_old input_new output_old output_new result
-  done bytes text result read sound took is listed same =
-      let taken : TookText sink output_old output_new text = subst (λ (o : O). TookText sink output_old o text) (sym same) took in
+  done bytes lines result read sound told took listed is put =
+      let all = opened form lines ++ tail_of form in
+      let taken : TookText sink output_old output_new all = took-more sink output_old output_mid output_new (opened form lines) (tail_of form) told took put in
       record {
-        done = λ _. (text, record { bytes = bytes; read = read; is_text = listed }, taken.took);
+        done = λ _. (all, record { bytes = bytes; read = read; is_text = (lines, listed, refl) }, taken.took);
         refused = λ at other. absurd (cc);
         unread = λ other. absurd (cc);
         memory = λ other. absurd (cc);
@@ -48,18 +51,38 @@ module _ {I O : Type 0} (source : Source I) (sink : Sink O) (form : Form) (input
         causes = record { read_fault = λ other. absurd (cc); all_read = λ _. sound; write_fault = λ other. absurd (cc); all_written = λ _. taken.sound };
         ends = inl is;
         whole = λ tells whole at other. cc;
-        not_whole = λ tells none _. none (subst IsWhole (sym (read.told tells).0) (listed-whole form bytes text listed));
+        not_whole = λ tells none _. none (subst IsWhole (sym (read.told tells).0) (listed-whole form bytes lines listed));
+      }
+
+  -- It was not written whole.
+  pub undone : (bytes lines : List ℕ) (result : End) → ReadWhole source input_old input_new bytes → source.read_faults input_new ≡ source.read_faults input_old
+      → sink.tells_taken output_mid ≡ sink.tells_taken output_old → TookText sink output_old output_mid (opened form lines) → IsListed form bytes lines
+      → result ≡ ends.WriteFault → BrokeOff sink output_mid output_new (tail_of form)
+      → Lists source sink form input_old input_new output_old output_new result
+  undone bytes lines result read sound told took listed is put =
+      let all = opened form lines ++ tail_of form in
+      let broken : BrokeOff sink output_old output_new all = broke-more sink output_old output_mid output_new (opened form lines) (tail_of form) told took put in
+      record {
+        done = λ other. absurd (cc);
+        refused = λ at other. absurd (cc);
+        unread = λ other. absurd (cc);
+        memory = λ other. absurd (cc);
+        written_part = λ _. (all, inr (inl (record { bytes = bytes; read = read; is_text = (lines, listed, refl) })), broken.part);
+        causes = record { read_fault = λ other. absurd (cc); all_read = λ _. sound; write_fault = λ _. broken.fault; all_written = λ other. absurd (other is) };
+        ends = inr (inr (inr (inl is)));
+        whole = λ tells whole at other. cc;
+        not_whole = λ tells none other. cc;
       }
 
   -- An error line follows.
-  pub refused : (bytes text : List ℕ) (result : End) (refusal : Refusal) → ReadWhole source input_old input_new bytes → source.read_faults input_new ≡ source.read_faults input_old
-      → sink.tells_taken output_mid ≡ sink.tells_taken output_old → TookText sink output_old output_mid text → IsCut form bytes refusal.at refusal.flaw text
+  pub refused : (bytes lines : List ℕ) (result : End) (refusal : Refusal) → ReadWhole source input_old input_new bytes → source.read_faults input_new ≡ source.read_faults input_old
+      → sink.tells_taken output_mid ≡ sink.tells_taken output_old → TookText sink output_old output_mid (opened form lines) → IsCut form bytes refusal.at refusal.flaw lines
       → result ≡ ends.Refused refusal.at → TookText sink output_mid output_new (error_line form refusal)
       → Lists source sink form input_old input_new output_old output_new result
-  refused bytes text result refusal read sound told took cut is put =
-      let all = text ++ error_line form refusal in
-      let taken : TookText sink output_old output_new all = took-more sink output_old output_mid output_new text (error_line form refusal) told took put in
-      let error : IsError form bytes refusal.at all = record { refusal = refusal; lines = text; cut = cut; place = refl; text_is = refl } in
+  refused bytes lines result refusal read sound told took cut is put =
+      let all = opened form lines ++ error_line form refusal in
+      let taken : TookText sink output_old output_new all = took-more sink output_old output_mid output_new (opened form lines) (error_line form refusal) told took put in
+      let error : IsError form bytes refusal.at all = record { refusal = refusal; lines = lines; cut = cut; place = refl; text_is = refl } in
       record {
         done = λ other. absurd (cc);
         refused = λ at other.
@@ -70,25 +93,25 @@ module _ {I O : Type 0} (source : Source I) (sink : Sink O) (form : Form) (input
         written_part = λ other. absurd (cc);
         causes = record { read_fault = λ other. absurd (cc); all_read = λ _. sound; write_fault = λ other. absurd (cc); all_written = λ _. taken.sound };
         ends = inr (inl (refusal.at, is));
-        whole = λ tells whole at _. cut-not_whole form bytes refusal.at refusal.flaw text cut (subst IsWhole (read.told tells).0 whole);
+        whole = λ tells whole at _. cut-not_whole form bytes refusal.at refusal.flaw lines cut (subst IsWhole (read.told tells).0 whole);
         not_whole = λ tells none other. cc;
       }
 
   -- The error line was not written whole.
-  pub broke : (bytes text : List ℕ) (result : End) (refusal : Refusal) → ReadWhole source input_old input_new bytes → source.read_faults input_new ≡ source.read_faults input_old
-      → sink.tells_taken output_mid ≡ sink.tells_taken output_old → TookText sink output_old output_mid text → IsCut form bytes refusal.at refusal.flaw text
+  pub broke : (bytes lines : List ℕ) (result : End) (refusal : Refusal) → ReadWhole source input_old input_new bytes → source.read_faults input_new ≡ source.read_faults input_old
+      → sink.tells_taken output_mid ≡ sink.tells_taken output_old → TookText sink output_old output_mid (opened form lines) → IsCut form bytes refusal.at refusal.flaw lines
       → result ≡ ends.WriteFault → BrokeOff sink output_mid output_new (error_line form refusal)
       → Lists source sink form input_old input_new output_old output_new result
-  broke bytes text result refusal read sound told took cut is put =
-      let all = text ++ error_line form refusal in
-      let broken : BrokeOff sink output_old output_new all = broke-more sink output_old output_mid output_new text (error_line form refusal) told took put in
-      let error : IsError form bytes refusal.at all = record { refusal = refusal; lines = text; cut = cut; place = refl; text_is = refl } in
+  broke bytes lines result refusal read sound told took cut is put =
+      let all = opened form lines ++ error_line form refusal in
+      let broken : BrokeOff sink output_old output_new all = broke-more sink output_old output_mid output_new (opened form lines) (error_line form refusal) told took put in
+      let error : IsError form bytes refusal.at all = record { refusal = refusal; lines = lines; cut = cut; place = refl; text_is = refl } in
       record {
         done = λ other. absurd (cc);
         refused = λ at other. absurd (cc);
         unread = λ other. absurd (cc);
         memory = λ other. absurd (cc);
-        written_part = λ _. (all, inr (refusal.at, record { bytes = bytes; read = read; is_text = error }), broken.part);
+        written_part = λ _. (all, inr (inr (refusal.at, record { bytes = bytes; read = read; is_text = error })), broken.part);
         causes = record { read_fault = λ other. absurd (cc); all_read = λ _. sound; write_fault = λ _. broken.fault; all_written = λ other. absurd (other is) };
         ends = inr (inr (inr (inl is)));
         whole = λ tells whole at other. cc;
@@ -104,7 +127,7 @@ module _ {I O : Type 0} (source : Source I) (sink : Sink O) (form : Form) (input
         done = λ other. absurd (cc);
         refused = λ at other. absurd (cc);
         unread = λ other. absurd (cc);
-        memory = λ _. (text, so_far, taken.took);
+        memory = λ _. inr (text, so_far, taken.took);
         written_part = λ other. absurd (cc);
         causes = record { read_fault = λ other. absurd (cc); all_read = λ _. sound; write_fault = λ other. absurd (cc); all_written = λ _. taken.sound };
         ends = inr (inr (inr (inr is)));
@@ -113,19 +136,21 @@ module _ {I O : Type 0} (source : Source I) (sink : Sink O) (form : Form) (input
       }
 
   -- There was none for the error line.
-  pub spent-end : (bytes text : List ℕ) (reading : Reading) (result : End) → HasRead form bytes text reading → ReadWhole source input_old input_new bytes
-      → source.read_faults input_new ≡ source.read_faults input_old → TookText sink output_old output_mid text → result ≡ ends.OutOfMemory → output_new ≡ output_mid
+  pub spent-end : (bytes lines : List ℕ) (reading : Reading) (result : End) → HasRead form bytes lines reading → ReadWhole source input_old input_new bytes
+      → source.read_faults input_new ≡ source.read_faults input_old → TookText sink output_old output_mid (opened form lines) → result ≡ ends.OutOfMemory → output_new ≡ output_mid
       → Lists source sink form input_old input_new output_old output_new result
-  spent-end bytes text reading result read whole sound took is same =
-      spent text result
+  spent-end bytes lines reading result read whole sound took is same =
+      spent (opened form lines) result
       (record {
         bytes = bytes;
         last = [];
         gave = gave-whole source input_old input_new bytes whole;
         few = omega arith;
-        is_text = so-far form bytes text reading read;
+        lines = lines;
+        is_lines = so-far form bytes lines reading read;
+        text_is = refl;
       })
-      sound (subst (λ (o : O). TookText sink output_old o text) (sym same) took) is
+      sound (subst (λ (o : O). TookText sink output_old o (opened form lines)) (sym same) took) is
 
   -- A read failed.
   pub unread : (text : List ℕ) (result : End) → SoFar source form input_old input_new 0 text → HasRisen (source.read_faults input_old) (source.read_faults input_new)

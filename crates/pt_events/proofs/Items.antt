@@ -17,32 +17,33 @@ use Rattle.nt_blocks.specs.Ordered.{Disorder, Names, no_names, names_after, tell
 use Rattle.nt_check.specs.state.Took.{names_at}
 use Rattle.nt_check.proofs.Told.{names_at-more, told-refused, told-taken}
 use Rattle.pt_events.specs.declared.listing.Listing.{Listing}
+use Rattle.pt_lines.specs.declared.origin.Origin.{Origin}
 use Rattle.pt_lines.specs.Line.{Line, Event}
-use Rattle.pt_events.specs.Lines.{sighted, lost_lines, address_after, entries_in, entry_lines, item_lines}
+use Rattle.pt_events.specs.Lines.{sighted, lost_lines, origin_after, entries_in, entry_lines, item_lines, unsaid}
 use Rattle.pt_lines.specs.declared.form.Form.{Form}
 use Rattle.pt_lines.specs.Forms.{AreLines, IsLine}
 use Rattle.pt_lines.specs.Appends.{Appends}
 use Rattle.pt_events.specs.state.Known.{Knows, HasSeen, IsFound}
 use Rattle.pt_events.specs.state.Listed.{HasListed, event_lines}
-use Rattle.pt_events.proofs.Lines.{address_at-more, lost-one}
+use Rattle.pt_events.proofs.Lines.{origin_at-more, lost-one}
 use Rattle.pt_lines.proofs.Lines.{line-one, lines-append}
 use Rattle.pt_lines.proofs.Steps.{both}
 
 -- An item that can be told was listed.
-pub listed-kind : (kinds : List ItemKind) (kind : ItemKind) (old new : Listing) → HasListed kinds old → IsOk (tell (names_at no_names kinds) kind) → Knows (names_after (names_at no_names kinds) kind) new.names → HasSeen (flat_map sighted kinds ++ sighted kind) new.lasts → new.address ≡ address_after old.address kind → HasListed (kinds ++ kind ∷ []) new
-listed-kind kinds kind old new had fine names lasts wide =
+pub listed-kind : (kinds : List ItemKind) (kind : ItemKind) (old new : Listing) → HasListed kinds old → IsOk (tell (names_at no_names kinds) kind) → Knows (names_after (names_at no_names kinds) kind) new.names → HasSeen (flat_map sighted kinds ++ sighted kind) new.lasts → new.origin ≡ origin_after old.origin kind → HasListed (kinds ++ kind ∷ []) new
+listed-kind kinds kind old new had fine names lasts said =
     record {
       ordered = told-taken no_names kinds kind had.ordered fine;
       names = subst (λ (n : Names). Knows n new.names) (sym (names_at-more no_names kinds kind)) names;
       lasts = subst (λ (past : List (ℕ × Sighting)). HasSeen past new.lasts) (sym (flat_map-push sighted kinds kind)) lasts;
-      address = wide ∙ ap (λ (a : ℕ). address_after a kind) had.address ∙ sym (address_at-more 0 kinds kind);
+      origin = said ∙ ap (λ (o : Origin). origin_after o kind) had.origin ∙ sym (origin_at-more unsaid kinds kind);
     }
 
 -- One that tells no number.
-pub listed-quiet : (kinds : List ItemKind) (kind : ItemKind) (old new : Listing) → sighted kind ≡ [] → HasListed kinds old → IsOk (tell (names_at no_names kinds) kind) → Knows (names_after (names_at no_names kinds) kind) new.names → new.lasts ≡ old.lasts → new.address ≡ address_after old.address kind → HasListed (kinds ++ kind ∷ []) new
-listed-quiet kinds kind old new quiet had fine names same wide =
+pub listed-quiet : (kinds : List ItemKind) (kind : ItemKind) (old new : Listing) → sighted kind ≡ [] → HasListed kinds old → IsOk (tell (names_at no_names kinds) kind) → Knows (names_after (names_at no_names kinds) kind) new.names → new.lasts ≡ old.lasts → new.origin ≡ origin_after old.origin kind → HasListed (kinds ++ kind ∷ []) new
+listed-quiet kinds kind old new quiet had fine names same said =
     listed-kind kinds kind old new had fine names
-    (rw (quiet, append-nil (flat_map sighted kinds), same) had.lasts) wide
+    (rw (quiet, append-nil (flat_map sighted kinds), same) had.lasts) said
 
 -- One that can't be told is refused.
 pub refused-kind : (kinds : List ItemKind) (kind : ItemKind) (listing : Listing) (fault : Disorder) → HasListed kinds listing → tell (names_at no_names kinds) kind ≡ Err fault → told_after no_names (kinds ++ kind ∷ []) ≡ Err fault
@@ -51,17 +52,17 @@ refused-kind kinds kind listing fault had e = told-refused no_names kinds kind f
 -- ---- lines
 
 -- The lines of an event, and of what is lost before it.
-pub event-lines : (form : Form) (names : Names) (past : List (ℕ × Sighting)) (address metadata number capture processor thread stack stamp : ℕ) (activity related payload : List ℕ) (def : EventDef) (bytes old new : List ℕ)
+pub event-lines : (form : Form) (names : Names) (past : List (ℕ × Sighting)) (origin : Origin) (metadata number capture processor thread stack stamp : ℕ) (activity related payload : List ℕ) (def : EventDef) (bytes old new : List ℕ)
     → IsFound names metadata stack def bytes
-    → Appends (AreLines form (event_lines past address processor thread (record { thread = capture; number = number; stamp = stamp; def = def; activity = activity; related = related; stack = bytes; payload = payload }))) old new
-    → Appends (AreLines form (item_lines names past address (item.Event metadata number capture processor thread stack stamp activity related payload))) old new
-event-lines form names past address metadata number capture processor thread stack stamp activity related payload def bytes old new found put =
+    → Appends (AreLines form (event_lines past origin processor thread (record { thread = capture; number = number; stamp = stamp; def = def; activity = activity; related = related; stack = bytes; payload = payload }))) old new
+    → Appends (AreLines form (item_lines names past origin (item.Event metadata number capture processor thread stack stamp activity related payload))) old new
+event-lines form names past origin metadata number capture processor thread stack stamp activity related payload def bytes old new found put =
     let event : EventEntry = record { thread = capture; number = number; stamp = stamp; def = def; activity = activity; related = related; stack = bytes; payload = payload } in
     let kind = item.Event metadata number capture processor thread stack stamp activity related payload in
     let told : tell names kind ≡ Ok (entry.Event event ∷ []) = rw (found.def_is, found.stack_is) refl in
-    let lines : item_lines names past address kind ≡ event_lines past address processor thread event =
-    ap (λ (told : Result (List Entry) Disorder). lost_lines past ((capture, Seen number) ∷ []) ++ entry_lines address kind (entries_in told)) told
-    ∙ ap (λ (l : List Line). l ++ Event address processor thread event ∷ []) (lost-one past (capture, Seen number)) in
+    let lines : item_lines names past origin kind ≡ event_lines past origin processor thread event =
+    ap (λ (told : Result (List Entry) Disorder). lost_lines origin stamp past ((capture, Seen number) ∷ []) ++ entry_lines origin kind (entries_in told)) told
+    ∙ ap (λ (l : List Line). l ++ Event origin processor thread event ∷ []) (lost-one origin stamp past (capture, Seen number)) in
     subst (λ (all : List Line). Appends (AreLines form all) old new) (sym lines) put
 
 -- A line and what was put before it.

@@ -15,8 +15,9 @@ use Rattle.pt_num.proofs.Steps.{both_ok}
 use Rattle.nt_blocks.specs.Ordered.{Disorder, Names, lookup, stack_of, tell, names_after, told_after}
 use Rattle.nt_blocks.specs.Seen.{seen_in}
 use Rattle.pt_report.specs.Report.{is_event}
+use Rattle.pt_lines.specs.declared.origin.Origin.{Origin}
 use Rattle.pt_lines.specs.Line.{Line, lost_if}
-use Rattle.pt_events.specs.Lines.{known_by, sighted, last_of, left_out, lost_lines, address_after, entries_in, entry_lines, entries_of, lines_after, is_event_line, lost_in, lost_of}
+use Rattle.pt_events.specs.Lines.{known_by, sighted, last_of, left_out, lost_lines, origin_after, entries_in, entry_lines, entries_of, lines_after, is_event_line, lost_in, lost_of, stamp_of}
 use Rattle.pt_events.proofs.Seen.{told_number, last-more}
 
 -- ---- events
@@ -24,48 +25,48 @@ use Rattle.pt_events.proofs.Seen.{told_number, last-more}
 abbrev event_worth : Line → ℕ
 event_worth line = cond (is_event_line line) 1 0
 
-no-events-if : (thread count : ℕ) → count_by is_event_line (lost_if thread count) ≡ 0
-no-events-if thread count = elim (cases_Bool (eqb count 0)) [ inl none ↦ rw none refl | inr some ↦ rw some refl ]
+no-events-if : (origin : Origin) (stamp thread count : ℕ) → count_by is_event_line (lost_if origin stamp thread count) ≡ 0
+no-events-if origin stamp thread count = elim (cases_Bool (eqb count 0)) [ inl none ↦ rw none refl | inr some ↦ rw some refl ]
 
-no-events : (past seen : List (ℕ × Sighting)) → count_by is_event_line (lost_lines past seen) ≡ 0
-no-events past [] = refl
-no-events past (s ∷ seen) =
-    let first = lost_if s.0 (left_out (last_of s.0 past) s.1) in
-    let others = lost_lines (past ++ s ∷ []) seen in
-    let none = no-events-if s.0 (left_out (last_of s.0 past) s.1) in
-    let rest = no-events (past ++ s ∷ []) seen in
+no-events : (origin : Origin) (stamp : ℕ) (past seen : List (ℕ × Sighting)) → count_by is_event_line (lost_lines origin stamp past seen) ≡ 0
+no-events origin stamp past [] = refl
+no-events origin stamp past (s ∷ seen) =
+    let first = lost_if origin stamp s.0 (left_out (last_of s.0 past) s.1) in
+    let others = lost_lines origin stamp (past ++ s ∷ []) seen in
+    let none = no-events-if origin stamp s.0 (left_out (last_of s.0 past) s.1) in
+    let rest = no-events origin stamp (past ++ s ∷ []) seen in
     let both = sum_by-append event_worth first others in
     omega (arith, both, none, rest)
 
 -- An item that can be told has a line of an event exactly where it is one.
-one-event : (names : Names) (address : ℕ) (kind : ItemKind) → IsOk (tell names kind) → count_by is_event_line (entry_lines address kind (entries_of names kind)) ≡ cond (is_event kind) 1 0
-one-event names address (item.Trace info) ok = refl
-one-event names address (item.Meta id def) ok = refl
-one-event names address (item.Stack id bytes) ok = refl
-one-event names address (item.Point stamp threads) ok = refl
-one-event names address (item.Event metadata number capture processor thread stack stamp activity related payload) ok =
+one-event : (names : Names) (origin : Origin) (kind : ItemKind) → IsOk (tell names kind) → count_by is_event_line (entry_lines origin kind (entries_of names kind)) ≡ cond (is_event kind) 1 0
+one-event names origin (item.Trace info) ok = refl
+one-event names origin (item.Meta id def) ok = refl
+one-event names origin (item.Stack id bytes) ok = refl
+one-event names origin (item.Point stamp threads) ok = refl
+one-event names origin (item.Event metadata number capture processor thread stack stamp activity related payload) ok =
     named (lookup metadata names.definitions) refl (stack_of names stack) refl
   where
-    named : (def : Option EventDef) → lookup metadata names.definitions ≡ def → (bytes : Option (List ℕ)) → stack_of names stack ≡ bytes → count_by is_event_line (entry_lines address (item.Event metadata number capture processor thread stack stamp activity related payload) (entries_of names (item.Event metadata number capture processor thread stack stamp activity related payload))) ≡ 1
+    named : (def : Option EventDef) → lookup metadata names.definitions ≡ def → (bytes : Option (List ℕ)) → stack_of names stack ≡ bytes → count_by is_event_line (entry_lines origin (item.Event metadata number capture processor thread stack stamp activity related payload) (entries_of names (item.Event metadata number capture processor thread stack stamp activity related payload))) ≡ 1
     named (Some def) d (Some bytes) b =
         let kind = item.Event metadata number capture processor thread stack stamp activity related payload in
         let event : EventEntry = record { thread = capture; number = number; stamp = stamp; def = def; activity = activity; related = related; stack = bytes; payload = payload } in
         let told : tell names kind ≡ Ok (entry.Event event ∷ []) = rw (d, b) refl in
-        ap (λ (told : Result (List Entry) Disorder). count_by is_event_line (entry_lines address kind (entries_in told))) told
+        ap (λ (told : Result (List Entry) Disorder). count_by is_event_line (entry_lines origin kind (entries_in told))) told
     named (Some def) d None b = let wrong = rw (d, b) at ok in absurd (cc)
     named None d bytes b = let wrong = rw d at ok in absurd (cc)
 
-pub events-after : (names : Names) (past : List (ℕ × Sighting)) (address : ℕ) (kinds : List ItemKind) → IsOk (told_after names kinds) → count_by is_event_line (lines_after names past address kinds) ≡ count_by is_event kinds
-events-after names past address [] ok = refl
-events-after names past address (kind ∷ kinds) ok =
+pub events-after : (names : Names) (past : List (ℕ × Sighting)) (origin : Origin) (kinds : List ItemKind) → IsOk (told_after names kinds) → count_by is_event_line (lines_after names past origin kinds) ≡ count_by is_event kinds
+events-after names past origin [] ok = refl
+events-after names past origin (kind ∷ kinds) ok =
     let one = both_ok (tell names kind) _ ok in
     let others = both_ok (told_after (names_after names kind) kinds) _ one.2 in
-    let lost = lost_lines past (sighted kind) in
-    let line = entry_lines address kind (entries_of names kind) in
-    let later = lines_after (names_after names kind) (past ++ sighted kind) (address_after address kind) kinds in
-    let here = one-event names address kind (rw one.1 refl) in
-    let none = no-events past (sighted kind) in
-    let rest = events-after (names_after names kind) (past ++ sighted kind) (address_after address kind) kinds (rw others.1 refl) in
+    let lost = lost_lines origin (stamp_of kind) past (sighted kind) in
+    let line = entry_lines origin kind (entries_of names kind) in
+    let later = lines_after (names_after names kind) (past ++ sighted kind) (origin_after origin kind) kinds in
+    let here = one-event names origin kind (rw one.1 refl) in
+    let none = no-events origin (stamp_of kind) past (sighted kind) in
+    let rest = events-after (names_after names kind) (past ++ sighted kind) (origin_after origin kind) kinds (rw others.1 refl) in
     let both = sum_by-append event_worth (lost ++ line) later in
     let item = sum_by-append event_worth lost line in
     let more = sum_by-cons (λ (k : ItemKind). cond (is_event k) 1 0) kind kinds in
@@ -95,8 +96,8 @@ own-sighted thread (item.Point stamp threads) = own-known thread threads
 own-sighted thread (item.Event metadata number capture processor other stack stamp activity related payload) =
     elim (cases_Bool (eqb capture thread)) [ inl is ↦ rw is refl | inr apart ↦ rw apart refl ]
 
-lost-if : (thread other count : ℕ) → lost_of thread (lost_if other count) ≡ cond (eqb other thread) count 0
-lost-if thread other count =
+lost-if : (thread : ℕ) (origin : Origin) (stamp other count : ℕ) → lost_of thread (lost_if origin stamp other count) ≡ cond (eqb other thread) count 0
+lost-if thread origin stamp other count =
     elim (cases_Bool (eqb count 0)) [
       | inl none ↦ rw (none, eqb-true count 0 none) (nothing (eqb other thread))
       | inr some ↦ rw some (plain (cond (eqb other thread) count 0))
@@ -113,18 +114,18 @@ missing-one : (last : ℕ) (told : Sighting) (later : List Sighting) → missing
 missing-one last (Seen number) later = refl
 missing-one last (Known number) later = refl
 
-lost-seen : (thread : ℕ) (past seen : List (ℕ × Sighting)) (later : List Sighting) → lost_of thread (lost_lines past seen) + missing (last_of thread (past ++ seen)) later ≡ missing (last_of thread past) (own thread seen ++ later)
+lost-seen : (thread : ℕ) (origin : Origin) (stamp : ℕ) (past seen : List (ℕ × Sighting)) (later : List Sighting) → lost_of thread (lost_lines origin stamp past seen) + missing (last_of thread (past ++ seen)) later ≡ missing (last_of thread past) (own thread seen ++ later)
 unfolding own
-lost-seen thread past [] later =
+lost-seen thread origin stamp past [] later =
     let same : missing (last_of thread (past ++ [])) later ≡ missing (last_of thread past) later = ap (λ (p : List (ℕ × Sighting)). missing (last_of thread p) later) (append-nil past) in
     omega (arith, same)
-lost-seen thread past (s ∷ seen) later =
+lost-seen thread origin stamp past (s ∷ seen) later =
     let count = left_out (last_of s.0 past) s.1 in
-    let first = lost_if s.0 count in
-    let others = lost_lines (past ++ s ∷ []) seen in
+    let first = lost_if origin stamp s.0 count in
+    let others = lost_lines origin stamp (past ++ s ∷ []) seen in
     let both : lost_of thread (first ++ others) ≡ lost_of thread first + lost_of thread others = sum_by-append (lost_in thread) first others in
-    let here = lost-if thread s.0 count in
-    let rest = lost-seen thread (past ++ s ∷ []) seen later in
+    let here = lost-if thread origin stamp s.0 count in
+    let rest = lost-seen thread origin stamp (past ++ s ∷ []) seen later in
     let end : missing (last_of thread ((past ++ s ∷ []) ++ seen)) later ≡ missing (last_of thread (past ++ s ∷ seen)) later =
     ap (λ (p : List (ℕ × Sighting)). missing (last_of thread p) later) (append_assoc past (s ∷ []) seen) in
     let last = last-more thread past s in
@@ -146,29 +147,29 @@ lost-seen thread past (s ∷ seen) later =
     ]
 
 -- The line of an item loses nothing.
-none-lost : (thread address : ℕ) (kind : ItemKind) (entries : List Entry) → lost_of thread (entry_lines address kind entries) ≡ 0
-none-lost thread address (item.Event metadata number capture processor other stack stamp activity related payload) (entry.Event event ∷ more) = refl
-none-lost thread address (item.Event metadata number capture processor other stack stamp activity related payload) (entry.Point point ∷ more) = refl
-none-lost thread address (item.Event metadata number capture processor other stack stamp activity related payload) [] = refl
-none-lost thread address (item.Point stamp threads) (entry.Point point ∷ more) = refl
-none-lost thread address (item.Point stamp threads) (entry.Event event ∷ more) = refl
-none-lost thread address (item.Point stamp threads) [] = refl
-none-lost thread address (item.Trace info) entries = refl
-none-lost thread address (item.Meta id def) entries = refl
-none-lost thread address (item.Stack id bytes) entries = refl
+none-lost : (thread : ℕ) (origin : Origin) (kind : ItemKind) (entries : List Entry) → lost_of thread (entry_lines origin kind entries) ≡ 0
+none-lost thread origin (item.Event metadata number capture processor other stack stamp activity related payload) (entry.Event event ∷ more) = refl
+none-lost thread origin (item.Event metadata number capture processor other stack stamp activity related payload) (entry.Point point ∷ more) = refl
+none-lost thread origin (item.Event metadata number capture processor other stack stamp activity related payload) [] = refl
+none-lost thread origin (item.Point stamp threads) (entry.Point point ∷ more) = refl
+none-lost thread origin (item.Point stamp threads) (entry.Event event ∷ more) = refl
+none-lost thread origin (item.Point stamp threads) [] = refl
+none-lost thread origin (item.Trace info) entries = refl
+none-lost thread origin (item.Meta id def) entries = refl
+none-lost thread origin (item.Stack id bytes) entries = refl
 
-pub lost-after : (thread : ℕ) (names : Names) (past : List (ℕ × Sighting)) (address : ℕ) (kinds : List ItemKind) → lost_of thread (lines_after names past address kinds) ≡ missing (last_of thread past) (flat_map (seen_in thread) kinds)
-lost-after thread names past address [] = refl
-lost-after thread names past address (kind ∷ kinds) =
-    let lost = lost_lines past (sighted kind) in
-    let line = entry_lines address kind (entries_of names kind) in
-    let later = lines_after (names_after names kind) (past ++ sighted kind) (address_after address kind) kinds in
+pub lost-after : (thread : ℕ) (names : Names) (past : List (ℕ × Sighting)) (origin : Origin) (kinds : List ItemKind) → lost_of thread (lines_after names past origin kinds) ≡ missing (last_of thread past) (flat_map (seen_in thread) kinds)
+lost-after thread names past origin [] = refl
+lost-after thread names past origin (kind ∷ kinds) =
+    let lost = lost_lines origin (stamp_of kind) past (sighted kind) in
+    let line = entry_lines origin kind (entries_of names kind) in
+    let later = lines_after (names_after names kind) (past ++ sighted kind) (origin_after origin kind) kinds in
     let told = flat_map (seen_in thread) kinds in
     let both : lost_of thread ((lost ++ line) ++ later) ≡ lost_of thread (lost ++ line) + lost_of thread later = sum_by-append (lost_in thread) (lost ++ line) later in
     let item : lost_of thread (lost ++ line) ≡ lost_of thread lost + lost_of thread line = sum_by-append (lost_in thread) lost line in
-    let none = none-lost thread address kind (entries_of names kind) in
-    let rest = lost-after thread (names_after names kind) (past ++ sighted kind) (address_after address kind) kinds in
-    let here = lost-seen thread past (sighted kind) told in
+    let none = none-lost thread origin kind (entries_of names kind) in
+    let rest = lost-after thread (names_after names kind) (past ++ sighted kind) (origin_after origin kind) kinds in
+    let here = lost-seen thread origin (stamp_of kind) past (sighted kind) told in
     let seen : missing (last_of thread past) (own thread (sighted kind) ++ told) ≡ missing (last_of thread past) (seen_in thread kind ++ told) =
     ap (λ (first : List Sighting). missing (last_of thread past) (first ++ told)) (own-sighted thread kind) in
     omega (arith, both, item, none, rest, here, seen)

@@ -16,6 +16,8 @@ use Rattle.pt_lines.specs.declared.form.Form.TheVariants as forms
 use Rattle.pt_events.specs.Lines.{lines_of}
 use Rattle.pt_lines.specs.Forms.{AreLines}
 use Rattle.pt_lines.specs.Json.{error_object}
+use Rattle.pt_lines.specs.Chromium.{error_tail}
+use Rattle.pt_lines.specs.Around.{opened, tail_of}
 
 -- The text is the lines of these items, in this form.
 abbrev pub AreLinesOf : Form → List Item → List ℕ → Type 0
@@ -27,6 +29,10 @@ pub record IsListed (form : Form) (bytes text : List ℕ) : Type 0 where
   pub found : verdict bytes ≡ Good items
   pub ordered : AreOrdered items
   pub lines : AreLinesOf form items text
+
+-- The bytes are a whole stream, and the text is its lines with what stands around them.
+abbrev pub IsTold : Form → List ℕ → List ℕ → Type 0
+IsTold form bytes text = (lines : List ℕ) × IsListed form bytes lines × (text ≡ opened form lines ++ tail_of form)
 
 -- The text is the lines of the items before the first that can't stand where it does.
 abbrev pub StandsBefore : Form → List Item → ℕ → CheckKind → List ℕ → Type 0
@@ -44,15 +50,17 @@ IsSoFar form bytes text =
     (AreOrdered (items_of (verdict bytes)) × AreLinesOf form (items_of (verdict bytes)) text)
     ⊎ ((at : ℕ) × (kind : CheckKind) × StandsBefore form (items_of (verdict bytes)) at kind text)
 
--- The error line of a refusal, in this form: that of a report, or an object with the same words.
+-- What is said of a refusal, in this form: the error line of a report, an object with the same words, or this object behind
+-- the others, and their ends.
 abbrev pub error_line : Form → Refusal → List ℕ
 error_line forms.Lines refusal = refusal_error refusal
 error_line forms.Json refusal = error_object refusal.at (flaw_name refusal.flaw)
+error_line forms.Chromium refusal = error_tail refusal.at (flaw_name refusal.flaw)
 
--- The text is the lines before what is wrong with the bytes at this offset, and the error line.
+-- The text is the lines before what is wrong with the bytes at this offset, behind what stands before them, and the error line.
 pub record IsError (form : Form) (bytes : List ℕ) (at : ℕ) (text : List ℕ) : Type 0 where
   pub refusal : Refusal
   pub lines : List ℕ
   pub cut : IsCut form bytes refusal.at refusal.flaw lines
   pub place : at ≡ refusal.at
-  pub text_is : text ≡ lines ++ error_line form refusal
+  pub text_is : text ≡ opened form lines ++ error_line form refusal

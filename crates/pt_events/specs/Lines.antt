@@ -8,6 +8,7 @@ use Rattle.ep_defs.specs.Entry.{EventEntry, PointEntry, Entry}
 use Rattle.ep_defs.specs.Entry as entry
 use Rattle.ep_defs.specs.Gaps.{Sighting, Seen, Known, distance, last_number}
 use Rattle.nt_blocks.specs.Ordered.{Disorder, Names, no_names, tell, names_after}
+use Rattle.pt_lines.specs.declared.origin.Origin.{Origin}
 use Rattle.pt_lines.specs.Line.{Line, Lost, Event, Point, lost_if}
 
 -- ---- what is lost
@@ -33,26 +34,38 @@ abbrev pub left_out : ℕ → Sighting → ℕ
 left_out last (Seen number) = distance (last + 1) number
 left_out last (Known number) = distance last number
 
--- The lines of what is lost at these numbers, after those of the past.
-abbrev pub lost_lines : List (ℕ × Sighting) → List (ℕ × Sighting) → List Line
-lost_lines past [] = []
-lost_lines past (s ∷ later) = lost_if s.0 (left_out (last_of s.0 past) s.1) ++ lost_lines (past ++ s ∷ []) later
+-- The lines of what is lost at these numbers, which are told at this stamp, after those of the past.
+abbrev pub lost_lines : Origin → ℕ → List (ℕ × Sighting) → List (ℕ × Sighting) → List Line
+lost_lines origin stamp past [] = []
+lost_lines origin stamp past (s ∷ later) = lost_if origin stamp s.0 (left_out (last_of s.0 past) s.1) ++ lost_lines origin stamp (past ++ s ∷ []) later
 
 -- ---- items
 
--- How many bytes an address has after an item: as many as a Trace object says.
-abbrev pub address_after : ℕ → ItemKind → ℕ
-address_after address (item.Trace info) = info.pointer_size
-address_after address (item.Meta id def) = address
-address_after address (item.Stack id bytes) = address
-address_after address (item.Event metadata number capture processor thread stack stamp activity related payload) = address
-address_after address (item.Point stamp threads) = address
+-- A stream has said nothing of the traced program.
+abbrev pub unsaid : Origin
+unsaid = record { address = 0; process = 0; frequency = 0 }
+
+-- What it has said after an item: what a Trace object says.
+abbrev pub origin_after : Origin → ItemKind → Origin
+origin_after origin (item.Trace info) = record { address = info.pointer_size; process = info.process_id; frequency = info.frequency }
+origin_after origin (item.Meta id def) = origin
+origin_after origin (item.Stack id bytes) = origin
+origin_after origin (item.Event metadata number capture processor thread stack stamp activity related payload) = origin
+origin_after origin (item.Point stamp threads) = origin
+
+-- The stamp of an item, 0 where it has none.
+abbrev pub stamp_of : ItemKind → ℕ
+stamp_of (item.Event metadata number capture processor thread stack stamp activity related payload) = stamp
+stamp_of (item.Point stamp threads) = stamp
+stamp_of (item.Trace info) = 0
+stamp_of (item.Meta id def) = 0
+stamp_of (item.Stack id bytes) = 0
 
 -- The line of an item with the entry that it tells, if it tells one.
-abbrev pub entry_lines : ℕ → ItemKind → List Entry → List Line
-entry_lines address (item.Event metadata number capture processor thread stack stamp activity related payload) (entry.Event event ∷ more) = Event address processor thread event ∷ []
-entry_lines address (item.Point stamp threads) (entry.Point point ∷ more) = Point point ∷ []
-entry_lines address kind entries = []
+abbrev pub entry_lines : Origin → ItemKind → List Entry → List Line
+entry_lines origin (item.Event metadata number capture processor thread stack stamp activity related payload) (entry.Event event ∷ more) = Event origin processor thread event ∷ []
+entry_lines origin (item.Point stamp threads) (entry.Point point ∷ more) = Point origin point ∷ []
+entry_lines origin kind entries = []
 
 -- The entries that are told, none where none can be.
 abbrev pub entries_in : Result (List Entry) Disorder → List Entry
@@ -63,32 +76,32 @@ entries_in (Err fault) = []
 abbrev pub entries_of : Names → ItemKind → List Entry
 entries_of names kind = entries_in (tell names kind)
 
--- The lines of an item after these names and numbers, where an address has so many bytes.
-abbrev pub item_lines : Names → List (ℕ × Sighting) → ℕ → ItemKind → List Line
-item_lines names past address kind = lost_lines past (sighted kind) ++ entry_lines address kind (entries_of names kind)
+-- The lines of an item after these names and numbers, where the stream has said this of the program.
+abbrev pub item_lines : Names → List (ℕ × Sighting) → Origin → ItemKind → List Line
+item_lines names past origin kind = lost_lines origin (stamp_of kind) past (sighted kind) ++ entry_lines origin kind (entries_of names kind)
 
--- The lines of the items after these names and numbers, where an address has so many bytes.
-abbrev pub lines_after : Names → List (ℕ × Sighting) → ℕ → List ItemKind → List Line
-lines_after names past address [] = []
-lines_after names past address (kind ∷ kinds) = item_lines names past address kind ++ lines_after (names_after names kind) (past ++ sighted kind) (address_after address kind) kinds
+-- The lines of the items after these names and numbers.
+abbrev pub lines_after : Names → List (ℕ × Sighting) → Origin → List ItemKind → List Line
+lines_after names past origin [] = []
+lines_after names past origin (kind ∷ kinds) = item_lines names past origin kind ++ lines_after (names_after names kind) (past ++ sighted kind) (origin_after origin kind) kinds
 
 -- The lines of a stream's items.
 abbrev pub lines_of : List ItemKind → List Line
-lines_of kinds = lines_after no_names [] 0 kinds
+lines_of kinds = lines_after no_names [] unsaid kinds
 
 -- ---- what lines come to
 
 -- The line is that of an event.
 abbrev pub is_event_line : Line → Bool
-is_event_line (Event address processor thread event) = true
-is_event_line (Lost thread count) = false
-is_event_line (Point point) = false
+is_event_line (Event origin processor thread event) = true
+is_event_line (Lost origin stamp thread count) = false
+is_event_line (Point origin point) = false
 
 -- How many numbers of the thread the line says are left out.
 abbrev pub lost_in : ℕ → Line → ℕ
-lost_in thread (Lost other count) = if other == thread then count else 0
-lost_in thread (Event address processor other event) = 0
-lost_in thread (Point point) = 0
+lost_in thread (Lost origin stamp other count) = if other == thread then count else 0
+lost_in thread (Event origin processor other event) = 0
+lost_in thread (Point origin point) = 0
 
 -- How many the lines say.
 abbrev pub lost_of : ℕ → List Line → ℕ

@@ -1,11 +1,12 @@
-//! The command `events`.
+//! The commands `events` and `convert`.
 ghost use Rattle.std.specs.Prelude.{◌≡◌, ◌≢◌, ◌⊎◌, ◌<◌, ◌^◌, ℕ, [], List, IfOk, IfErr, OnOk, OnErr, Err};
 ghost use Rattle.pt_io.specs.Faults.{HasRisen};
 ghost use Rattle.pt_command.specs.declared.limits.TheConstants.{PIECE_BYTES};
 ghost use Rattle.pt_command.specs.declared.end.End.TheVariants as ends;
 ghost use Rattle.pt_command.specs.Input.{ReadWhole};
-ghost use Rattle.pt_command.specs.Says.{TookText, BrokeOff, SaysLine};
+ghost use Rattle.pt_command.specs.Says.{TookText, BrokeOff, Says, SaysLine};
 ghost use Rattle.pt_lines.specs.declared.form.Form.TheVariants as forms;
+ghost use Rattle.pt_lines.specs.Around.{opened, tail_of};
 ghost use Rattle.pt_events.specs.Found.{error_line};
 ghost use Rattle.pt_events.specs.Command.{Lists, SoFar};
 ghost use Rattle.pt_events.specs.state.Read.{HasRead, used};
@@ -15,13 +16,13 @@ use crate::reading::Reading;
 use pt_command::limits::PIECE_BYTES;
 use pt_command::{End, say};
 use pt_io::{Failed, Sink, Source};
-use pt_lines::{Form, put_error};
+use pt_lines::{Form, put_error, put_error_tail};
 use pt_report::{Refusal, flaw_text, refusal_text};
 use std::alloc::{AllocError, Global};
 
 /// Reads a stream from `input` to its end, and writes the lines of its events, its points and of what is lost to `output` as
-/// it reads them: those of a piece of the input in one write. Where the stream is cut or wrong, one error line follows the
-/// lines of what stands before that place.
+/// it reads them: those of a piece of the input in one write, and in writes of their own what stands before them and behind
+/// them in this form. Where the stream is cut or wrong, one error line follows the lines of what stands before that place.
 pub fn write_events<I: Source, O: Sink>(
     alloc: Global,
     form: Form,
@@ -37,7 +38,7 @@ pub fn write_events<I: Source, O: Sink>(
     }
 }
 
-// Writes the lines of all that the input gives, up to its end.
+// Writes the lines of all that the input gives, up to its end, behind what stands before them.
 fn write_pieces<I: Source, O: Sink>(
     alloc: Global,
     form: Form,
@@ -47,9 +48,9 @@ fn write_pieces<I: Source, O: Sink>(
 ) -> Result<(), End>
     requires fresh { HasRead form [] [] reading.old }
     requires unused { used reading.old ≡ 0 }
-    ensures all { OnOk result ((bytes text : List ℕ) × HasRead form bytes text reading.new
+    ensures all { OnOk result ((bytes lines : List ℕ) × HasRead form bytes lines reading.new
         × ReadWhole I.Source input.old input.new bytes
-        × TookText O.Sink output.old output.new text) }
+        × TookText O.Sink output.old output.new (opened form lines)) }
     ensures end { IfErr result (λ end. (end ≡ ends.ReadFault) ⊎ (end ≡ ends.WriteFault) ⊎ (end ≡ ends.OutOfMemory)) }
     ensures unread { result ≡ Err ends.ReadFault → (text : List ℕ)
         × SoFar I.Source form input.old input.new 0 text × TookText O.Sink output.old output.new text }
@@ -64,6 +65,8 @@ fn write_pieces<I: Source, O: Sink>(
 {
     let mut buffer = [0; PIECE_BYTES];
     let mut lines = Vec::new(alloc);
+    let mut is_first = true;
+    write_head(form, output)?;
     loop {
         let count = match input.read(&mut buffer) {
             Ok(count) => count,
@@ -73,9 +76,20 @@ fn write_pieces<I: Source, O: Sink>(
             return Ok(());
         }
         reading.take(form, &buffer[..count], &mut lines)?;
-        write_lines(lines.as_slice(), output)?;
+        let more = lines.as_slice();
+        write_lines(form.shown(is_first, more), output)?;
+        is_first &= more.is_empty();
         lines.clear();
     }
+}
+
+// Writes what stands before the lines, where something does.
+fn write_head<O: Sink>(form: Form, output: &mut O) -> Result<(), End>
+    ensures ok { OnOk result (TookText O.Sink output.old output.new (opened form [])) }
+    ensures told { O.tells_taken output.new ≡ O.tells_taken output.old }
+    ensures err { IfErr result (λ end. (end ≡ ends.WriteFault) × BrokeOff O.Sink output.old output.new (opened form [])) }
+{
+    write_lines(form.head().as_bytes(), output)
 }
 
 // Writes some lines, where there are any.
@@ -93,15 +107,25 @@ fn write_lines<O: Sink>(lines: &[u8], output: &mut O) -> Result<(), End>
     }
 }
 
-// Says what is wrong with the bytes that were read, where something is.
+// Says what is wrong with the bytes that were read, or what stands behind their lines.
 fn write_end<O: Sink>(alloc: Global, form: Form, reading: &Reading, output: &mut O) -> End
-    ensures { (bytes text : List ℕ) → HasRead form bytes text reading.now
-        → EndsBytes O.Sink form output.old output.new bytes text result }
+    ensures { (bytes lines : List ℕ) → HasRead form bytes lines reading.now
+        → EndsBytes O.Sink form output.old output.new bytes lines result }
 {
     match reading.end() {
-        Ok(None) => End::Done,
+        Ok(None) => write_tail(form, output),
         Ok(Some(refusal)) => write_error(alloc, form, &refusal, output),
         Err(AllocError) => End::OutOfMemory,
+    }
+}
+
+// Writes what stands behind the lines of a whole stream, where something does.
+fn write_tail<O: Sink>(form: Form, output: &mut O) -> End
+    ensures { Says O.Sink output.old output.new (tail_of form) ends.Done result }
+{
+    match write_lines(form.tail().as_bytes(), output) {
+        Ok(()) => End::Done,
+        Err(end) => end,
     }
 }
 
@@ -123,6 +147,7 @@ fn error_text(alloc: Global, form: Form, refusal: &Refusal) -> Result<Vec<u8>, A
     match form {
         Form::Lines => Ok(refusal_text(alloc, refusal)?.into_bytes()),
         Form::Json => error_object(alloc, refusal),
+        Form::Chromium => error_end(alloc, refusal),
     }
 }
 
@@ -133,5 +158,15 @@ fn error_object(alloc: Global, refusal: &Refusal) -> Result<Vec<u8>, AllocError>
     let words = flaw_text(alloc, refusal.flaw)?;
     let mut line = Vec::new(alloc);
     put_error(&mut line, refusal.at, &words)?;
+    Ok(line)
+}
+
+// It behind other objects, and their ends.
+fn error_end(alloc: Global, refusal: &Refusal) -> Result<Vec<u8>, AllocError>
+    ensures { IfOk result (λ line. line.items ≡ error_line forms.Chromium refusal.now) }
+{
+    let words = flaw_text(alloc, refusal.flaw)?;
+    let mut line = Vec::new(alloc);
+    put_error_tail(&mut line, refusal.at, &words)?;
     Ok(line)
 }

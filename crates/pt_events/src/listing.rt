@@ -8,6 +8,7 @@ ghost use Rattle.nt_blocks.specs.Ordered.{no_names, told_after};
 ghost use Rattle.nt_check.specs.declared.checker.CheckKind.{CheckKind};
 ghost use Rattle.nt_check.specs.declared.checker.CheckFault.TheVariants.{Bad, OutOfMemory};
 ghost use Rattle.nt_check.specs.Faults.{disorder_of};
+ghost use Rattle.pt_lines.specs.declared.origin.Origin.{Origin};
 ghost use Rattle.pt_events.specs.Lines.{lost_lines, known_by};
 ghost use Rattle.pt_lines.specs.Forms.{AreLines};
 ghost use Rattle.pt_lines.specs.Appends.{Appends, Tells};
@@ -18,7 +19,7 @@ use crate::lasts::Lasts;
 use crate::names::KnownNames;
 use ep_defs::ItemKind;
 use nt_check::CheckFault;
-use pt_lines::{EventLine, Form, put_event, put_lost, put_point};
+use pt_lines::{EventLine, Form, Origin, put_event, put_lost, put_point};
 use std::alloc::{AllocError, Global};
 
 /// What is kept of the items that were listed. It stands for the list of them.
@@ -27,8 +28,8 @@ pub struct Listing {
     alloc: Global,
     names: KnownNames,
     lasts: Lasts,
-    // How many bytes an address has, 0 while no Trace object said it.
-    address: u32,
+    // What a Trace object said of the program.
+    origin: Origin,
 }
 
 impl Listing {
@@ -40,7 +41,11 @@ impl Listing {
             alloc,
             names: KnownNames::new(alloc),
             lasts: Lasts::new(alloc),
-            address: 0,
+            origin: Origin {
+                address: 0,
+                process: 0,
+                frequency: 0,
+            },
         }
     }
 
@@ -57,7 +62,11 @@ impl Listing {
     {
         match kind {
             ItemKind::Trace { info } => {
-                self.address = info.pointer_size;
+                self.origin = Origin {
+                    address: info.pointer_size,
+                    process: info.process_id,
+                    frequency: info.frequency,
+                };
                 Ok(())
             }
             ItemKind::Meta { id, def } => self.names.define(self.alloc, *id, def),
@@ -76,7 +85,7 @@ impl Listing {
             } => {
                 let (def, stack) = self.names.find(*metadata, *stack)?;
                 let event = EventLine {
-                    address: self.address,
+                    origin: self.origin,
                     processor: *processor,
                     thread_id: *thread,
                     stamp: *stamp,
@@ -108,8 +117,8 @@ impl Listing {
             → OnOk result (ListsOne form kinds (item.Point stamp threads.now) out.old.items out.new.items) }
         ensures memory { IfErr result (λ fault. fault ≡ OutOfMemory) }
     {
-        put_all_lost(out, form, &mut self.lasts, threads)?;
-        put_point(out, form, stamp, threads)?;
+        put_all_lost(out, form, self.origin, stamp, &mut self.lasts, threads)?;
+        put_point(out, form, self.origin, stamp, threads)?;
         self.names.clear_stacks();
         Ok(())
     }
@@ -123,14 +132,14 @@ fn put_all(
     lasts: &mut Lasts,
     event: &EventLine<'_>,
 ) -> Result<(), AllocError>
-    ensures lines { (past : List (ℕ × Sighting)) (address processor thread : ℕ) (entry : EventEntry) → HasSeen past lasts.old
-        → Tells event.now address processor thread entry
-        → OnOk result (Appends (AreLines form (event_lines past address processor thread entry)) out.old.items out.new.items) }
+    ensures lines { (past : List (ℕ × Sighting)) (origin : Origin) (processor thread : ℕ) (entry : EventEntry) → HasSeen past lasts.old
+        → Tells event.now origin processor thread entry
+        → OnOk result (Appends (AreLines form (event_lines past origin processor thread entry)) out.old.items out.new.items) }
     ensures seen { (past : List (ℕ × Sighting)) → HasSeen past lasts.old
         → OnOk result (HasSeen (past ++ (event.now.thread, Seen event.now.number) ∷ []) lasts.new) }
 {
     let lost = lasts.see(event.thread, event.number)?;
-    put_lost(out, form, event.thread, lost)?;
+    put_lost(out, form, event.origin, event.stamp, event.thread, lost)?;
     put_event(out, alloc, form, event)
 }
 
@@ -138,17 +147,19 @@ fn put_all(
 fn put_all_lost(
     out: &mut Vec<u8>,
     form: Form,
+    origin: Origin,
+    stamp: u64,
     lasts: &mut Lasts,
     threads: &[(u64, u32)],
 ) -> Result<(), AllocError>
     ensures lines { (past : List (ℕ × Sighting)) → HasSeen past lasts.old
-        → OnOk result (Appends (AreLines form (lost_lines past (known_by threads.now))) out.old.items out.new.items) }
+        → OnOk result (Appends (AreLines form (lost_lines origin stamp past (known_by threads.now))) out.old.items out.new.items) }
     ensures seen { (past : List (ℕ × Sighting)) → HasSeen past lasts.old
         → OnOk result (HasSeen (past ++ known_by threads.now) lasts.new) }
 {
     for (thread, number) in threads {
         let lost = lasts.know(*thread, *number)?;
-        put_lost(out, form, *thread, lost)?;
+        put_lost(out, form, origin, stamp, *thread, lost)?;
     }
     Ok(())
 }

@@ -6,7 +6,7 @@ ghost use Rattle.pt_events.specs.Words.{form_in};
 use pt_lines::Form;
 
 /// The form in which the words of the command line, without the program's name, ask for the events of a stream, where they
-/// are `events` or `events --json`.
+/// are `events`, `events --json` or `convert chromium`.
 pub fn form_of(words: &[String]) -> Option<Form>
     ensures { result ≡ form_in (map string_bytes words.now) }
 {
@@ -14,6 +14,9 @@ pub fn form_of(words: &[String]) -> Option<Form>
         [name] if name.as_str() == "events" => Some(Form::Lines),
         [name, option] if name.as_str() == "events" && option.as_str() == "--json" => {
             Some(Form::Json)
+        }
+        [name, target] if name.as_str() == "convert" && target.as_str() == "chromium" => {
+            Some(Form::Chromium)
         }
         _ => None,
     }

@@ -1,4 +1,7 @@
-//! A module for the lines of single items in each form, over one that makes items, one for whole streams, and one for words.
+//! A module for the lines of single items in each form, over one that makes items, one for whole streams, one for files of trace
+//! events, and one for words.
+mod entries;
+mod files;
 mod items;
 mod lines;
 mod objects;

@@ -1,4 +1,6 @@
+pub mod Around
 pub mod Floats
+pub mod Entries
 pub mod Frames
 pub mod Going
 pub mod Lines

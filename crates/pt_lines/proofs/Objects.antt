@@ -7,6 +7,7 @@ use Rattle.ep_defs.specs.declared.event.FieldDef.{FieldDef}
 use Rattle.ep_defs.specs.Entry.{EventEntry}
 use Rattle.nt_fields.specs.Values.{payload_at}
 use Rattle.pt_lines.specs.declared.form.Form.TheVariants as forms
+use Rattle.pt_lines.specs.declared.origin.Origin.{Origin}
 use Rattle.pt_lines.specs.Line.{Event}
 use Rattle.pt_lines.specs.Forms.{IsLine}
 use Rattle.pt_lines.specs.Json.{IsPayloadMember, IsStack, activity_members, behind_commas, commas, definition_members, event_object, line_of, place_members, width_of}
@@ -54,18 +55,18 @@ two-more member members stack payload =
 pieces : (old head key stack comma payload end : List ℕ) → (((((old ++ head) ++ key) ++ stack) ++ comma) ++ payload) ++ end ≡ old ++ (head ++ (key ++ (stack ++ (comma ++ (payload ++ end)))))
 pieces old head key stack comma payload end = simp append_assoc
 
-pub event-object-put : (address processor thread width : ℕ) (event : EventEntry) (fields : List FieldDef) (bytes payload old first second third fourth fifth new : List ℕ)
-    → fields ≡ event.def.fields → bytes ≡ event.stack → payload ≡ event.payload → width ≡ width_of address
+pub event-object-put : (origin : Origin) (processor thread width : ℕ) (event : EventEntry) (fields : List FieldDef) (bytes payload old first second third fourth fifth new : List ℕ)
+    → fields ≡ event.def.fields → bytes ≡ event.stack → payload ≡ event.payload → width ≡ width_of origin.address
     → first ≡ old ++ (codes "{" ++ commas (place_members processor thread event ++ definition_members event.def ++ activity_members event))
     → second ≡ first ++ codes ",\"stack\":"
     → Appends (IsStack width bytes) second third
     → fourth ≡ third ++ codes ","
     → Appends (IsPayloadMember fields payload (payload_at fields payload)) fourth fifth
     → new ≡ fifth ++ codes "}\n"
-    → Appends (IsLine forms.Json (Event address processor thread event)) old new
-event-object-put address processor thread width event fields bytes payload old first second third fourth fifth new same_fields same_stack same_payload same_width head key (stack, is_stack, stacked) comma (member, is_member, put) end =
+    → Appends (IsLine forms.Json (Event origin processor thread event)) old new
+event-object-put origin processor thread width event fields bytes payload old first second third fourth fifth new same_fields same_stack same_payload same_width head key (stack, is_stack, stacked) comma (member, is_member, put) end =
     let members = place_members processor thread event ++ definition_members event.def ++ activity_members event in
-    let told_stack : IsStack (width_of address) event.stack stack =
+    let told_stack : IsStack (width_of origin.address) event.stack stack =
     subst (λ (w : ℕ). IsStack w event.stack stack) same_width (subst (λ (b : List ℕ). IsStack width b stack) same_stack is_stack) in
     let told_member : IsPayloadMember event.def.fields event.payload (payload_at event.def.fields event.payload) member =
     subst (λ (p : List ℕ). IsPayloadMember event.def.fields p (payload_at event.def.fields p) member) same_payload

@@ -5,6 +5,7 @@ use Rattle.ep_defs.specs.declared.event.FieldDef.{FieldDef}
 use Rattle.ep_defs.specs.Entry.{EventEntry}
 use Rattle.nt_fields.specs.Values.{payload_at}
 use Rattle.pt_lines.specs.declared.form.Form.TheVariants as forms
+use Rattle.pt_lines.specs.declared.origin.Origin.{Origin}
 use Rattle.pt_lines.specs.Line.{Event}
 use Rattle.pt_lines.specs.Texts.{IsPayload, event_start, closes}
 use Rattle.pt_lines.specs.Forms.{IsLine}
@@ -47,8 +48,8 @@ ok-items (Ok x) old new piece text e is = e ∙ ap (λ (xs : List ℕ). old ++ x
 ok-items (Err fault) old new piece text e is = tt
 
 -- The line of an event was put.
-pub event-put : (address processor thread : ℕ) (event : EventEntry) (fields : List FieldDef) (payload old start mid new : List ℕ) → fields ≡ event.def.fields → payload ≡ event.payload → start ≡ old ++ event_start event → Appends (IsPayload fields payload (payload_at fields payload)) start mid → new ≡ mid ++ 10 ∷ [] → Appends (IsLine forms.Lines (Event address processor thread event)) old new
-event-put address processor thread event fields payload old start mid new same said begun (text, is, put) end =
+pub event-put : (origin : Origin) (processor thread : ℕ) (event : EventEntry) (fields : List FieldDef) (payload old start mid new : List ℕ) → fields ≡ event.def.fields → payload ≡ event.payload → start ≡ old ++ event_start event → Appends (IsPayload fields payload (payload_at fields payload)) start mid → new ≡ mid ++ 10 ∷ [] → Appends (IsLine forms.Lines (Event origin processor thread event)) old new
+event-put origin processor thread event fields payload old start mid new same said begun (text, is, put) end =
     let told : IsPayload event.def.fields event.payload (payload_at event.def.fields event.payload) text =
     subst (λ (p : List ℕ). IsPayload event.def.fields p (payload_at event.def.fields p) text) said
     (subst (λ (f : List FieldDef). IsPayload f payload (payload_at f payload) text) same is) in (

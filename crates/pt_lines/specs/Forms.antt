@@ -6,22 +6,29 @@ use Rattle.pt_lines.specs.declared.form.Form.TheVariants as forms
 use Rattle.pt_lines.specs.Line.{Line, Lost, Event, Point}
 use Rattle.pt_lines.specs.Texts.{IsPayload, event_start, lost_line, point_text}
 use Rattle.pt_lines.specs.Json.{IsPayloadMember, IsStack, event_object, lost_object, point_object, width_of}
+use Rattle.pt_lines.specs.Chromium.{event_phase, lost_counter, point_instant}
 
 -- The text is the line, in this form.
 abbrev pub IsLine : Form → Line → List ℕ → Type 0
-IsLine forms.Lines (Lost thread count) text = text ≡ lost_line thread count
-IsLine forms.Lines (Event address processor thread event) text =
+IsLine forms.Lines (Lost origin stamp thread count) text = text ≡ lost_line thread count
+IsLine forms.Lines (Event origin processor thread event) text =
     (fields : List ℕ)
     × IsPayload event.def.fields event.payload (payload_at event.def.fields event.payload) fields
     × (text ≡ event_start event ++ fields ++ 10 ∷ [])
-IsLine forms.Lines (Point point) text = text ≡ point_text point.stamp (length point.threads)
-IsLine forms.Json (Lost thread count) text = text ≡ lost_object thread count
-IsLine forms.Json (Event address processor thread event) text =
+IsLine forms.Lines (Point origin point) text = text ≡ point_text point.stamp (length point.threads)
+IsLine forms.Json (Lost origin stamp thread count) text = text ≡ lost_object thread count
+IsLine forms.Json (Event origin processor thread event) text =
     (stack payload : List ℕ)
-    × IsStack (width_of address) event.stack stack
+    × IsStack (width_of origin.address) event.stack stack
     × IsPayloadMember event.def.fields event.payload (payload_at event.def.fields event.payload) payload
     × (text ≡ event_object processor thread event stack payload)
-IsLine forms.Json (Point point) text = text ≡ point_object point
+IsLine forms.Json (Point origin point) text = text ≡ point_object point
+IsLine forms.Chromium (Lost origin stamp thread count) text = text ≡ lost_counter origin stamp thread count
+IsLine forms.Chromium (Event origin processor thread event) text =
+    (payload : List ℕ)
+    × IsPayloadMember event.def.fields event.payload (payload_at event.def.fields event.payload) payload
+    × (text ≡ event_phase origin event payload)
+IsLine forms.Chromium (Point origin point) text = text ≡ point_instant origin point
 
 -- The text is these lines, one after another.
 abbrev pub AreLines : Form → List Line → List ℕ → Type 0

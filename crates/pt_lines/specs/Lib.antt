@@ -2,7 +2,9 @@
 pub mod Line
 pub mod Texts
 pub mod Json
+pub mod Chromium
 pub mod Forms
+pub mod Around
 -- what putting answers
 pub mod Appends
 pub mod state

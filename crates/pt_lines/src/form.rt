@@ -1,4 +1,7 @@
 //! The forms of a line.
+ghost use Rattle.std.specs.Prelude.{◌≡◌};
+ghost use Rattle.pt_lines.specs.Around as texts;
+ghost use Rattle.pt_lines.specs.Around.{head_of, tail_of};
 
 /// How lines are written.
 #[derive(Clone, Copy, Debug, PartialEq, Eq)]
@@ -7,4 +10,38 @@ pub enum Form {
     Lines,
     /// An object of JSON.
     Json,
+    /// An object of a file of trace events, as Chromium's tools read it.
+    Chromium,
+}
+
+impl Form {
+    /// What stands before the lines.
+    pub fn head(self) -> &'static str
+        ensures { result.now ≡ head_of self }
+    {
+        match self {
+            Form::Lines | Form::Json => "",
+            Form::Chromium => "{\"displayTimeUnit\":\"ns\",\"traceEvents\":[",
+        }
+    }
+
+    /// What is shown of lines, by whether they are the first: the first object has no comma before it.
+    pub fn shown(self, is_first: bool, lines: &[u8]) -> &[u8]
+        ensures { result.now ≡ texts.shown self is_first lines.now }
+    {
+        match self {
+            Form::Chromium if is_first && !lines.is_empty() => &lines[1..],
+            _ => lines,
+        }
+    }
+
+    /// What stands behind the lines of a whole stream.
+    pub fn tail(self) -> &'static str
+        ensures { result.now ≡ tail_of self }
+    {
+        match self {
+            Form::Lines | Form::Json => "",
+            Form::Chromium => "\n]}\n",
+        }
+    }
 }

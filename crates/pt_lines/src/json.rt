@@ -3,4 +3,4 @@ pub mod fields;
 pub mod line;
 mod nest;
 mod stack;
-mod value;
+pub mod value;

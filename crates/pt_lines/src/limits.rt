@@ -4,5 +4,8 @@
 /// one for itself (RFC 8259, section 6).
 pub const MOST_EXACT: u64 = 9_007_199_254_740_991;
 
+/// How many nanoseconds a second has.
+pub const NANOSECONDS: u64 = 1_000_000_000;
+
 /// How many bytes an address of a stack has where the stream doesn't say it.
 pub const ADDRESS_BYTES: usize = 8;

@@ -2,6 +2,7 @@
 ghost use Rattle.std.specs.Prelude.{◌≡◌, ◌++◌, ℕ, OnOk};
 ghost use Rattle.ep_defs.specs.Entry.{EventEntry};
 ghost use Rattle.pt_lines.specs.declared.form.Form.TheVariants as forms;
+ghost use Rattle.pt_lines.specs.declared.origin.Origin.{Origin};
 ghost use Rattle.pt_lines.specs.Line.{Event, Lost, Point, lost_if};
 ghost use Rattle.pt_lines.specs.Texts.{event_start, lost_line, point_text};
 ghost use Rattle.pt_lines.specs.Forms.{AreLines, IsLine};
@@ -9,7 +10,8 @@ ghost use Rattle.pt_lines.specs.Appends.{Appends, Tells};
 
 use crate::fields::put_payload;
 use crate::form::Form;
-use crate::json;
+use crate::origin::Origin;
+use crate::{chromium, json};
 use ep_defs::EventDef;
 use pt_print::{put_end, put_number, put_units, put_word};
 use std::alloc::{AllocError, Global};
@@ -17,8 +19,7 @@ use std::alloc::{AllocError, Global};
 /// What the line of an event says.
 #[derive(Clone, Copy)]
 pub struct EventLine<'a> {
-    /// How many bytes an address of its stack has.
-    pub address: u32,
+    pub origin: Origin,
     pub processor: u32,
     /// The thread that it names beside its capture thread.
     pub thread_id: u64,
@@ -33,22 +34,37 @@ pub struct EventLine<'a> {
     pub payload: &'a [u8],
 }
 
-/// Appends the line of numbers that a thread leaves out, where there are some.
-pub fn put_lost(out: &mut Vec<u8>, form: Form, thread: u64, count: u32) -> Result<(), AllocError>
-    ensures { OnOk result (Appends (AreLines form (lost_if thread count)) out.old.items out.new.items) }
+/// Appends the line of numbers that a thread leaves out at this stamp, where there are some.
+pub fn put_lost(
+    out: &mut Vec<u8>,
+    form: Form,
+    origin: Origin,
+    stamp: u64,
+    thread: u64,
+    count: u32,
+) -> Result<(), AllocError>
+    ensures { OnOk result (Appends (AreLines form (lost_if origin stamp thread count)) out.old.items out.new.items) }
 {
     if count == 0 {
         return Ok(());
     }
-    put_one_lost(out, form, thread, count)
+    put_one_lost(out, form, origin, stamp, thread, count)
 }
 
-fn put_one_lost(out: &mut Vec<u8>, form: Form, thread: u64, count: u32) -> Result<(), AllocError>
-    ensures { OnOk result (Appends (IsLine form (Lost thread count)) out.old.items out.new.items) }
+fn put_one_lost(
+    out: &mut Vec<u8>,
+    form: Form,
+    origin: Origin,
+    stamp: u64,
+    thread: u64,
+    count: u32,
+) -> Result<(), AllocError>
+    ensures { OnOk result (Appends (IsLine form (Lost origin stamp thread count)) out.old.items out.new.items) }
 {
     match form {
         Form::Lines => put_lost_line(out, thread, count),
         Form::Json => json::line::put_lost(out, thread, count),
+        Form::Chromium => chromium::line::put_lost(out, origin, stamp, thread, count),
     }
 }
 
@@ -65,14 +81,16 @@ fn put_lost_line(out: &mut Vec<u8>, thread: u64, count: u32) -> Result<(), Alloc
 pub fn put_point(
     out: &mut Vec<u8>,
     form: Form,
+    origin: Origin,
     stamp: u64,
     threads: &[(u64, u32)],
 ) -> Result<(), AllocError>
-    ensures { OnOk result (Appends (IsLine form (Point (record { stamp = stamp; threads = threads.now }))) out.old.items out.new.items) }
+    ensures { OnOk result (Appends (IsLine form (Point origin (record { stamp = stamp; threads = threads.now }))) out.old.items out.new.items) }
 {
     match form {
         Form::Lines => put_point_line(out, stamp, threads.len()),
         Form::Json => json::line::put_point(out, stamp, threads),
+        Form::Chromium => chromium::line::put_point(out, origin, stamp, threads),
     }
 }
 
@@ -92,18 +110,19 @@ pub fn put_event(
     form: Form,
     event: &EventLine<'_>,
 ) -> Result<(), AllocError>
-    ensures { (address processor thread : ℕ) (entry : EventEntry) → Tells event.now address processor thread entry
-        → OnOk result (Appends (IsLine form (Event address processor thread entry)) out.old.items out.new.items) }
+    ensures { (origin : Origin) (processor thread : ℕ) (entry : EventEntry) → Tells event.now origin processor thread entry
+        → OnOk result (Appends (IsLine form (Event origin processor thread entry)) out.old.items out.new.items) }
 {
     match form {
         Form::Lines => put_event_line(out, alloc, event),
         Form::Json => json::line::put_event(out, alloc, event),
+        Form::Chromium => chromium::line::put_event(out, alloc, event),
     }
 }
 
 fn put_event_line(out: &mut Vec<u8>, alloc: Global, event: &EventLine<'_>) -> Result<(), AllocError>
-    ensures { (address processor thread : ℕ) (entry : EventEntry) → Tells event.now address processor thread entry
-        → OnOk result (Appends (IsLine forms.Lines (Event address processor thread entry)) out.old.items out.new.items) }
+    ensures { (origin : Origin) (processor thread : ℕ) (entry : EventEntry) → Tells event.now origin processor thread entry
+        → OnOk result (Appends (IsLine forms.Lines (Event origin processor thread entry)) out.old.items out.new.items) }
 {
     put_event_start(out, event)?;
     put_payload(out, alloc, event.def.fields.as_slice(), event.payload)?;
@@ -111,7 +130,7 @@ fn put_event_line(out: &mut Vec<u8>, alloc: Global, event: &EventLine<'_>) -> Re
 }
 
 fn put_event_start(out: &mut Vec<u8>, event: &EventLine<'_>) -> Result<(), AllocError>
-    ensures { (address processor thread : ℕ) (entry : EventEntry) → Tells event.now address processor thread entry
+    ensures { (origin : Origin) (processor thread : ℕ) (entry : EventEntry) → Tells event.now origin processor thread entry
         → OnOk result (out.new.items ≡ out.old.items ++ event_start entry) }
 {
     put_word(out, "event")?;

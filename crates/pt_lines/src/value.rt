@@ -141,8 +141,8 @@ fn put_clock(out: &mut Vec<u8>, numbers: &[u16; 8]) -> Result<(), AllocError>
     put_places(out, 2, numbers[6])
 }
 
-// Appends a number in at least so many digits.
-fn put_places(out: &mut Vec<u8>, places: usize, number: u16) -> Result<(), AllocError>
+/// Appends a number in at least so many digits.
+pub fn put_places(out: &mut Vec<u8>, places: usize, number: u16) -> Result<(), AllocError>
     requires { places < 2 ^ 8 }
     ensures { OnOk result (out.new.items ≡ out.old.items ++ digits_in places number) }
 {

@@ -1,5 +1,5 @@
 -- What a run answers, by what its session was at its end.
-use Rattle.std.proofs.Common.{◌≡◌, ◌≢◌, ◌∙◌, ℕ, ◌≤◌, ◌++◌, ◌⊎◌, inl, inr, true, false, List, [], ◌∷◌, None, length, refl, sym, ap, subst, arith}
+use Rattle.std.proofs.Common.{◌≡◌, ◌≢◌, ◌∙◌, ℕ, zero, suc, ◌+◌, ◌<◌, ◌≤◌, ◌++◌, ◌⊎◌, inl, inr, true, false, List, [], ◌∷◌, None, length, map, refl, sym, ap, subst, arith}
 use Rattle.std.specs.Prelude.{Bool, IsTrue, Result, Ok, Err, IfOk, OnErr}
 use Rattle.std.specs.List.{range_with_len}
 use Rattle.std.proofs.lemmas.List.{append-nil}
@@ -9,6 +9,7 @@ use Rattle.ep_defs.specs.declared.session.Config.{Config}
 use Rattle.ep_defs.specs.declared.session.Marks.{Marks}
 use Rattle.ep_defs.specs.declared.session.TraceInfo.{TraceInfo}
 use Rattle.ep_defs.specs.declared.session.Write.{Write}
+use Rattle.ep_rundown.specs.Rundown.{lacks_rundown}
 use Rattle.nt_write.specs.declared.fault.Fault.{Fault}
 use Rattle.nt_write.specs.declared.fault.Fault.TheVariants.{WriteFault, TooLong, OutOfMemory}
 use Rattle.pt_io.specs.declared.sink.Sink.{Ghosts as Sink}
@@ -17,6 +18,7 @@ use Rattle.ep_stream.specs.Session.{TookStart}
 use Rattle.ep_stream.specs.declared.session.Fate.{Fate}
 use Rattle.ep_stream.specs.declared.session.Fate.TheVariants as fate
 use Rattle.ep_live_laws.specs.Streams.{PartsAreFound, TracesAreFound}
+use Rattle.ep_live_laws.specs.Traced.{AreOfThreads}
 use Rattle.ep_live_laws.specs.Tracing.{is_fault, TookTraced, TookTracedPart}
 use Rattle.pt_load.specs.Sample.{sample}
 use Rattle.pt_load.specs.declared.plan.Plan.{Plan}
@@ -29,10 +31,21 @@ use Rattle.pt_live.specs.state.Ended.{HasEndedAt}
 use Rattle.pt_live.specs.state.Run.{IsLentTo, RunState}
 use Rattle.pt_live.proofs.Long.{is-long}
 
--- The stream of entries that trace the threads is found, and so is a part of it.
+-- The stream of entries that trace the threads is found, and so is a part of it. The sample program does not define the
+-- rundown's own event.
 pub record Laws (plan : Plan) (config : Config) : Type 0 where
   pub traces : TracesAreFound sample config (writes_of plan)
   pub parts : PartsAreFound sample config (writes_of plan)
+  pub lacks : IsTrue (lacks_rundown sample)
+
+-- The marks of threads from one above 0 on are of threads that write.
+of-threads : (first n : ℕ) (marks : List Marks) → 0 < first → map (λ mark. mark.thread) marks ≡ range_with_len first n → AreOfThreads marks
+of-threads first n [] some are = tt
+of-threads first zero (mark ∷ marks) some are = cc
+of-threads first (suc n) (mark ∷ marks) some are =
+    let here : mark.thread ≡ first = cc in
+    let later : map (λ (m : Marks). m.thread) marks ≡ range_with_len (first + 1) n = cc in
+    (omega (arith, here, some), of-threads (first + 1) n marks (omega arith) later)
 
 -- ---- a session that was begun
 
@@ -53,14 +66,14 @@ module _ {O L : Type 0} (side : Sink L) (output : Sink O) (out : L → O) (run :
   stands-behind : (part : List ℕ) (l : L) → side.taken l ≡ run.before ++ part → output.taken (out l) ≡ output.taken old ++ part
   stands-behind part l took = sym (taken_is l) ∙ took ∙ ap (λ (bytes : List ℕ). bytes ++ part) (sym lent.before_is)
 
-  pub took-whole : (laws : Laws plan run.config) (marks : List Marks) (l : L)
+  pub took-whole : (laws : Laws plan run.config) (marks : List Marks) (l : L) → AreOfThreads marks
       → TookTraced side run.before run.info sample run.config (writes_of plan) marks l
       → IsTrue (output.tells_taken old) → TookTrace run.info plan run.config marks (output.taken old) (output.taken (out l))
-  took-whole laws marks l t told =
+  took-whole laws marks l threads t told =
       let stream = t.stream (tells-so l told) in
       record {
         stream = stream.0;
-        trace = laws.traces run.info marks t.entries stream.0 stream.1 t.traced;
+        trace = laws.traces run.info marks t.entries stream.0 laws.lacks threads stream.1 t.traced;
         took = stands-behind stream.0 l stream.2;
       }
 
@@ -71,7 +84,7 @@ module _ {O L : Type 0} (side : Sink L) (output : Sink O) (out : L → O) (run :
       let stream = t.stream (tells-so l told) in
       record {
         part = stream.1;
-        trace = laws.parts run.info marks t.entries stream.1 stream.0 stream.2 stream.3 t.part;
+        trace = laws.parts run.info marks t.entries t.told stream.1 stream.0 t.front stream.2 stream.3 t.part;
         took = stands-behind stream.1 l stream.4;
       }
 
@@ -84,7 +97,7 @@ module _ {O L : Type 0} (side : Sink L) (output : Sink O) (out : L → O) (run :
           rows = rows;
           marks = inl whole;
           spent = spent;
-          whole = λ is. took-whole laws end.marks l (e.outcome.whole (ap is_fault is) few);
+          whole = λ is. took-whole laws end.marks l (of-threads 1 opened end.marks (omega arith) e.threads) (e.outcome.whole (ap is_fault is) few);
           part = λ is told. inr (took-part laws end.marks l e.outcome.part told);
           not_asked = e.well.not_asked;
           link_fault = λ is.
@@ -124,7 +137,7 @@ module _ {O L : Type 0} (side : Sink L) (output : Sink O) (out : L → O) (run :
         by : (b : Bool) → is_fault end ≡ b
             → TookSome run.info plan run.config marks (output.taken old) (output.taken (out l)) ⊎ TookTrace run.info plan run.config marks (output.taken old) (output.taken (out l))
         by true is = inl (inr (took-part laws marks l e.outcome.part told))
-        by false is = inr (took-whole laws marks l (e.outcome.whole is few_writes) told)
+        by false is = inr (took-whole laws marks l (of-threads 1 opened marks (omega arith) e.threads) (e.outcome.whole is few_writes) told)
 
 -- ---- a session that was not begun
 
@@ -152,7 +165,7 @@ module _ {O : Type 0} (run : RunState) (plan : Plan) (laws : Laws plan run.confi
       inr
       (record {
         part = stream.1;
-        trace = laws.parts run.info [] [] stream.1 stream.0 stream.2 stream.3 (record { rising = record {}; in_place = record {}; alone = record {} });
+        trace = laws.parts run.info [] [] [] stream.1 stream.0 (_, refl) stream.2 stream.3 (record { rising = record {}; in_place = record {}; alone = record {} });
         took = stream.4 ∙ ap (λ (bytes : List ℕ). bytes ++ stream.1) (begins tells_so ∙ append-nil (output.taken old));
       })
 

@@ -59,13 +59,13 @@ pub record AreUnwritten (plan : Plan) (marks : List Marks) : Type 0 where
 -- ---- what the output took
 
 -- Behind what it had, it took the one stream of entries that tell all that the session got of the threads' writes, less
--- what was refused.
+-- what was refused, with the section of a rundown before the last point where the configuration asks for one.
 pub record TookTrace (info : TraceInfo) (plan : Plan) (config : Config) (marks : List Marks) (old new : List ℕ) : Type 0 where
   pub stream : List ℕ
   pub trace : IsTraceOf sample config (writes_of plan) info marks stream
   pub took : new ≡ old ++ stream
 
--- Behind what it had, it took what begins the one stream of entries that tell a part of that.
+-- Behind what it had, it took what begins the one stream of what is told first of entries that tell a part of that.
 pub record TookPart (info : TraceInfo) (plan : Plan) (config : Config) (marks : List Marks) (old new : List ℕ) : Type 0 where
   pub part : List ℕ
   pub trace : IsPartOf sample config (writes_of plan) info marks part

@@ -17,6 +17,7 @@ use ep_pool::PoolSeat;
 use ep_stream::{Fate, SessionEnd};
 use ep_tie::Right;
 use pt_io::{Clock, Gate, Moment, Sink};
+use pt_load::laws::sample_events_are_valid;
 use pt_writers::{Around, Kit, write_all, writers_of};
 use std::alloc::{AllocError, Global};
 use std::sync::Wait;
@@ -157,6 +158,7 @@ fn ended<P: TraceRun, R: Wait, S: Sink, C: Clock, G: Gate>(
         → HasEndedAt S.Sink P.run P.plan P.events P.writes opened to fate result.0.marks result.0.fate result.0.sink }
     ensures spent { IsSpent P.run.config result.0.marks result.1 }
 {
+    sample_events_are_valid();
     let streaming = streaming.close_all(alloc, around, opened);
     let Streaming { live, stream } = streaming;
     let (end, left) = stream.end(alloc, around.rt, live, around.clock.now(), fate);

@@ -218,6 +218,7 @@ fn run_over<
 {
     a_traced_stream_is_found();
     a_part_is_found();
+    sample_events_are_valid();
     let kit = match Kit::new(alloc, around, live) {
         Ok(kit) => kit,
         Err(error) => return (lent, Err(error)),

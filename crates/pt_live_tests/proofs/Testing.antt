@@ -9,6 +9,7 @@ use Rattle.ep_defs.specs.declared.session.Write.{Write}
 use Rattle.ep_defs.specs.Definitions.{definition_at}
 use Rattle.ep_defs.specs.Event.{is_valid_event}
 use Rattle.ep_defs.specs.Session.{fits}
+use Rattle.ep_rundown.specs.Rundown.{lacks_rundown}
 use Rattle.pt_live_tests.specs.Tests.{IsProgram}
 
 one-of : (events : List EventDef) → length events ≡ 1 → (i : ℕ) (def : EventDef) → definition_at events i ≡ Some def → i ≡ 1
@@ -18,11 +19,11 @@ one-of (e ∷ []) one (suc zero) def is = refl
 one-of (e ∷ []) one (suc (suc k)) def is = absurd (none-some def is)
 one-of (e ∷ f ∷ events) one i def is = absurd (omega (arith, one))
 
-pub program-of : (turns : ℕ) (events : List EventDef) (write : Write) → length events ≡ 1 → list_all is_valid_event events ≡ true → write.event ≡ 1 → IsTrue (fits write) → IsProgram events (λ _. replicate turns write) turns write
-program-of turns events write one valid event fit =
+pub program-of : (turns : ℕ) (events : List EventDef) (write : Write) → length events ≡ 1 → list_all is_valid_event events ≡ true → lacks_rundown events ≡ true → write.event ≡ 1 → IsTrue (fits write) → IsProgram events (λ _. replicate turns write) turns write
+program-of turns events write one valid lacks event fit =
     record {
       some = omega (arith, one);
-      valid = record { few = omega (arith, one); valid = valid; distinct = λ i j def here there. one-of events one i def here ∙ sym (one-of events one j def there) };
+      valid = record { few = omega (arith, one); valid = valid; distinct = λ i j def here there. one-of events one i def here ∙ sym (one-of events one j def there); lacks = lacks };
       event = event;
       fit = fit;
       lengths = λ _. length-replicate turns write;

@@ -9,6 +9,7 @@ use Rattle.ep_defs.specs.declared.limits.TheConstants.{EVENTS}
 use Rattle.ep_defs.specs.Definitions.{AreDistinct, definition_at}
 use Rattle.ep_defs.specs.Event.{is_valid_event}
 use Rattle.ep_defs.specs.Session.{fits}
+use Rattle.ep_rundown.specs.Rundown.{lacks_rundown}
 use Rattle.pt_load.specs.Sample.{sample, nth, event_at, frames_of, payload_of}
 use Rattle.pt_load.specs.declared.plan.Plan.{Plan}
 
@@ -19,6 +20,10 @@ sample_is_short = omega arith
 pub sample_is_valid : IsTrue (list_all is_valid_event sample)
 unfolding sample
 sample_is_valid = refl
+
+pub sample_lacks_rundown : IsTrue (lacks_rundown sample)
+unfolding sample
+sample_lacks_rundown = refl
 
 -- The number of an event is told by its provider's name, whose length no other has, and its id.
 number_of : EventDef → ℕ

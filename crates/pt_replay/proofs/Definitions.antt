@@ -8,11 +8,16 @@ use Rattle.ep_defs.specs.declared.event.EventDef.{EventDef}
 use Rattle.ep_defs.specs.Definitions.{AreDistinct}
 use Rattle.ep_defs.specs.Event.{is_valid_event, is_same_event}
 use Rattle.ep_defs.proofs.Sameness.{event-itself}
+use Rattle.ep_rundown.specs.Rundown.{rundown_def, lacks_rundown}
 use Rattle.ep_model.specs.History.{event_at}
 
 -- One valid definition more.
 pub all-more : (events : List EventDef) (def : EventDef) → IsTrue (list_all is_valid_event events) → IsTrue (is_valid_event def) → IsTrue (list_all is_valid_event (events ++ def ∷ []))
 all-more events def all one = rw (list_all-append, all, one) refl
+
+-- One more that is not the rundown's.
+pub lacks-more : (events : List EventDef) (def : EventDef) → IsTrue (lacks_rundown events) → is_same_event def rundown_def ≡ false → IsTrue (lacks_rundown (events ++ def ∷ []))
+lacks-more events def all other = rw (list_all-append, all, other) refl
 
 -- A place among the definitions is one of those before, or that of the new one.
 get-more : (events : List EventDef) (def : EventDef) (i : ℕ) (a : EventDef) → slice_get (events ++ def ∷ []) i ≡ Some a → (slice_get events i ≡ Some a) ⊎ ((i ≡ length events) × (a ≡ def))

@@ -2,6 +2,7 @@
 use Rattle.std.specs.Prelude.{◌≡◌, ℕ, ◌+◌, ◌≤◌, not, ◌==◌, List, ◌++◌, length, Option, Some, None, IsTrue}
 use Rattle.std.specs.List.{list_all}
 use Rattle.ep_defs.specs.Event.{is_valid_event}
+use Rattle.ep_rundown.specs.Rundown.{lacks_rundown}
 use Rattle.ep_model.specs.Lawful.{IsLawful}
 use Rattle.ep_defs.specs.Definitions.{AreDistinct}
 use Rattle.ep_defs.specs.declared.limits.TheConstants.{EVENTS}
@@ -24,6 +25,7 @@ pub record HasTaken (lines : List Line) (schedule : Schedule) : Type 0 where
   pub few : length (definitions_of lines) ≤ EVENTS
   pub valid : IsTrue (list_all is_valid_event (definitions_of lines))
   pub distinct : AreDistinct (event_at (definitions_of lines))
+  pub lacks : IsTrue (lacks_rundown (definitions_of lines))
   pub lawful : IsLawful (definitions_of lines) (past_of lines)
 
 -- How many lines came.

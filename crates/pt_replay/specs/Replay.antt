@@ -12,8 +12,9 @@ use Rattle.pt_replay.specs.Errors.{refusal_error, unfinished_error}
 use Rattle.pt_replay.specs.Schedule.{definitions_of, past_of, IsSchedule, IsRefused}
 
 -- The stream is what replaying the bytes for a session gives: they are a schedule, each of its steps could be made, the
--- session is finished, and the stream is the one of its entries and faithful. `report` takes the stream, and prints of each
--- thread how many of its events were written, the last number and how many were refused.
+-- session is finished, and the stream is the one of what the session tells and, without a rundown's items, faithful.
+-- `report` takes the stream, and prints of each thread how many of its events were written, the last number and how many
+-- were refused; with a rundown it prints of thread 0 how many definitions were used.
 pub record IsReplayed (session : ℕ) (bytes stream : List ℕ) : Type 0 where
   pub lines : List Line
   pub schedule : IsSchedule bytes lines

@@ -5,6 +5,7 @@ ghost use Rattle.ep_defs.specs.Event.{is_valid_event};
 ghost use Rattle.ep_defs.specs.Definitions.{AreDistinct};
 ghost use Rattle.ep_defs.specs.declared.limits.TheConstants.{EVENTS};
 ghost use Rattle.ep_core.specs.Machine.{Follows, steps_of};
+ghost use Rattle.ep_rundown.specs.Rundown.{lacks_rundown};
 ghost use Rattle.ep_model.specs.Lawful.{objection_to};
 ghost use Rattle.ep_plan.specs.Lines.{IsLine};
 ghost use Rattle.ep_defs.specs.declared.event.EventDef.{EventDef};
@@ -167,6 +168,7 @@ fn make(
     requires few { length events.now ≤ EVENTS }
     requires valid { IsTrue (list_all is_valid_event events.now) }
     requires distinct { AreDistinct (event_at events.now) }
+    requires lacks { IsTrue (lacks_rundown events.now) }
     ensures made { (past : Past) → IsMachineOf events.now past lines machine.old
         → OnOk result ((objection_to events.now past step ≡ None)
         × IsMachineOf events.now (step ∷ past) (lines + 1) machine.new) }
@@ -188,6 +190,7 @@ fn new_machine(alloc: Global, events: &[EventDef]) -> Result<Machine, Fault>
     requires few { length events.now ≤ EVENTS }
     requires valid { IsTrue (list_all is_valid_event events.now) }
     requires distinct { AreDistinct (event_at events.now) }
+    requires lacks { IsTrue (lacks_rundown events.now) }
     ensures fresh { IfOk result (λ machine. Follows events.now (standard_info_of 1 1) [] machine) }
     ensures counted { IfOk result (λ machine. steps_of machine ≡ 0) }
     ensures memory { IfErr result (λ fault. fault ≡ OutOfMemory) }

@@ -11,3 +11,4 @@ pub mod Steps
 pub mod Tallies
 pub mod Used
 pub mod Whole
+mod WithRundown

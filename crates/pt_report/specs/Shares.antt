@@ -1,10 +1,14 @@
 -- What the threads of a faithful stream have in numbers (this project's profile).
-use Rattle.std.specs.Prelude.{◌≡◌, ℕ, List, length}
+use Rattle.std.specs.Prelude.{◌≡◌, ℕ, List, ◌∷◌, length, ◌==◌, if◌then◌else◌}
 use Rattle.std.specs.List.{flat_map}
 use Rattle.ep_defs.specs.declared.event.EventDef.{EventDef}
+use Rattle.ep_defs.specs.Entry.{Entry}
+use Rattle.ep_rundown.specs.Rundown.{used}
 use Rattle.ep_model.specs.Chunks.{refused, written}
+use Rattle.ep_model.specs.Entries.{entries}
 use Rattle.ep_model.specs.Faithful.{Share, kept}
 use Rattle.ep_model.specs.History.{Past, admitted, opened}
+use Rattle.ep_told.specs.Told.{has_rundown}
 use Rattle.nt_blocks.specs.Ordered.{kinds_of}
 use Rattle.nt_check.specs.declared.threads.Numbers.{Numbers}
 use Rattle.nt_check.specs.Numbers.{held}
@@ -25,9 +29,23 @@ session_numbers definitions session past thread =
       gaps = length (refused session thread past);
     }
 
--- A line for each thread on which the session was ever opened, ascending.
+-- Of thread 0 with a rundown: an event for each definition that was used, and none that was refused.
+abbrev pub rundown_numbers : List Entry → Numbers
+rundown_numbers entries = record { events = held (length (used entries)); last = length (used entries); gaps = 0 }
+
+-- The threads of which a finished session's stream tells, ascending: those on which the session was ever opened, and thread
+-- 0 where the session has a rundown.
+abbrev pub told_threads : ℕ → Past → List ℕ
+told_threads session past = if has_rundown session past then 0 ∷ opened session past else opened session past
+
+-- What it tells of one of them.
+abbrev pub told_numbers : List EventDef → ℕ → Past → ℕ → Numbers
+told_numbers definitions session past thread =
+    if thread == 0 then rundown_numbers (entries definitions session past) else session_numbers definitions session past thread
+
+-- A line for each of those threads.
 abbrev pub session_lines : List EventDef → ℕ → Past → List ℕ
-session_lines definitions session past = flat_map (λ thread. thread_line thread (session_numbers definitions session past thread)) (opened session past)
+session_lines definitions session past = flat_map (λ thread. thread_line thread (told_numbers definitions session past thread)) (told_threads session past)
 
 -- The text is the report of the bytes, and these are its lines of threads.
 pub record ReportsThreads (bytes lines text : List ℕ) : Type 0 where

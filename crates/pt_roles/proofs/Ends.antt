@@ -7,6 +7,7 @@ use Rattle.ep_defs.specs.declared.session.Config.{Config}
 use Rattle.ep_defs.specs.declared.session.Facts.{Facts}
 use Rattle.ep_defs.specs.declared.session.Marks.{Marks}
 use Rattle.ep_defs.specs.declared.session.Write.{Write}
+use Rattle.ep_rundown.specs.Rundown.{lacks_rundown}
 use Rattle.ipc_body.specs.declared.request.Request.TheVariants as request
 use Rattle.pt_io.specs.Sides.{ReadSide}
 use Rattle.pt_io.specs.declared.sink.Sink.{Ghosts as Sink}
@@ -20,7 +21,7 @@ use Rattle.ep_journal.specs.declared.session.Stage.TheVariants as stage
 use Rattle.ep_journal.specs.Kept.{was_early}
 use Rattle.ep_registry.specs.declared.hold.Hold.{Hold}
 use Rattle.ep_live_laws.specs.Streams.{PartsAreFound, TracesAreFound}
-use Rattle.ep_live_laws.specs.Traced.{ArePart, AreTraced}
+use Rattle.ep_live_laws.specs.Traced.{AreOfThreads}
 use Rattle.ep_live_laws.specs.Tracing.{TookTraced, TookTracedPart, is_fault}
 use Rattle.pt_load.specs.Sample.{sample}
 use Rattle.pt_server.specs.Connection.{HasAsked}
@@ -39,7 +40,7 @@ use Rattle.pt_roles.specs.Table.{IsOver, was_opened}
 use Rattle.pt_roles.specs.World.{IsWorldOf, WorldState, before_of, setting_of, writes_of}
 use Rattle.pt_roles.specs.declared.live_end.LiveSession.{LiveSession}
 use Rattle.pt_roles.proofs.Load.{count-writes}
-use Rattle.pt_roles.proofs.Marks.{all-done, all-marks, each-row, early-marks, is-thread}
+use Rattle.pt_roles.proofs.Marks.{all-done, all-marks, each-row, early-marks, is-thread, of-threads}
 
 -- The link asked for the session that is left.
 pub asked-left : {L : Type 0} (gave : L → ReadSide) (sink : Sink L) (stream : StreamState) (end : SessionEnd (ServedState L)) (session : LiveSession L)
@@ -72,20 +73,20 @@ spent-left config marks stream ended seat leaves config_is marks_are alone drain
 
 module _ {L : Type 0} (gave : L → ReadSide) (sink : Sink L) (side : Sink (ServedState L)) (tells_is : (s : ServedState L) → side.tells_taken s ≡ sink.tells_taken s.link) (taken_is : (s : ServedState L) → side.taken s ≡ sink.taken s.link) where
   pub whole-left : (world : WorldState) (stream : StreamState) (end : SessionEnd (ServedState L)) (session : LiveSession L)
-      → TracesAreFound sample session.config (writes_of world.plan)
+      → TracesAreFound sample session.config (writes_of world.plan) → IsTrue (lacks_rundown sample) → AreOfThreads session.marks
       → TookTraced side (before_of world stream.id) world.facts.info sample stream.config (writes_of world.plan) stream.marks end.sink
       → session.id ≡ stream.id → session.config ≡ stream.config → session.marks ≡ stream.marks
       → IsLeftOf gave sink end session → IsTrue (sink.tells_taken session.link) → TookTrace sink world session
-  whole-left world stream end session laws t id config marks left told =
+  whole-left world stream end session laws lacks threads took id config marks left told =
       let tells : IsTrue (side.tells_taken end.sink) = subst IsTrue (left.tells ∙ sym (tells_is end.sink)) told in
-      let bytes = t.stream tells in
-      let traced : AreTraced sample session.config (writes_of world.plan) session.marks t.entries =
-      subst (λ (m : List Marks). AreTraced sample session.config (writes_of world.plan) m t.entries) (sym marks)
-      (subst (λ (c : Config). AreTraced sample c (writes_of world.plan) stream.marks t.entries) (sym config) t.traced)
+      let t : TookTraced side (before_of world stream.id) world.facts.info sample session.config (writes_of world.plan) session.marks end.sink =
+      subst (λ (m : List Marks). TookTraced side (before_of world stream.id) world.facts.info sample session.config (writes_of world.plan) m end.sink) (sym marks)
+      (subst (λ (c : Config). TookTraced side (before_of world stream.id) world.facts.info sample c (writes_of world.plan) stream.marks end.sink) (sym config) took)
       in
+      let bytes = t.stream tells in
       record {
         stream = bytes.0;
-        trace = laws world.facts.info session.marks t.entries bytes.0 bytes.1 traced;
+        trace = laws world.facts.info session.marks t.entries bytes.0 lacks threads bytes.1 t.traced;
         took = left.taken ∙ sym (taken_is end.sink) ∙ bytes.2 ∙ ap (λ (i : ℕ). before_of world i ++ bytes.0) (sym id);
       }
 
@@ -94,16 +95,16 @@ module _ {L : Type 0} (gave : L → ReadSide) (sink : Sink L) (side : Sink (Serv
       → TookTracedPart side (before_of world stream.id) world.facts.info sample stream.config (writes_of world.plan) stream.marks end.sink
       → session.id ≡ stream.id → session.config ≡ stream.config → session.marks ≡ stream.marks
       → IsLeftOf gave sink end session → IsTrue (sink.tells_taken session.link) → TookPart sink world session
-  part-left world stream end session laws t id config marks left told =
+  part-left world stream end session laws took id config marks left told =
       let tells : IsTrue (side.tells_taken end.sink) = subst IsTrue (left.tells ∙ sym (tells_is end.sink)) told in
-      let bytes = t.stream tells in
-      let traced : ArePart sample session.config (writes_of world.plan) session.marks t.entries =
-      subst (λ (m : List Marks). ArePart sample session.config (writes_of world.plan) m t.entries) (sym marks)
-      (subst (λ (c : Config). ArePart sample c (writes_of world.plan) stream.marks t.entries) (sym config) t.part)
+      let t : TookTracedPart side (before_of world stream.id) world.facts.info sample session.config (writes_of world.plan) session.marks end.sink =
+      subst (λ (m : List Marks). TookTracedPart side (before_of world stream.id) world.facts.info sample session.config (writes_of world.plan) m end.sink) (sym marks)
+      (subst (λ (c : Config). TookTracedPart side (before_of world stream.id) world.facts.info sample c (writes_of world.plan) stream.marks end.sink) (sym config) took)
       in
+      let bytes = t.stream tells in
       record {
         part = bytes.1;
-        trace = laws world.facts.info session.marks t.entries bytes.1 bytes.0 bytes.2 bytes.3 traced;
+        trace = laws world.facts.info session.marks t.entries t.told bytes.1 bytes.0 t.front bytes.2 bytes.3 t.part;
         took = left.taken ∙ sym (taken_is end.sink) ∙ bytes.4 ∙ ap (λ (i : ℕ). before_of world i ++ bytes.1) (sym id);
       }
 
@@ -124,12 +125,12 @@ module _ {L : Type 0} (gave : L → ReadSide) (sink : Sink L) (side : Sink (Serv
       (world : WorldState) (rows : ℕ) (events : List EventDef) (writes : ℕ → List Write) (setting : Setting) (facts : Facts) (greeting : List ℕ)
       (stream : StreamState) (handed : Fate) (end : SessionEnd (ServedState L)) (session : LiveSession L)
       → IsWorldOf world rows events writes setting facts greeting
-      → TracesAreFound sample session.config (writes_of world.plan) → PartsAreFound sample session.config (writes_of world.plan)
+      → TracesAreFound sample session.config (writes_of world.plan) → PartsAreFound sample session.config (writes_of world.plan) → IsTrue (lacks_rundown sample)
       → HasAsked stream.gave (request.Collect stream.config)
       → handed ≢ fate.TooLong → (is_fault handed ≡ false → is_complete stream ≡ true) → (handed ≡ fate.ProgramEnd → AllByRecursion (IsDone writes) stream.marks)
       → HasEnded side (watch_of rows events writes setting stream.config stream.id) rows setting.lives (setting.faults stream.id) stream handed end
       → IsLeftOf gave sink end session → IsSpent session.config session.marks session.seat → IsEnd gave sink world session
-  is-end gave_is faults_are world rows events writes setting facts greeting stream handed end session w traces parts asked own complete done h left spent =
+  is-end gave_is faults_are world rows events writes setting facts greeting stream handed end session w traces parts lacks asked own complete done h left spent =
       record {
         asked = asked-left gave sink stream end session asked (sym (gave_is end.sink) ∙ e.gave_is) e.config_is left;
         marks = subst (AreMarksOf world session.config) (sym marks)
@@ -141,7 +142,7 @@ module _ {L : Type 0} (gave : L → ReadSide) (sink : Sink L) (side : Sink (Serv
             }));
         spent = spent;
         every = λ sound. subst (HasEachRow world) (sym marks) (each-row world stream.places stream.marks e.served e.count e.few (complete (sound-handed sound)));
-        whole = λ sound. whole-left world stream end session traces (e.outcome.whole (end-sound sound) few_writes) id config marks left;
+        whole = λ sound. whole-left world stream end session traces lacks (subst AreOfThreads (sym marks) (of-threads world stream.places stream.marks e.served)) (e.outcome.whole (end-sound sound) few_writes) id config marks left;
         part = λ bad. part-left world stream end session parts e.outcome.part id config marks left;
         ended = λ is. subst (AllByRecursion (λ mark. mark.to ≡ world.plan.writes)) (sym marks) (all-done world.plan stream.marks (all (handed-is is)));
         link_fault = λ is. risen (sink.write_faults session.link) (subst (HasRisen 0) (faults_are end.sink ∙ sym left.faults) (e.link_fault (sym left.fate_is ∙ is)));

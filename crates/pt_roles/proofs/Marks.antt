@@ -7,6 +7,7 @@ use Rattle.std.proofs.lemmas.Bool.Decides.{nat_tests}
 use Rattle.std.proofs.lemmas.List.Folds.{list_all_at}
 use Rattle.ep_defs.specs.declared.session.Marks.{Marks}
 use Rattle.ep_guarded.specs.Tied.{thread_of}
+use Rattle.ep_live_laws.specs.Traced.{AreOfThreads}
 use Rattle.ep_live_laws.specs.Tracing.{IsOneOf}
 use Rattle.pt_load.specs.declared.plan.Plan.{Plan}
 use Rattle.pt_stream.specs.End.{AreEarly, AreServed, IsFromFirst}
@@ -71,6 +72,16 @@ place-opened places number within all = by (nat_lt 0 place.next) refl
         false-true e = cc
 
 -- ---- the threads of the run
+
+-- They have numbers above 0.
+above-0 : (rows number life thread : ℕ) → thread ≡ thread_of rows number life → 0 < thread
+unfolding thread_of
+above-0 rows number life thread is = omega (arith, is)
+
+pub of-threads : (world : WorldState) (places : List Place) (marks : List Marks) → AreServed world.plan.threads places (threads_in marks) → AreOfThreads marks
+of-threads world places marks served =
+    all-marks (λ (t : ℕ). 0 < t) marks
+    (λ thread is. let s = served.each thread is in above-0 world.plan.threads (s.row - 1) s.life thread s.thread_is)
 
 pub is-thread : (world : WorldState) (places : List Place) (threads : List ℕ) → AreServed world.plan.threads places threads → ((row : ℕ) → 0 < row → (place_at places row).next ≤ world.options.lives)
     → (thread : ℕ) → IsOneOf threads thread → IsThread world thread

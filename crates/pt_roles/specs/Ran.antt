@@ -89,13 +89,14 @@ pub record IsSpent (config : Config) (marks : List Marks) (seat : SeatState) : T
 abbrev pub TookBehind : {L : Type 0} → Sink L → List ℕ → L → List ℕ → Type 0
 TookBehind sink before link bytes = sink.taken link ≡ before ++ bytes
 
--- It took the one stream of entries that tell all that the session got of the threads' writes, less what was refused.
+-- It took the one stream of entries that tell all that the session got of the threads' writes, less what was refused, with
+-- the section of a rundown before the last point where the session asked for one.
 pub record TookTrace {L : Type 0} (sink : Sink L) (world : WorldState) (session : LiveSession L) : Type 0 where
   pub stream : List ℕ
   pub trace : IsTraceOf sample session.config (writes_of world.plan) world.facts.info session.marks stream
   pub took : TookBehind sink (before_of world session.id) session.link stream
 
--- It took what begins the one stream of entries that tell a part of that.
+-- It took what begins the one stream of what is told first of entries that tell a part of that.
 pub record TookPart {L : Type 0} (sink : Sink L) (world : WorldState) (session : LiveSession L) : Type 0 where
   pub part : List ℕ
   pub trace : IsPartOf sample session.config (writes_of world.plan) world.facts.info session.marks part

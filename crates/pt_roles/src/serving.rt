@@ -23,6 +23,7 @@ use ep_pool::PoolSeat;
 use ep_registry::{Handed, Holder};
 use ep_stream::{Fate, SessionEnd};
 use pt_io::{Clock, Gate, Link, Moment};
+use pt_load::laws::sample_events_are_valid;
 use pt_server::{Process, Served};
 use pt_stream::Run;
 use std::sync::Wait;
@@ -250,6 +251,7 @@ fn finish<'a, W: World, R: Wait, L: Link + Drop, C: Clock, G: Gate>(
 {
     a_traced_stream_is_found();
     a_part_is_found();
+    sample_events_are_valid();
     let slot = stream.slot();
     let stamp = scene.clock.now();
     let (end, rows) = stream.end(scene.alloc, scene.rt, &shared.live, stamp, fate);

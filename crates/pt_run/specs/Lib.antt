@@ -3,3 +3,4 @@ pub mod Plans
 pub mod Words
 pub mod Summary
 pub mod Command
+pub mod Reverse

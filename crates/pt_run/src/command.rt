@@ -1,16 +1,19 @@
 //! The command `run`.
-ghost use Rattle.std.specs.Prelude.{◌≡◌, IfOk, IsTrue};
+ghost use Rattle.std.specs.Prelude.{◌≡◌, None, IfOk, IsTrue};
 ghost use Rattle.ep_defs.specs.Session.{is_valid_facts};
 ghost use Rattle.pt_run.specs.Command.{RunsTo, AreFew, end_of, text_of};
+ghost use Rattle.pt_run.specs.Reverse.{RunsAs};
 ghost use Rattle.pt_command.specs.Says.{SaysLine};
 ghost use Rattle.pt_run.specs.Words.{Fits};
 
+use crate::reverse::run_reverse;
 use crate::summary::{put_connections, put_plan, put_session};
 use crate::words::Asked;
 use ep_defs::Facts;
+use ipc_reverse::Advertise;
 use pt_command::{End, say};
 use pt_host::run_live;
-use pt_io::{Clock, Dock, Gate, Link, Sink};
+use pt_io::{Caller, Clock, Dock, Gate, Link, Sink};
 use pt_load::Plan;
 use pt_roles::{LiveEnd, LiveOptions};
 use std::alloc::{AllocError, Global};
@@ -23,12 +26,47 @@ use std::time::Clock as Timer;
 pub struct Ran<L> {
     pub end: End,
     pub live: Option<LiveEnd<L>>,
+    /// The link to the tool that was called that took only a part of what it is to take first, if there is one.
+    pub peer: Option<L>,
 }
 
-/// Runs the sample program with its diagnostic server, whose peers come in at `dock`, and writes what it came to, in one
-/// write. Nothing is written before the run has ended. It ends as a link fault where the dock failed in this call, though
-/// its sessions went on to their ends.
+/// Runs the sample program with its diagnostic server, whose peers come in at `dock`, or are links to the tool that the words
+/// name, and writes what it came to, in one write. Nothing is written before the run has ended. It ends as a link fault where
+/// the dock failed in this call, or a call of the tool, though its sessions went on to their ends.
 pub fn run<
+    R: Threads + Wait + Timer + Sync,
+    L: Advertise + Drop,
+    O: Sink,
+    D: Dock<Link = L>,
+    K: Caller<Link = L>,
+    C: Clock,
+    G: Gate,
+>(
+    rt: &R,
+    alloc: Global,
+    asked: &Asked<'_>,
+    facts: &Facts,
+    output: &mut O,
+    dock: &mut D,
+    caller: &mut K,
+    clock: &C,
+    gate: &G,
+) -> Ran<L>
+    requires asked { Fits asked.now }
+    requires facts { IsTrue (is_valid_facts facts.now) }
+    ensures { RunsAs O.Sink D.Dock K.Caller L.Sink L.read_side L.write_side asked.now facts.now
+        output.old output.new dock.old dock.new caller.old caller.new result.peer result.live result.end }
+{
+    match &asked.reverse {
+        Some(reverse) => run_reverse(
+            rt, alloc, asked, reverse, facts, output, caller, clock, gate,
+        ),
+        None => run_at(rt, alloc, asked, facts, output, dock, clock, gate),
+    }
+}
+
+/// Runs it with the peers that come in at a dock.
+pub(crate) fn run_at<
     R: Threads + Wait + Timer + Sync,
     L: Link + Drop,
     O: Sink,
@@ -38,17 +76,18 @@ pub fn run<
 >(
     rt: &R,
     alloc: Global,
-    asked: Asked,
+    asked: &Asked<'_>,
     facts: &Facts,
     output: &mut O,
     dock: &mut D,
     clock: &C,
     gate: &G,
 ) -> Ran<L>
-    requires asked { Fits asked }
+    requires asked { Fits asked.now }
     requires facts { IsTrue (is_valid_facts facts.now) }
-    ensures { RunsTo O.Sink D.Dock L.Sink L.read_side L.write_side asked facts.now
+    ensures runs { RunsTo O.Sink D.Dock L.Sink L.read_side L.write_side asked.now facts.now
         output.old output.new dock.old dock.new result.live result.end }
+    ensures nobody { result.peer ≡ None }
 {
     let options = LiveOptions {
         wait: asked.wait,
@@ -61,11 +100,13 @@ pub fn run<
             Ran {
                 end,
                 live: Some(live),
+                peer: None,
             }
         }
         Err(AllocError) => Ran {
             end: End::OutOfMemory,
             live: None,
+            peer: None,
         },
     }
 }

@@ -19,5 +19,11 @@ pub const MOST_STREAMERS: u32 = 64;
 /// The threads that have a row of the program, one after another.
 pub const USUAL_LIVES: u32 = 1;
 
+/// The links to a tool that is called.
+pub const USUAL_CALLS: u32 = MOST_CALLS;
+
+/// As many connections as a run can have.
+pub const MOST_CALLS: u32 = 500;
+
 /// With 256 rows a session is opened on no more threads than one can be.
 pub const MOST_LIVES: u32 = 100;

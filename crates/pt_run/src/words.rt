@@ -2,19 +2,29 @@
 ghost use Rattle.std.specs.Prelude.{◌≡◌, map, option_map, IfOk, IfSome};
 ghost use Rattle.std.specs.String.{string_bytes};
 ghost use Rattle.pt_words.specs.RunTexts.{texts_of};
-ghost use Rattle.pt_run.specs.Words.{asked_by, asked_in, count_in, Fits, IsCount};
+ghost use Rattle.pt_run.specs.Words.{asked_by, asked_in, count_in, reverse_in, Fits, FitsReverse, IsCount};
 
 use crate::limits::{
-    MOST_LIVES, MOST_STREAMERS, MOST_WAIT, USUAL_LIVES, USUAL_STREAMERS, USUAL_WAIT,
+    MOST_CALLS, MOST_LIVES, MOST_STREAMERS, MOST_WAIT, USUAL_CALLS, USUAL_LIVES, USUAL_STREAMERS,
+    USUAL_WAIT,
 };
 use crate::plan::{number_from, plan_of};
 use pt_load::Plan;
-use pt_words::{Run, run_texts};
+use pt_words::{Run, Target, run_texts};
 use std::alloc::{AllocError, Global};
 
+/// A tool that is called.
+#[derive(Debug, Drop)]
+pub struct Reverse<'a> {
+    /// The path of the socket at which it listens.
+    pub target: Target<'a>,
+    /// How many links to it there are to be at most.
+    pub calls: u32,
+}
+
 /// Which run is to be made.
-#[derive(Clone, Copy, Debug, PartialEq, Eq)]
-pub struct Asked {
+#[derive(Debug, Drop)]
+pub struct Asked<'a> {
     /// What the threads write.
     pub plan: Plan,
     /// For how many sessions the threads wait before they write.
@@ -23,11 +33,13 @@ pub struct Asked {
     pub streamers: u32,
     /// How many threads have a row, one after another.
     pub lives: u32,
+    /// The tool that is called in place of listening, if one is.
+    pub reverse: Option<Reverse<'a>>,
 }
 
 /// What the words of the command line, without the program's name, ask for, where they are
-/// `run THREADS WRITES [--seed S] [--wait N] [--streamers K] [--lives L]`.
-pub fn asked_of(alloc: Global, words: &[String]) -> Result<Option<Asked>, AllocError>
+/// `run THREADS WRITES [--seed S] [--wait N] [--streamers K] [--lives L] [--reverse TARGET] [--calls M]`.
+pub fn asked_of<'a>(alloc: Global, words: &'a [String]) -> Result<Option<Asked<'a>>, AllocError>
     ensures meant { IfOk result (λ asked. asked ≡ asked_in (map string_bytes words.now)) }
     ensures fits { IfOk result (λ asked. IfSome asked Fits) }
 {
@@ -44,7 +56,7 @@ pub fn asked_of(alloc: Global, words: &[String]) -> Result<Option<Asked>, AllocE
 }
 
 // What the texts ask for, where each of them is good.
-fn spelled(texts: &Run<'_>) -> Option<Asked>
+fn spelled<'a>(texts: &Run<'a>) -> Option<Asked<'a>>
     ensures meant { result ≡ asked_by (texts_of texts.now) }
     ensures fits { IfSome result Fits }
 {
@@ -53,7 +65,26 @@ fn spelled(texts: &Run<'_>) -> Option<Asked>
         wait: count_of(texts.wait, USUAL_WAIT, MOST_WAIT)?,
         streamers: count_of(texts.streamers, USUAL_STREAMERS, MOST_STREAMERS)?,
         lives: count_of(texts.lives, USUAL_LIVES, MOST_LIVES)?,
+        reverse: reverse_of(texts.reverse, texts.calls)?,
     })
+}
+
+// The tool that is called, if one is. Calls without a tool are none.
+fn reverse_of<'a>(target: Option<&'a str>, calls: Option<&str>) -> Option<Option<Reverse<'a>>>
+    ensures meant { result ≡ reverse_in (option_map (λ text. text.now) target.entry)
+        (option_map (λ text. text.now) calls.entry) }
+    ensures fits { IfSome result FitsReverse }
+{
+    let Some(target) = target else {
+        return match calls {
+            Some(_) => None,
+            None => Some(None),
+        };
+    };
+    Some(Some(Reverse {
+        target: Target::new(target)?,
+        calls: count_of(calls, USUAL_CALLS, MOST_CALLS)?,
+    }))
 }
 
 // A number from 1 to the bound, and the usual one where there is no word.

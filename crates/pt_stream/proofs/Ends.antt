@@ -71,20 +71,20 @@ early-threads rows places opened threads session marks is marks_are e =
 -- ---- all of it
 
 module _ {S : Type 0} (side : Sink S) (rows : ℕ) (events : List EventDef) (writes : ℕ → List Write) (setting : Setting) where
-  pub has-ended : (set : LiveRowsState) (session : Session S) (openings : ℕ) (seat : Seat) (places : List Place) (early : Bool) (stands : Option ℕ) (stamp : ℕ) (handed : Fate) (end : SessionEnd S)
-      → IsKept side rows events writes setting set session openings seat places early
+  pub has-ended : (set : LiveRowsState) (session : Session S) (openings : ℕ) (seat : Seat) (places : List Place) (early : Bool) (stands : Option ℕ) (given : List EventDef) (stamp : ℕ) (handed : Fate) (end : SessionEnd S)
+      → given ≡ events → IsKept side rows events writes setting set session openings seat places early
       → ((row : ℕ) → 0 < row → row ≤ rows → (place_at places row).is_open ≡ false) → handed ≢ fate.LinkFault
       → ((watch : Watch) (opened : List ℕ) → EndsOver side watch opened handed session end.fate end.sink → IsOutcome side watch opened handed (rest_of session).marks end.fate end.sink)
       → end.id ≡ (rest_of session).seat.id → end.slot ≡ (rest_of session).seat.slot → end.conn ≡ (rest_of session).seat.conn → end.config ≡ (rest_of session).config → end.marks ≡ (rest_of session).marks
-      → Ended side.tells_taken side.taken side.write_faults stamp handed session end.fate end.sink → side.write_faults (sink_of session) ≤ side.write_faults end.sink
+      → Ended side.tells_taken side.taken side.write_faults given stamp handed session end.fate end.sink → side.write_faults (sink_of session) ≤ side.write_faults end.sink
       → side.read_side end.sink ≡ side.read_side (sink_of session)
       → HasEnded side (watch_of rows events writes setting (rest_of session).config seat.id) rows setting.lives (setting.faults seat.id)
       (record { id = seat.id; slot = seat.slot; conn = seat.conn; config = (rest_of session).config; gave = side.read_side (sink_of session); stands = stands; places = places; marks = (rest_of session).marks; early = early })
       handed end
-  has-ended set session openings seat places early stands stamp handed end k shut not law id slot conn config marks ended later gave =
+  has-ended set session openings seat places early stands given stamp handed end given_is k shut not law id slot conn config marks ended later gave =
       let watch = watch_of rows events writes setting (rest_of session).config seat.id in
       let none = no-hands rows setting.lives places session shut k.places_are in
-      let out = law watch k.opened (record { told = k.told.told; stamp = stamp; tracing = k.told.tracing; shut = none; ended = ended }) in
+      let out = law watch k.opened (record { told = k.told.told; given = given; stamp = stamp; events = given_is; tracing = k.told.tracing; shut = none; ended = ended }) in
       let threads = out.marks_are.threads in
       record {
         id_is = id ∙ ap (λ (s : Seat). s.id) k.seat_is;
@@ -99,6 +99,6 @@ module _ {S : Type 0} (side : Sink S) (rows : ℕ) (events : List EventDef) (wri
         early = λ is. early-threads rows places k.opened (map (λ mark. mark.thread) (rest_of session).marks) session (rest_of session).marks threads refl (k.early_is is);
         outcome = subst (λ (ts : List ℕ). IsOutcome side watch ts handed (rest_of session).marks end.fate end.sink) (sym threads) out;
         fate_is = λ sound. ended.fate_is ∙ handed-fate ended.answer handed (subst (λ (f : Fate). is_fault f ≡ false) ended.fate_is sound);
-        link_fault = ends-risen side.tells_taken side.taken side.write_faults (setting.faults seat.id) stamp session handed end.fate end.sink ended later k.told.says not;
-        wrote = ends-sound side.tells_taken side.taken side.write_faults (setting.faults seat.id) stamp session handed end.fate end.sink ended k.told.says;
+        link_fault = ends-risen side.tells_taken side.taken side.write_faults (setting.faults seat.id) given stamp session handed end.fate end.sink ended later k.told.says not;
+        wrote = ends-sound side.tells_taken side.taken side.write_faults (setting.faults seat.id) given stamp session handed end.fate end.sink ended k.told.says;
       }

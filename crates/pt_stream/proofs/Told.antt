@@ -2,6 +2,7 @@
 use Rattle.std.proofs.Common.{◌≡◌, ◌≢◌, ◌∙◌, ℕ, ◌≤◌, ⊎_elim, false, List, ◌++◌, None, Some, refl, sym, ap, subst, arith}
 use Rattle.std.specs.Prelude.{Bool, Result, Ok, Err}
 use Rattle.std.proofs.lemmas.Option.{none-some}
+use Rattle.ep_defs.specs.declared.event.EventDef.{EventDef}
 use Rattle.nt_write.specs.declared.fault.Fault.{Fault}
 use Rattle.nt_write.specs.declared.fault.Fault.TheVariants.{WriteFault, TooLong, OutOfMemory}
 use Rattle.nt_write.specs.declared.writer.TraceWriter.{TraceWriter}
@@ -87,18 +88,18 @@ handed-fate (Err WriteFault) handed sound = cc
 handed-fate (Err TooLong) handed sound = cc
 handed-fate (Err OutOfMemory) handed sound = cc
 
-pub ends-risen : {S : Type 0} (tells : S → Bool) (taken : S → List ℕ) (faults : S → ℕ) (was stamp : ℕ) (session : Session S) (handed end : Fate) (sink : S)
-    → Ended tells taken faults stamp handed session end sink → faults (sink_of session) ≤ faults sink → SaysFaults faults was session → handed ≢ fate.LinkFault
+pub ends-risen : {S : Type 0} (tells : S → Bool) (taken : S → List ℕ) (faults : S → ℕ) (was : ℕ) (given : List EventDef) (stamp : ℕ) (session : Session S) (handed end : Fate) (sink : S)
+    → Ended tells taken faults given stamp handed session end sink → faults (sink_of session) ≤ faults sink → SaysFaults faults was session → handed ≢ fate.LinkFault
     → end ≡ fate.LinkFault → HasRisen was (faults sink)
-ends-risen tells taken faults was stamp session handed end sink e up says not is =
+ends-risen tells taken faults was given stamp session handed end sink e up says not is =
     ⊎_elim
     (λ before. later_risen was (faults (sink_of session)) (faults sink) up (says.fault before))
     (λ rose. risen_later was (faults (sink_of session)) (faults sink) says.later rose)
     (e.write_fault (link-answer e.answer handed not (sym e.fate_is ∙ is)))
 
-pub ends-sound : {S : Type 0} (tells : S → Bool) (taken : S → List ℕ) (faults : S → ℕ) (was stamp : ℕ) (session : Session S) (handed end : Fate) (sink : S)
-    → Ended tells taken faults stamp handed session end sink → SaysFaults faults was session
+pub ends-sound : {S : Type 0} (tells : S → Bool) (taken : S → List ℕ) (faults : S → ℕ) (was : ℕ) (given : List EventDef) (stamp : ℕ) (session : Session S) (handed end : Fate) (sink : S)
+    → Ended tells taken faults given stamp handed session end sink → SaysFaults faults was session
     → end ≢ fate.LinkFault → faults sink ≡ was
-ends-sound tells taken faults was stamp session handed end sink e says not =
+ends-sound tells taken faults was given stamp session handed end sink e says not =
     let sound : e.answer ≢ Err WriteFault = λ is. not (e.fate_is ∙ ap (λ (a : Result (Unit {0}) Fault). fate_after a handed) is) in
     e.wrote sound ∙ says.wrote (λ is. sound (e.stays WriteFault is))

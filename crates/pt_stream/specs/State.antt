@@ -9,6 +9,7 @@ use Rattle.ep_defs.specs.declared.session.Marks.{Marks}
 use Rattle.ep_defs.specs.declared.session.Write.{Write}
 use Rattle.ep_defs.specs.Definitions.{AreDistinct, definition_at}
 use Rattle.ep_defs.specs.Event.{is_valid_event}
+use Rattle.ep_rundown.specs.Rundown.{lacks_rundown}
 use Rattle.ep_guarded.specs.Tied.{thread_of}
 use Rattle.ep_pool.specs.Shared.{SharedPool, SeatState}
 use Rattle.ep_stream.specs.Named.{with_marks}
@@ -114,8 +115,10 @@ pub record IsMarked (rows row : ℕ) (place : Place) (stands ends : Option ℕ) 
 
 -- ---- events
 
--- The definitions of a program's events are valid ones, each another, and no more than there can be.
+-- The definitions of a program's events are valid ones, each another, none of them that of a rundown, and no more than there
+-- can be.
 pub record AreEvents (events : List EventDef) : Type 0 where
   pub few : length events ≤ EVENTS
   pub valid : IsTrue (list_all is_valid_event events)
   pub distinct : AreDistinct (definition_at events)
+  pub lacks : IsTrue (lacks_rundown events)

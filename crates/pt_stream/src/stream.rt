@@ -442,8 +442,8 @@ impl<'a, P: Run, S: Sink> Stream<'a, P, S> {
         }
     }
 
-    /// Ends the session, which is open on no row: writes the last point and the end of the stream, unless it has failed. Its
-    /// fate is then that of the fault, and else the one that is handed in: where that is no fault, it was opened on each
+    /// Ends the session, which is open on no row: writes the section of a rundown, where it was asked for one, the last point
+    /// and the end of the stream, unless it has failed. Its fate is then that of the fault, and else the one that is handed in: where that is no fault, it was opened on each
     /// row, and where the program has ended, each thread of which it tells has made all its writes. Its rows' slot and
     /// pool are left, with all chunks.
     pub fn end<R: Wait>(
@@ -458,6 +458,7 @@ impl<'a, P: Run, S: Sink> Stream<'a, P, S> {
         requires own { (fate ≢ fates.LinkFault) × (fate ≢ fates.TooLong) }
         requires complete { is_fault fate ≡ false → is_complete self ≡ true }
         requires done { fate ≡ fates.ProgramEnd → AllByRecursion (IsDone P.writes) self.marks }
+        requires events { AreEvents P.events }
         ensures ended { HasEnded S.Sink (watch_of P.rows P.events P.writes P.setting self.entry.config self.entry.id)
             P.rows P.setting.lives (P.setting.faults self.entry.id) self.entry fate result.0 }
         ensures left { Leaves self.entry result.1 }
@@ -465,7 +466,7 @@ impl<'a, P: Run, S: Sink> Stream<'a, P, S> {
         a_session_that_ends_has_traced::<S>();
         let Stream { rows, session, .. } = self;
         let ended = rows.resume(rt, live).end();
-        (session.finish(alloc, stamp, fate), ended)
+        (session.finish(alloc, stamp, fate, live.events()), ended)
     }
 }
 

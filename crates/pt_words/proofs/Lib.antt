@@ -9,3 +9,4 @@ mod TraceWords
 mod OptionsTold
 mod RunWalk
 mod RunWords
+mod RunKnown

@@ -1,4 +1,4 @@
--- How the walk goes over words of two positions and four options: what each kind of word makes of each place where it can stand.
+-- How the walk goes over words of two positions and six options: what each kind of word makes of each place where it can stand.
 use Rattle.std.proofs.Common.{◌≡◌, ◌∙◌, ◌&&◌, cond, Bool, false, ℕ, List, [], ◌∷◌, ◌++◌, Some, None, refl, ap, codes}
 use Rattle.std.proofs.Math.Bool.{and-false}
 use Rattle.clap.specs.Walk.{Text, Rule, Row, Held, Walk, idle, option, walked, used, settled, is_pending, pushed}
@@ -18,6 +18,8 @@ pub data Which : Type 0 where
   wait : Which
   streamers : Which
   lives : Which
+  reverse : Which
+  calls : Which
 
 -- The option's name, as `clap` knows it.
 abbrev pub id_of : Which → Text
@@ -25,6 +27,8 @@ id_of seed = codes "seed"
 id_of wait = codes "wait"
 id_of streamers = codes "streamers"
 id_of lives = codes "lives"
+id_of reverse = codes "reverse"
+id_of calls = codes "calls"
 
 abbrev pub ruled : Which → Rule
 ruled which = with_index 3 (filled (option_rule (id_of which)))
@@ -37,9 +41,11 @@ attached seed text = codes "--seed=" ++ text
 attached wait text = codes "--wait=" ++ text
 attached streamers text = codes "--streamers=" ++ text
 attached lives text = codes "--lives=" ++ text
+attached reverse text = codes "--reverse=" ++ text
+attached calls text = codes "--calls=" ++ text
 
 abbrev pub rules : List Rule
-rules = one_rule ∷ two_rule ∷ ruled seed ∷ ruled wait ∷ ruled streamers ∷ ruled lives ∷ []
+rules = one_rule ∷ two_rule ∷ ruled seed ∷ ruled wait ∷ ruled streamers ∷ ruled lives ∷ ruled reverse ∷ ruled calls ∷ []
 
 abbrev pub shape : Shape
 shape = shape_with rules
@@ -81,6 +87,8 @@ alone-turn seed h position = refl
 alone-turn wait h position = refl
 alone-turn streamers h position = refl
 alone-turn lives h position = refl
+alone-turn reverse h position = refl
+alone-turn calls h position = refl
 
 pub alone-walked : (which : Which) (h : Held) (position : ℕ) → walked rules [] (at h position) (alone which) ≡ waiting_on (ruled which) h position
 unfolding clap_on_literals
@@ -88,6 +96,8 @@ alone-walked seed h position = refl
 alone-walked wait h position = refl
 alone-walked streamers h position = refl
 alone-walked lives h position = refl
+alone-walked reverse h position = refl
+alone-walked calls h position = refl
 
 pub attached-turn : (which : Which) (text : Text) (h : Held) (position : ℕ)
     → turn_fault shape [] (at h position) (attached which text) ≡ or_else (or_else (settle_fault rules false h) (use_fault false (ruled which) (text ∷ []) (rows_of h))) []
@@ -96,6 +106,8 @@ attached-turn seed text h position = refl
 attached-turn wait text h position = refl
 attached-turn streamers text h position = refl
 attached-turn lives text h position = refl
+attached-turn reverse text h position = refl
+attached-turn calls text h position = refl
 
 pub attached-walked : (which : Which) (text : Text) (h : Held) (position : ℕ) → walked rules [] (at h position) (attached which text) ≡ at (taken_in (ruled which) text h) position
 unfolding clap_on_literals
@@ -103,6 +115,8 @@ attached-walked seed text h position = refl
 attached-walked wait text h position = refl
 attached-walked streamers text h position = refl
 attached-walked lives text h position = refl
+attached-walked reverse text h position = refl
+attached-walked calls text h position = refl
 
 -- ---- behind an option alone
 
@@ -116,6 +130,10 @@ text-turn streamers h position [] plain = refl
 text-turn streamers h position (x ∷ xs) plain = rw (plain, plain) refl
 text-turn lives h position [] plain = refl
 text-turn lives h position (x ∷ xs) plain = rw (plain, plain) refl
+text-turn reverse h position [] plain = refl
+text-turn reverse h position (x ∷ xs) plain = rw (plain, plain) refl
+text-turn calls h position [] plain = refl
+text-turn calls h position (x ∷ xs) plain = rw (plain, plain) refl
 
 pub text-walked : (which : Which) (h : Held) (position : ℕ) (word : Text) → is_option word ≡ false → walked rules [] (waiting_on (ruled which) h position) word ≡ at (behind (ruled which) word h) position
 unfolding clap_on_literals
@@ -127,6 +145,10 @@ text-walked streamers h position [] plain = refl
 text-walked streamers h position (x ∷ xs) plain = rw (plain, plain) refl
 text-walked lives h position [] plain = refl
 text-walked lives h position (x ∷ xs) plain = rw (plain, plain) refl
+text-walked reverse h position [] plain = refl
+text-walked reverse h position (x ∷ xs) plain = rw (plain, plain) refl
+text-walked calls h position [] plain = refl
+text-walked calls h position (x ∷ xs) plain = rw (plain, plain) refl
 
 pub alone-waiting : (which other : Which) (h : Held) (position : ℕ) → turn_fault shape [] (waiting_on (ruled which) h position) (alone other) ≡ kind.InvalidValue ∷ []
 unfolding clap_on_literals
@@ -134,18 +156,38 @@ alone-waiting seed seed h position = refl
 alone-waiting seed wait h position = refl
 alone-waiting seed streamers h position = refl
 alone-waiting seed lives h position = refl
+alone-waiting seed reverse h position = refl
+alone-waiting seed calls h position = refl
 alone-waiting wait seed h position = refl
 alone-waiting wait wait h position = refl
 alone-waiting wait streamers h position = refl
 alone-waiting wait lives h position = refl
+alone-waiting wait reverse h position = refl
+alone-waiting wait calls h position = refl
 alone-waiting streamers seed h position = refl
 alone-waiting streamers wait h position = refl
 alone-waiting streamers streamers h position = refl
 alone-waiting streamers lives h position = refl
+alone-waiting streamers reverse h position = refl
+alone-waiting streamers calls h position = refl
 alone-waiting lives seed h position = refl
 alone-waiting lives wait h position = refl
 alone-waiting lives streamers h position = refl
 alone-waiting lives lives h position = refl
+alone-waiting lives reverse h position = refl
+alone-waiting lives calls h position = refl
+alone-waiting reverse seed h position = refl
+alone-waiting reverse wait h position = refl
+alone-waiting reverse streamers h position = refl
+alone-waiting reverse lives h position = refl
+alone-waiting reverse reverse h position = refl
+alone-waiting reverse calls h position = refl
+alone-waiting calls seed h position = refl
+alone-waiting calls wait h position = refl
+alone-waiting calls streamers h position = refl
+alone-waiting calls lives h position = refl
+alone-waiting calls reverse h position = refl
+alone-waiting calls calls h position = refl
 
 pub attached-waiting : (which other : Which) (text : Text) (h : Held) (position : ℕ) → turn_fault shape [] (waiting_on (ruled which) h position) (attached other text) ≡ kind.InvalidValue ∷ []
 unfolding clap_on_literals
@@ -153,18 +195,38 @@ attached-waiting seed seed text h position = refl
 attached-waiting seed wait text h position = refl
 attached-waiting seed streamers text h position = refl
 attached-waiting seed lives text h position = refl
+attached-waiting seed reverse text h position = refl
+attached-waiting seed calls text h position = refl
 attached-waiting wait seed text h position = refl
 attached-waiting wait wait text h position = refl
 attached-waiting wait streamers text h position = refl
 attached-waiting wait lives text h position = refl
+attached-waiting wait reverse text h position = refl
+attached-waiting wait calls text h position = refl
 attached-waiting streamers seed text h position = refl
 attached-waiting streamers wait text h position = refl
 attached-waiting streamers streamers text h position = refl
 attached-waiting streamers lives text h position = refl
+attached-waiting streamers reverse text h position = refl
+attached-waiting streamers calls text h position = refl
 attached-waiting lives seed text h position = refl
 attached-waiting lives wait text h position = refl
 attached-waiting lives streamers text h position = refl
 attached-waiting lives lives text h position = refl
+attached-waiting lives reverse text h position = refl
+attached-waiting lives calls text h position = refl
+attached-waiting reverse seed text h position = refl
+attached-waiting reverse wait text h position = refl
+attached-waiting reverse streamers text h position = refl
+attached-waiting reverse lives text h position = refl
+attached-waiting reverse reverse text h position = refl
+attached-waiting reverse calls text h position = refl
+attached-waiting calls seed text h position = refl
+attached-waiting calls wait text h position = refl
+attached-waiting calls streamers text h position = refl
+attached-waiting calls lives text h position = refl
+attached-waiting calls reverse text h position = refl
+attached-waiting calls calls text h position = refl
 
 -- ---- a position
 

@@ -1,4 +1,4 @@
--- What the command of two positions and four options makes of words.
+-- What the command of two positions and six options makes of words.
 use Rattle.std.proofs.Common.{◌≡◌, ◌∙◌, ◌⊎◌, inl, inr, ◌&&◌, ◌||◌, cond, Bool, true, false, not, ℕ, List, [], ◌∷◌, ◌++◌, drop, Option, Some, None, is_some, option_map, refl, sym, subst, ap, ap₂, codes}
 use Rattle.std.specs.List.{fold}
 use Rattle.std.specs.Option.{option_and_then}
@@ -25,7 +25,7 @@ use Rattle.pt_words.proofs.Walks.{one_rule, two_rule, start, faults-on, faults-h
 use Rattle.pt_words.proofs.Read.{faults}
 use Rattle.pt_words.proofs.TraceRows.{look, use_of, found, has-look, has-found, new-use, look-same, look-other, given_in, first_in, given-found, first-found, HaveNoDefaults, no-defaults, no-default-faults}
 use Rattle.pt_words.proofs.OptionsTold.{AreOptions, alone-is, attached-is, told-plain, foreign-told}
-use Rattle.pt_words.proofs.RunWalk.{rules, shape, Which, seed, wait, streamers, lives, id_of, ruled, alone, attached, rows_of, at, behind, taken_in, waiting_on}
+use Rattle.pt_words.proofs.RunWalk.{rules, shape, Which, seed, wait, streamers, lives, reverse, calls, id_of, ruled, alone, attached, rows_of, at, behind, taken_in, waiting_on}
 use Rattle.pt_words.proofs.RunWalk as turn
 
 -- ---- what was found so far
@@ -76,24 +76,32 @@ one-apart seed = refl
 one-apart wait = refl
 one-apart streamers = refl
 one-apart lives = refl
+one-apart reverse = refl
+one-apart calls = refl
 
 two-apart : (which : Which) → bytes_eq (codes "two") (id_of which) ≡ false
 two-apart seed = refl
 two-apart wait = refl
 two-apart streamers = refl
 two-apart lives = refl
+two-apart reverse = refl
+two-apart calls = refl
 
 apart-one : (which : Which) → bytes_eq (id_of which) (codes "one") ≡ false
 apart-one seed = refl
 apart-one wait = refl
 apart-one streamers = refl
 apart-one lives = refl
+apart-one reverse = refl
+apart-one calls = refl
 
 apart-two : (which : Which) → bytes_eq (id_of which) (codes "two") ≡ false
 apart-two seed = refl
 apart-two wait = refl
 apart-two streamers = refl
 apart-two lives = refl
+apart-two reverse = refl
+apart-two calls = refl
 
 add-one : (rows : List Row) (text : Text) (b : Option Text) (s : Given) → Looks rows None b s → Looks (rows ++ use_of one_rule text ∷ []) (Some text) b s
 add-one rows text b s so_far =
@@ -117,18 +125,38 @@ add-look seed seed rows text s are free = look-same (ruled seed) text rows refl 
 add-look seed wait rows text s are free = look-other (id_of wait) (ruled seed) text rows (found (ruled wait) (s wait)) refl (are wait)
 add-look seed streamers rows text s are free = look-other (id_of streamers) (ruled seed) text rows (found (ruled streamers) (s streamers)) refl (are streamers)
 add-look seed lives rows text s are free = look-other (id_of lives) (ruled seed) text rows (found (ruled lives) (s lives)) refl (are lives)
+add-look seed reverse rows text s are free = look-other (id_of reverse) (ruled seed) text rows (found (ruled reverse) (s reverse)) refl (are reverse)
+add-look seed calls rows text s are free = look-other (id_of calls) (ruled seed) text rows (found (ruled calls) (s calls)) refl (are calls)
 add-look wait seed rows text s are free = look-other (id_of seed) (ruled wait) text rows (found (ruled seed) (s seed)) refl (are seed)
 add-look wait wait rows text s are free = look-same (ruled wait) text rows refl (are wait ∙ ap (found (ruled wait)) free)
 add-look wait streamers rows text s are free = look-other (id_of streamers) (ruled wait) text rows (found (ruled streamers) (s streamers)) refl (are streamers)
 add-look wait lives rows text s are free = look-other (id_of lives) (ruled wait) text rows (found (ruled lives) (s lives)) refl (are lives)
+add-look wait reverse rows text s are free = look-other (id_of reverse) (ruled wait) text rows (found (ruled reverse) (s reverse)) refl (are reverse)
+add-look wait calls rows text s are free = look-other (id_of calls) (ruled wait) text rows (found (ruled calls) (s calls)) refl (are calls)
 add-look streamers seed rows text s are free = look-other (id_of seed) (ruled streamers) text rows (found (ruled seed) (s seed)) refl (are seed)
 add-look streamers wait rows text s are free = look-other (id_of wait) (ruled streamers) text rows (found (ruled wait) (s wait)) refl (are wait)
 add-look streamers streamers rows text s are free = look-same (ruled streamers) text rows refl (are streamers ∙ ap (found (ruled streamers)) free)
 add-look streamers lives rows text s are free = look-other (id_of lives) (ruled streamers) text rows (found (ruled lives) (s lives)) refl (are lives)
+add-look streamers reverse rows text s are free = look-other (id_of reverse) (ruled streamers) text rows (found (ruled reverse) (s reverse)) refl (are reverse)
+add-look streamers calls rows text s are free = look-other (id_of calls) (ruled streamers) text rows (found (ruled calls) (s calls)) refl (are calls)
 add-look lives seed rows text s are free = look-other (id_of seed) (ruled lives) text rows (found (ruled seed) (s seed)) refl (are seed)
 add-look lives wait rows text s are free = look-other (id_of wait) (ruled lives) text rows (found (ruled wait) (s wait)) refl (are wait)
 add-look lives streamers rows text s are free = look-other (id_of streamers) (ruled lives) text rows (found (ruled streamers) (s streamers)) refl (are streamers)
 add-look lives lives rows text s are free = look-same (ruled lives) text rows refl (are lives ∙ ap (found (ruled lives)) free)
+add-look lives reverse rows text s are free = look-other (id_of reverse) (ruled lives) text rows (found (ruled reverse) (s reverse)) refl (are reverse)
+add-look lives calls rows text s are free = look-other (id_of calls) (ruled lives) text rows (found (ruled calls) (s calls)) refl (are calls)
+add-look reverse seed rows text s are free = look-other (id_of seed) (ruled reverse) text rows (found (ruled seed) (s seed)) refl (are seed)
+add-look reverse wait rows text s are free = look-other (id_of wait) (ruled reverse) text rows (found (ruled wait) (s wait)) refl (are wait)
+add-look reverse streamers rows text s are free = look-other (id_of streamers) (ruled reverse) text rows (found (ruled streamers) (s streamers)) refl (are streamers)
+add-look reverse lives rows text s are free = look-other (id_of lives) (ruled reverse) text rows (found (ruled lives) (s lives)) refl (are lives)
+add-look reverse reverse rows text s are free = look-same (ruled reverse) text rows refl (are reverse ∙ ap (found (ruled reverse)) free)
+add-look reverse calls rows text s are free = look-other (id_of calls) (ruled reverse) text rows (found (ruled calls) (s calls)) refl (are calls)
+add-look calls seed rows text s are free = look-other (id_of seed) (ruled calls) text rows (found (ruled seed) (s seed)) refl (are seed)
+add-look calls wait rows text s are free = look-other (id_of wait) (ruled calls) text rows (found (ruled wait) (s wait)) refl (are wait)
+add-look calls streamers rows text s are free = look-other (id_of streamers) (ruled calls) text rows (found (ruled streamers) (s streamers)) refl (are streamers)
+add-look calls lives rows text s are free = look-other (id_of lives) (ruled calls) text rows (found (ruled lives) (s lives)) refl (are lives)
+add-look calls reverse rows text s are free = look-other (id_of reverse) (ruled calls) text rows (found (ruled reverse) (s reverse)) refl (are reverse)
+add-look calls calls rows text s are free = look-same (ruled calls) text rows refl (are calls ∙ ap (found (ruled calls)) free)
 
 add-option : (which : Which) (rows : List Row) (text : Text) (a b : Option Text) (s : Given) → s which ≡ None → Looks rows a b s → Looks (rows ++ use_of (ruled which) text ∷ []) a b (put which text s)
 add-option which rows text a b s free so_far =
@@ -151,12 +179,16 @@ use-option seed rows text fresh = rw fresh refl
 use-option wait rows text fresh = rw fresh refl
 use-option streamers rows text fresh = rw fresh refl
 use-option lives rows text fresh = rw fresh refl
+use-option reverse rows text fresh = rw fresh refl
+use-option calls rows text fresh = rw fresh refl
 
 use-again : (which : Which) (rows : List Row) (text : Text) → has_row (id_of which) rows ≡ true → use_fault false (ruled which) (text ∷ []) rows ≡ kind.ArgumentConflict ∷ []
 use-again seed rows text there = rw there refl
 use-again wait rows text there = rw there refl
 use-again streamers rows text there = rw there refl
 use-again lives rows text there = rw there refl
+use-again reverse rows text there = rw there refl
+use-again calls rows text there = rw there refl
 
 -- ---- the state of a walk
 
@@ -208,12 +240,16 @@ pending-option seed h text = refl
 pending-option wait h text = refl
 pending-option streamers h text = refl
 pending-option lives h text = refl
+pending-option reverse h text = refl
+pending-option calls h text = refl
 
 pending-rows : (which : Which) (h : Held) (text : Text) → rows_of (behind (ruled which) text h) ≡ used (ruled which) (text ∷ []) (rows_of h)
 pending-rows seed h text = refl
 pending-rows wait h text = refl
 pending-rows streamers h text = refl
 pending-rows lives h text = refl
+pending-rows reverse h text = refl
+pending-rows calls h text = refl
 
 -- Behind its text in the next word.
 behind-option : (which : Which) (h : Held) (text : Text) (past : Past) (s : Given) → s which ≡ None → Stands h past s → Stands (behind (ruled which) text h) past (put which text s)
@@ -233,7 +269,7 @@ ended w words = faults (built run_app) (walk_fault shape [] w words) (fold (walk
 abbrev tells : List Row → Option RunTexts
 tells rows =
     texts_from (first_of (codes "one") rows) (first_of (codes "two") rows) (first_of (id_of seed) rows) (first_of (id_of wait) rows) (first_of (id_of streamers) rows)
-    (first_of (id_of lives) rows)
+    (first_of (id_of lives) rows) (first_of (id_of reverse) rows) (first_of (id_of calls) rows)
 
 abbrev told_by : Walk → List Text → Option RunTexts
 told_by w words = tells (finished rules (fold (walked rules []) w words).held)
@@ -273,7 +309,7 @@ here w word more k fails =
 -- ---- no more words
 
 plain-rules : HaveNoDefaults rules
-plain-rules = (refl, (refl, (refl, (refl, (refl, (refl, tt))))))
+plain-rules = (refl, (refl, (refl, (refl, (refl, (refl, (refl, (refl, tt))))))))
 
 -- A position without a text is missed.
 abbrev missing : Bool → Bool → Kinds
@@ -298,12 +334,12 @@ ends h past s stands =
     ∙ ap (λ f. or_else f (missed (finished rules h))) (no-default-faults rules (rows_of h) plain-rules)
     ∙ ap missed (no-defaults rules (rows_of h) plain-rules) ∙ missed-is h past s stands
 
-tells-is : (h : Held) (past : Past) (s : Given) → Stands h past s → tells (finished rules h) ≡ texts_from (first past) (second past) (s seed) (s wait) (s streamers) (s lives)
+tells-is : (h : Held) (past : Past) (s : Given) → Stands h past s → tells (finished rules h) ≡ texts_from (first past) (second past) (s seed) (s wait) (s streamers) (s lives) (s reverse) (s calls)
 tells-is h past s stands =
     let a = ap first_in stands.looks.one_is ∙ first-found one_rule (first past) in
     let b = ap first_in stands.looks.two_is ∙ first-found two_rule (second past) in
     let o = λ (which : Which). ap first_in (stands.looks.options_are which) ∙ first-found (ruled which) (s which) in
-    ap tells (no-defaults rules (rows_of h) plain-rules) ∙ (λ i. texts_from (a i) (b i) (o seed i) (o wait i) (o streamers i) (o lives i))
+    ap tells (no-defaults rules (rows_of h) plain-rules) ∙ (λ i. texts_from (a i) (b i) (o seed i) (o wait i) (o streamers i) (o lives i) (o reverse i) (o calls i))
 
 -- ---- what the words say behind others
 
@@ -315,7 +351,8 @@ listed (Some text) = text ∷ []
 abbrev final : Past → Given → Told → Option RunTexts
 final past s told =
     run_of (at_most_one (listed (s seed) ++ texts_of (alone seed) told)) (at_most_one (listed (s wait) ++ texts_of (alone wait) told))
-    (at_most_one (listed (s streamers) ++ texts_of (alone streamers) told)) (at_most_one (listed (s lives) ++ texts_of (alone lives) told)) (texts past ++ told.positions)
+    (at_most_one (listed (s streamers) ++ texts_of (alone streamers) told)) (at_most_one (listed (s lives) ++ texts_of (alone lives) told))
+    (at_most_one (listed (s reverse) ++ texts_of (alone reverse) told)) (at_most_one (listed (s calls) ++ texts_of (alone calls) told)) (texts past ++ told.positions)
 
 abbrev answer : Past → Given → Option Told → Option RunTexts
 answer past s told = option_and_then (final past s) told
@@ -324,63 +361,92 @@ one-of : (o : Option Text) → at_most_one (listed o ++ []) ≡ Some o
 one-of None = refl
 one-of (Some text) = refl
 
-final-nothing : (past : Past) (s : Given) → final past s nothing ≡ texts_from (first past) (second past) (s seed) (s wait) (s streamers) (s lives)
-final-nothing none s = λ i. run_of (one-of (s seed) i) (one-of (s wait) i) (one-of (s streamers) i) (one-of (s lives) i) []
-final-nothing (one a) s = λ i. run_of (one-of (s seed) i) (one-of (s wait) i) (one-of (s streamers) i) (one-of (s lives) i) (a ∷ [])
-final-nothing (two a b) s = λ i. run_of (one-of (s seed) i) (one-of (s wait) i) (one-of (s streamers) i) (one-of (s lives) i) (a ∷ b ∷ [])
+final-nothing : (past : Past) (s : Given) → final past s nothing ≡ texts_from (first past) (second past) (s seed) (s wait) (s streamers) (s lives) (s reverse) (s calls)
+final-nothing none s = λ i. run_of (one-of (s seed) i) (one-of (s wait) i) (one-of (s streamers) i) (one-of (s lives) i) (one-of (s reverse) i) (one-of (s calls) i) []
+final-nothing (one a) s = λ i. run_of (one-of (s seed) i) (one-of (s wait) i) (one-of (s streamers) i) (one-of (s lives) i) (one-of (s reverse) i) (one-of (s calls) i) (a ∷ [])
+final-nothing (two a b) s = λ i. run_of (one-of (s seed) i) (one-of (s wait) i) (one-of (s streamers) i) (one-of (s lives) i) (one-of (s reverse) i) (one-of (s calls) i) (a ∷ b ∷ [])
 
 answer-option : (which : Which) (text : Text) (past : Past) (s : Given) (told : Option Told) → s which ≡ None
     → answer past s (option_map (with_option (alone which) text) told) ≡ answer past (put which text s) told
 answer-option seed text past s None free = refl
 answer-option seed text past s (Some told) free =
-    ap (λ o. run_of (at_most_one (listed o ++ text ∷ texts_of (alone seed) told)) (at_most_one (listed (s wait) ++ texts_of (alone wait) told)) (at_most_one (listed (s streamers) ++ texts_of (alone streamers) told)) (at_most_one (listed (s lives) ++ texts_of (alone lives) told)) (texts past ++ told.positions)) free
+    ap (λ o. run_of (at_most_one (listed o ++ text ∷ texts_of (alone seed) told)) (at_most_one (listed (s wait) ++ texts_of (alone wait) told)) (at_most_one (listed (s streamers) ++ texts_of (alone streamers) told)) (at_most_one (listed (s lives) ++ texts_of (alone lives) told)) (at_most_one (listed (s reverse) ++ texts_of (alone reverse) told)) (at_most_one (listed (s calls) ++ texts_of (alone calls) told)) (texts past ++ told.positions)) free
 answer-option wait text past s None free = refl
 answer-option wait text past s (Some told) free =
-    ap (λ o. run_of (at_most_one (listed (s seed) ++ texts_of (alone seed) told)) (at_most_one (listed o ++ text ∷ texts_of (alone wait) told)) (at_most_one (listed (s streamers) ++ texts_of (alone streamers) told)) (at_most_one (listed (s lives) ++ texts_of (alone lives) told)) (texts past ++ told.positions)) free
+    ap (λ o. run_of (at_most_one (listed (s seed) ++ texts_of (alone seed) told)) (at_most_one (listed o ++ text ∷ texts_of (alone wait) told)) (at_most_one (listed (s streamers) ++ texts_of (alone streamers) told)) (at_most_one (listed (s lives) ++ texts_of (alone lives) told)) (at_most_one (listed (s reverse) ++ texts_of (alone reverse) told)) (at_most_one (listed (s calls) ++ texts_of (alone calls) told)) (texts past ++ told.positions)) free
 answer-option streamers text past s None free = refl
 answer-option streamers text past s (Some told) free =
-    ap (λ o. run_of (at_most_one (listed (s seed) ++ texts_of (alone seed) told)) (at_most_one (listed (s wait) ++ texts_of (alone wait) told)) (at_most_one (listed o ++ text ∷ texts_of (alone streamers) told)) (at_most_one (listed (s lives) ++ texts_of (alone lives) told)) (texts past ++ told.positions)) free
+    ap (λ o. run_of (at_most_one (listed (s seed) ++ texts_of (alone seed) told)) (at_most_one (listed (s wait) ++ texts_of (alone wait) told)) (at_most_one (listed o ++ text ∷ texts_of (alone streamers) told)) (at_most_one (listed (s lives) ++ texts_of (alone lives) told)) (at_most_one (listed (s reverse) ++ texts_of (alone reverse) told)) (at_most_one (listed (s calls) ++ texts_of (alone calls) told)) (texts past ++ told.positions)) free
 answer-option lives text past s None free = refl
 answer-option lives text past s (Some told) free =
-    ap (λ o. run_of (at_most_one (listed (s seed) ++ texts_of (alone seed) told)) (at_most_one (listed (s wait) ++ texts_of (alone wait) told)) (at_most_one (listed (s streamers) ++ texts_of (alone streamers) told)) (at_most_one (listed o ++ text ∷ texts_of (alone lives) told)) (texts past ++ told.positions)) free
+    ap (λ o. run_of (at_most_one (listed (s seed) ++ texts_of (alone seed) told)) (at_most_one (listed (s wait) ++ texts_of (alone wait) told)) (at_most_one (listed (s streamers) ++ texts_of (alone streamers) told)) (at_most_one (listed o ++ text ∷ texts_of (alone lives) told)) (at_most_one (listed (s reverse) ++ texts_of (alone reverse) told)) (at_most_one (listed (s calls) ++ texts_of (alone calls) told)) (texts past ++ told.positions)) free
+answer-option reverse text past s None free = refl
+answer-option reverse text past s (Some told) free =
+    ap (λ o. run_of (at_most_one (listed (s seed) ++ texts_of (alone seed) told)) (at_most_one (listed (s wait) ++ texts_of (alone wait) told)) (at_most_one (listed (s streamers) ++ texts_of (alone streamers) told)) (at_most_one (listed (s lives) ++ texts_of (alone lives) told)) (at_most_one (listed o ++ text ∷ texts_of (alone reverse) told)) (at_most_one (listed (s calls) ++ texts_of (alone calls) told)) (texts past ++ told.positions)) free
+answer-option calls text past s None free = refl
+answer-option calls text past s (Some told) free =
+    ap (λ o. run_of (at_most_one (listed (s seed) ++ texts_of (alone seed) told)) (at_most_one (listed (s wait) ++ texts_of (alone wait) told)) (at_most_one (listed (s streamers) ++ texts_of (alone streamers) told)) (at_most_one (listed (s lives) ++ texts_of (alone lives) told)) (at_most_one (listed (s reverse) ++ texts_of (alone reverse) told)) (at_most_one (listed o ++ text ∷ texts_of (alone calls) told)) (texts past ++ told.positions)) free
 
 -- An option that stands twice.
-no-seed : (w k l : Option (Option Text)) (positions : List Text) → run_of None w k l positions ≡ None
-no-seed w k l positions = refl
+no-seed : (w k l r c : Option (Option Text)) (positions : List Text) → run_of None w k l r c positions ≡ None
+no-seed w k l r c positions = refl
 
-no-wait : (s k l : Option (Option Text)) (positions : List Text) → run_of s None k l positions ≡ None
-no-wait None k l positions = refl
-no-wait (Some s) k l positions = refl
+no-wait : (s k l r c : Option (Option Text)) (positions : List Text) → run_of s None k l r c positions ≡ None
+no-wait None k l r c positions = refl
+no-wait (Some s) k l r c positions = refl
 
-no-streamers : (s w l : Option (Option Text)) (positions : List Text) → run_of s w None l positions ≡ None
-no-streamers None w l positions = refl
-no-streamers (Some s) None l positions = refl
-no-streamers (Some s) (Some w) l positions = refl
+no-streamers : (s w l r c : Option (Option Text)) (positions : List Text) → run_of s w None l r c positions ≡ None
+no-streamers None w l r c positions = refl
+no-streamers (Some s) None l r c positions = refl
+no-streamers (Some s) (Some w) l r c positions = refl
 
-no-lives : (s w k : Option (Option Text)) (positions : List Text) → run_of s w k None positions ≡ None
-no-lives None w k positions = refl
-no-lives (Some s) None k positions = refl
-no-lives (Some s) (Some w) None positions = refl
-no-lives (Some s) (Some w) (Some k) positions = refl
+no-lives : (s w k r c : Option (Option Text)) (positions : List Text) → run_of s w k None r c positions ≡ None
+no-lives None w k r c positions = refl
+no-lives (Some s) None k r c positions = refl
+no-lives (Some s) (Some w) None r c positions = refl
+no-lives (Some s) (Some w) (Some k) r c positions = refl
+
+no-reverse : (s w k l c : Option (Option Text)) (positions : List Text) → run_of s w k l None c positions ≡ None
+no-reverse None w k l c positions = refl
+no-reverse (Some s) None k l c positions = refl
+no-reverse (Some s) (Some w) None l c positions = refl
+no-reverse (Some s) (Some w) (Some k) None c positions = refl
+no-reverse (Some s) (Some w) (Some k) (Some l) c positions = refl
+
+no-calls : (s w k l r : Option (Option Text)) (positions : List Text) → run_of s w k l r None positions ≡ None
+no-calls None w k l r positions = refl
+no-calls (Some s) None k l r positions = refl
+no-calls (Some s) (Some w) None l r positions = refl
+no-calls (Some s) (Some w) (Some k) None r positions = refl
+no-calls (Some s) (Some w) (Some k) (Some l) None positions = refl
+no-calls (Some s) (Some w) (Some k) (Some l) (Some r) positions = refl
 
 answer-again : (which : Which) (text : Text) (past : Past) (s : Given) (x : Text) (told : Option Told) → s which ≡ Some x
     → None ≡ answer past s (option_map (with_option (alone which) text) told)
 answer-again seed text past s x None again = refl
 answer-again seed text past s x (Some told) again =
-    sym (ap (λ o. run_of (at_most_one (listed o ++ text ∷ texts_of (alone seed) told)) (at_most_one (listed (s wait) ++ texts_of (alone wait) told)) (at_most_one (listed (s streamers) ++ texts_of (alone streamers) told)) (at_most_one (listed (s lives) ++ texts_of (alone lives) told)) (texts past ++ told.positions)) again
-    ∙ no-seed (at_most_one (listed (s wait) ++ texts_of (alone wait) told)) (at_most_one (listed (s streamers) ++ texts_of (alone streamers) told)) (at_most_one (listed (s lives) ++ texts_of (alone lives) told)) (texts past ++ told.positions))
+    sym (ap (λ o. run_of (at_most_one (listed o ++ text ∷ texts_of (alone seed) told)) (at_most_one (listed (s wait) ++ texts_of (alone wait) told)) (at_most_one (listed (s streamers) ++ texts_of (alone streamers) told)) (at_most_one (listed (s lives) ++ texts_of (alone lives) told)) (at_most_one (listed (s reverse) ++ texts_of (alone reverse) told)) (at_most_one (listed (s calls) ++ texts_of (alone calls) told)) (texts past ++ told.positions)) again
+    ∙ no-seed (at_most_one (listed (s wait) ++ texts_of (alone wait) told)) (at_most_one (listed (s streamers) ++ texts_of (alone streamers) told)) (at_most_one (listed (s lives) ++ texts_of (alone lives) told)) (at_most_one (listed (s reverse) ++ texts_of (alone reverse) told)) (at_most_one (listed (s calls) ++ texts_of (alone calls) told)) (texts past ++ told.positions))
 answer-again wait text past s x None again = refl
 answer-again wait text past s x (Some told) again =
-    sym (ap (λ o. run_of (at_most_one (listed (s seed) ++ texts_of (alone seed) told)) (at_most_one (listed o ++ text ∷ texts_of (alone wait) told)) (at_most_one (listed (s streamers) ++ texts_of (alone streamers) told)) (at_most_one (listed (s lives) ++ texts_of (alone lives) told)) (texts past ++ told.positions)) again
-    ∙ no-wait (at_most_one (listed (s seed) ++ texts_of (alone seed) told)) (at_most_one (listed (s streamers) ++ texts_of (alone streamers) told)) (at_most_one (listed (s lives) ++ texts_of (alone lives) told)) (texts past ++ told.positions))
+    sym (ap (λ o. run_of (at_most_one (listed (s seed) ++ texts_of (alone seed) told)) (at_most_one (listed o ++ text ∷ texts_of (alone wait) told)) (at_most_one (listed (s streamers) ++ texts_of (alone streamers) told)) (at_most_one (listed (s lives) ++ texts_of (alone lives) told)) (at_most_one (listed (s reverse) ++ texts_of (alone reverse) told)) (at_most_one (listed (s calls) ++ texts_of (alone calls) told)) (texts past ++ told.positions)) again
+    ∙ no-wait (at_most_one (listed (s seed) ++ texts_of (alone seed) told)) (at_most_one (listed (s streamers) ++ texts_of (alone streamers) told)) (at_most_one (listed (s lives) ++ texts_of (alone lives) told)) (at_most_one (listed (s reverse) ++ texts_of (alone reverse) told)) (at_most_one (listed (s calls) ++ texts_of (alone calls) told)) (texts past ++ told.positions))
 answer-again streamers text past s x None again = refl
 answer-again streamers text past s x (Some told) again =
-    sym (ap (λ o. run_of (at_most_one (listed (s seed) ++ texts_of (alone seed) told)) (at_most_one (listed (s wait) ++ texts_of (alone wait) told)) (at_most_one (listed o ++ text ∷ texts_of (alone streamers) told)) (at_most_one (listed (s lives) ++ texts_of (alone lives) told)) (texts past ++ told.positions)) again
-    ∙ no-streamers (at_most_one (listed (s seed) ++ texts_of (alone seed) told)) (at_most_one (listed (s wait) ++ texts_of (alone wait) told)) (at_most_one (listed (s lives) ++ texts_of (alone lives) told)) (texts past ++ told.positions))
+    sym (ap (λ o. run_of (at_most_one (listed (s seed) ++ texts_of (alone seed) told)) (at_most_one (listed (s wait) ++ texts_of (alone wait) told)) (at_most_one (listed o ++ text ∷ texts_of (alone streamers) told)) (at_most_one (listed (s lives) ++ texts_of (alone lives) told)) (at_most_one (listed (s reverse) ++ texts_of (alone reverse) told)) (at_most_one (listed (s calls) ++ texts_of (alone calls) told)) (texts past ++ told.positions)) again
+    ∙ no-streamers (at_most_one (listed (s seed) ++ texts_of (alone seed) told)) (at_most_one (listed (s wait) ++ texts_of (alone wait) told)) (at_most_one (listed (s lives) ++ texts_of (alone lives) told)) (at_most_one (listed (s reverse) ++ texts_of (alone reverse) told)) (at_most_one (listed (s calls) ++ texts_of (alone calls) told)) (texts past ++ told.positions))
 answer-again lives text past s x None again = refl
 answer-again lives text past s x (Some told) again =
-    sym (ap (λ o. run_of (at_most_one (listed (s seed) ++ texts_of (alone seed) told)) (at_most_one (listed (s wait) ++ texts_of (alone wait) told)) (at_most_one (listed (s streamers) ++ texts_of (alone streamers) told)) (at_most_one (listed o ++ text ∷ texts_of (alone lives) told)) (texts past ++ told.positions)) again
-    ∙ no-lives (at_most_one (listed (s seed) ++ texts_of (alone seed) told)) (at_most_one (listed (s wait) ++ texts_of (alone wait) told)) (at_most_one (listed (s streamers) ++ texts_of (alone streamers) told)) (texts past ++ told.positions))
+    sym (ap (λ o. run_of (at_most_one (listed (s seed) ++ texts_of (alone seed) told)) (at_most_one (listed (s wait) ++ texts_of (alone wait) told)) (at_most_one (listed (s streamers) ++ texts_of (alone streamers) told)) (at_most_one (listed o ++ text ∷ texts_of (alone lives) told)) (at_most_one (listed (s reverse) ++ texts_of (alone reverse) told)) (at_most_one (listed (s calls) ++ texts_of (alone calls) told)) (texts past ++ told.positions)) again
+    ∙ no-lives (at_most_one (listed (s seed) ++ texts_of (alone seed) told)) (at_most_one (listed (s wait) ++ texts_of (alone wait) told)) (at_most_one (listed (s streamers) ++ texts_of (alone streamers) told)) (at_most_one (listed (s reverse) ++ texts_of (alone reverse) told)) (at_most_one (listed (s calls) ++ texts_of (alone calls) told)) (texts past ++ told.positions))
+answer-again reverse text past s x None again = refl
+answer-again reverse text past s x (Some told) again =
+    sym (ap (λ o. run_of (at_most_one (listed (s seed) ++ texts_of (alone seed) told)) (at_most_one (listed (s wait) ++ texts_of (alone wait) told)) (at_most_one (listed (s streamers) ++ texts_of (alone streamers) told)) (at_most_one (listed (s lives) ++ texts_of (alone lives) told)) (at_most_one (listed o ++ text ∷ texts_of (alone reverse) told)) (at_most_one (listed (s calls) ++ texts_of (alone calls) told)) (texts past ++ told.positions)) again
+    ∙ no-reverse (at_most_one (listed (s seed) ++ texts_of (alone seed) told)) (at_most_one (listed (s wait) ++ texts_of (alone wait) told)) (at_most_one (listed (s streamers) ++ texts_of (alone streamers) told)) (at_most_one (listed (s lives) ++ texts_of (alone lives) told)) (at_most_one (listed (s calls) ++ texts_of (alone calls) told)) (texts past ++ told.positions))
+answer-again calls text past s x None again = refl
+answer-again calls text past s x (Some told) again =
+    sym (ap (λ o. run_of (at_most_one (listed (s seed) ++ texts_of (alone seed) told)) (at_most_one (listed (s wait) ++ texts_of (alone wait) told)) (at_most_one (listed (s streamers) ++ texts_of (alone streamers) told)) (at_most_one (listed (s lives) ++ texts_of (alone lives) told)) (at_most_one (listed (s reverse) ++ texts_of (alone reverse) told)) (at_most_one (listed o ++ text ∷ texts_of (alone calls) told)) (texts past ++ told.positions)) again
+    ∙ no-calls (at_most_one (listed (s seed) ++ texts_of (alone seed) told)) (at_most_one (listed (s wait) ++ texts_of (alone wait) told)) (at_most_one (listed (s streamers) ++ texts_of (alone streamers) told)) (at_most_one (listed (s lives) ++ texts_of (alone lives) told)) (at_most_one (listed (s reverse) ++ texts_of (alone reverse) told)) (texts past ++ told.positions))
 
 position-one : (word : Text) (s : Given) (told : Option Told) → answer none s (option_map (with_position word) told) ≡ answer (one word) s told
 position-one word s None = refl
@@ -390,47 +456,64 @@ position-two : (a word : Text) (s : Given) (told : Option Told) → answer (one 
 position-two a word s None = refl
 position-two a word s (Some told) = refl
 
-run-over : (s w k l : Option (Option Text)) (a b c : Text) (more : List Text) → None ≡ run_of s w k l (a ∷ b ∷ c ∷ more)
-run-over None w k l a b c more = refl
-run-over (Some s) None k l a b c more = refl
-run-over (Some s) (Some w) None l a b c more = refl
-run-over (Some s) (Some w) (Some k) None a b c more = refl
-run-over (Some s) (Some w) (Some k) (Some l) a b c more = refl
+run-over : (s w k l r m : Option (Option Text)) (a b c : Text) (more : List Text) → None ≡ run_of s w k l r m (a ∷ b ∷ c ∷ more)
+run-over None w k l r m a b c more = refl
+run-over (Some s) None k l r m a b c more = refl
+run-over (Some s) (Some w) None l r m a b c more = refl
+run-over (Some s) (Some w) (Some k) None r m a b c more = refl
+run-over (Some s) (Some w) (Some k) (Some l) None m a b c more = refl
+run-over (Some s) (Some w) (Some k) (Some l) (Some r) None a b c more = refl
+run-over (Some s) (Some w) (Some k) (Some l) (Some r) (Some m) a b c more = refl
 
 position-over : (a b word : Text) (s : Given) (told : Option Told) → None ≡ answer (two a b) s (option_map (with_position word) told)
 position-over a b word s None = refl
 position-over a b word s (Some told) =
     run-over (at_most_one (listed (s seed) ++ texts_of (alone seed) told)) (at_most_one (listed (s wait) ++ texts_of (alone wait) told))
-    (at_most_one (listed (s streamers) ++ texts_of (alone streamers) told)) (at_most_one (listed (s lives) ++ texts_of (alone lives) told)) a b word told.positions
+    (at_most_one (listed (s streamers) ++ texts_of (alone streamers) told)) (at_most_one (listed (s lives) ++ texts_of (alone lives) told))
+    (at_most_one (listed (s reverse) ++ texts_of (alone reverse) told)) (at_most_one (listed (s calls) ++ texts_of (alone calls) told)) a b word told.positions
 
 -- ---- the kinds of words
 
 abbrev Kind : Text → Type 0
 Kind word = ((which : Which) × (word ≡ alone which)) ⊎ ((which : Which) × (text : Text) × (word ≡ attached which text)) ⊎ (is_option word ≡ false)
 
-kind-by : (word : Text) (a b c d e f g h i : Bool) → is_option word ≡ a → is_alone word (alone seed) ≡ b → is_attached word (alone seed) ≡ c → is_alone word (alone wait) ≡ d
-    → is_attached word (alone wait) ≡ e → is_alone word (alone streamers) ≡ f → is_attached word (alone streamers) ≡ g → is_alone word (alone lives) ≡ h → is_attached word (alone lives) ≡ i
-    → (a && not ((b || c) || ((d || e) || ((f || g) || ((h || i) || false))))) ≡ false → Kind word
-kind-by word false b c d e f g h i dash sa st wa wt ka kt la lt known = inr (inr dash)
-kind-by word true true c d e f g h i dash sa st wa wt ka kt la lt known = inl (seed, alone-is word (alone seed) sa)
-kind-by word true false true d e f g h i dash sa st wa wt ka kt la lt known = inr (inl (seed, drop 7 word, attached-is word (alone seed) st))
-kind-by word true false false true e f g h i dash sa st wa wt ka kt la lt known = inl (wait, alone-is word (alone wait) wa)
-kind-by word true false false false true f g h i dash sa st wa wt ka kt la lt known = inr (inl (wait, drop 7 word, attached-is word (alone wait) wt))
-kind-by word true false false false false true g h i dash sa st wa wt ka kt la lt known = inl (streamers, alone-is word (alone streamers) ka)
-kind-by word true false false false false false true h i dash sa st wa wt ka kt la lt known = inr (inl (streamers, drop 12 word, attached-is word (alone streamers) kt))
-kind-by word true false false false false false false true i dash sa st wa wt ka kt la lt known = inl (lives, alone-is word (alone lives) la)
-kind-by word true false false false false false false false true dash sa st wa wt ka kt la lt known = inr (inl (lives, drop 8 word, attached-is word (alone lives) lt))
-kind-by word true false false false false false false false false dash sa st wa wt ka kt la lt known = cc
+kind-by : (word : Text) (d b0 b1 b2 b3 b4 b5 b6 b7 b8 b9 b10 b11 : Bool) → is_option word ≡ d
+    → is_alone word (alone seed) ≡ b0 → is_attached word (alone seed) ≡ b1
+    → is_alone word (alone wait) ≡ b2 → is_attached word (alone wait) ≡ b3
+    → is_alone word (alone streamers) ≡ b4 → is_attached word (alone streamers) ≡ b5
+    → is_alone word (alone lives) ≡ b6 → is_attached word (alone lives) ≡ b7
+    → is_alone word (alone reverse) ≡ b8 → is_attached word (alone reverse) ≡ b9
+    → is_alone word (alone calls) ≡ b10 → is_attached word (alone calls) ≡ b11
+    → (d && not ((b0 || b1) || ((b2 || b3) || ((b4 || b5) || ((b6 || b7) || ((b8 || b9) || ((b10 || b11) || false))))))) ≡ false → Kind word
+kind-by word false b0 b1 b2 b3 b4 b5 b6 b7 b8 b9 b10 b11 dash sa st wa wt ka kt la lt ra rt ca ct known = inr (inr dash)
+kind-by word true true b1 b2 b3 b4 b5 b6 b7 b8 b9 b10 b11 dash sa st wa wt ka kt la lt ra rt ca ct known = inl (seed, alone-is word (alone seed) sa)
+kind-by word true false true b2 b3 b4 b5 b6 b7 b8 b9 b10 b11 dash sa st wa wt ka kt la lt ra rt ca ct known = inr (inl (seed, drop 7 word, attached-is word (alone seed) st))
+kind-by word true false false true b3 b4 b5 b6 b7 b8 b9 b10 b11 dash sa st wa wt ka kt la lt ra rt ca ct known = inl (wait, alone-is word (alone wait) wa)
+kind-by word true false false false true b4 b5 b6 b7 b8 b9 b10 b11 dash sa st wa wt ka kt la lt ra rt ca ct known = inr (inl (wait, drop 7 word, attached-is word (alone wait) wt))
+kind-by word true false false false false true b5 b6 b7 b8 b9 b10 b11 dash sa st wa wt ka kt la lt ra rt ca ct known = inl (streamers, alone-is word (alone streamers) ka)
+kind-by word true false false false false false true b6 b7 b8 b9 b10 b11 dash sa st wa wt ka kt la lt ra rt ca ct known = inr (inl (streamers, drop 12 word, attached-is word (alone streamers) kt))
+kind-by word true false false false false false false true b7 b8 b9 b10 b11 dash sa st wa wt ka kt la lt ra rt ca ct known = inl (lives, alone-is word (alone lives) la)
+kind-by word true false false false false false false false true b8 b9 b10 b11 dash sa st wa wt ka kt la lt ra rt ca ct known = inr (inl (lives, drop 8 word, attached-is word (alone lives) lt))
+kind-by word true false false false false false false false false true b9 b10 b11 dash sa st wa wt ka kt la lt ra rt ca ct known = inl (reverse, alone-is word (alone reverse) ra)
+kind-by word true false false false false false false false false false true b10 b11 dash sa st wa wt ka kt la lt ra rt ca ct known = inr (inl (reverse, drop 10 word, attached-is word (alone reverse) rt))
+kind-by word true false false false false false false false false false false true b11 dash sa st wa wt ka kt la lt ra rt ca ct known = inl (calls, alone-is word (alone calls) ca)
+kind-by word true false false false false false false false false false false false true dash sa st wa wt ka kt la lt ra rt ca ct known = inr (inl (calls, drop 8 word, attached-is word (alone calls) ct))
+kind-by word true false false false false false false false false false false false false dash sa st wa wt ka kt la lt ra rt ca ct known = cc
 
 kind-of : (word : Text) → is_foreign run_options word ≡ false → Kind word
 kind-of word known =
-    kind-by word (is_option word) (is_alone word (alone seed)) (is_attached word (alone seed)) (is_alone word (alone wait)) (is_attached word (alone wait)) (is_alone word (alone streamers))
-    (is_attached word (alone streamers)) (is_alone word (alone lives)) (is_attached word (alone lives)) refl refl refl refl refl refl refl refl refl known
+    kind-by word (is_option word)
+    (is_alone word (alone seed)) (is_attached word (alone seed))
+    (is_alone word (alone wait)) (is_attached word (alone wait))
+    (is_alone word (alone streamers)) (is_attached word (alone streamers))
+    (is_alone word (alone lives)) (is_attached word (alone lives))
+    (is_alone word (alone reverse)) (is_attached word (alone reverse))
+    (is_alone word (alone calls)) (is_attached word (alone calls)) refl refl refl refl refl refl refl refl refl refl refl refl refl known
 
 -- ---- what a first word tells
 
 are-options : AreOptions run_options
-are-options = (refl, (refl, (refl, (refl, tt))))
+are-options = (refl, (refl, (refl, (refl, (refl, (refl, tt))))))
 
 plain-told : (word : Text) (rest : List Text) → is_option word ≡ false → told_in run_options (word ∷ rest) ≡ option_map (with_position word) (told_in run_options rest)
 plain-told word rest plain = told-plain run_options are-options word rest plain
@@ -444,12 +527,18 @@ told-attached streamers text [] = refl
 told-attached streamers text (word ∷ words) = refl
 told-attached lives text [] = refl
 told-attached lives text (word ∷ words) = refl
+told-attached reverse text [] = refl
+told-attached reverse text (word ∷ words) = refl
+told-attached calls text [] = refl
+told-attached calls text (word ∷ words) = refl
 
 told-bare : (which : Which) → None ≡ told_in run_options (alone which ∷ [])
 told-bare seed = refl
 told-bare wait = refl
 told-bare streamers = refl
 told-bare lives = refl
+told-bare reverse = refl
+told-bare calls = refl
 
 told-alone-by : (which : Which) (text : Text) (words : List Text)
     → told_in run_options (alone which ∷ text ∷ words) ≡ cond (is_option text) None (option_map (with_option (alone which) text) (told_in run_options words))
@@ -457,6 +546,8 @@ told-alone-by seed text words = refl
 told-alone-by wait text words = refl
 told-alone-by streamers text words = refl
 told-alone-by lives text words = refl
+told-alone-by reverse text words = refl
+told-alone-by calls text words = refl
 
 told-alone : (which : Which) (text : Text) (words : List Text) → is_option text ≡ false → told_in run_options (alone which ∷ text ∷ words) ≡ option_map (with_option (alone which) text) (told_in run_options words)
 told-alone which text words plain = told-alone-by which text words ∙ ap (λ b. cond b None (option_map (with_option (alone which) text) (told_in run_options words))) plain
@@ -472,6 +563,8 @@ dash-attached seed text = refl
 dash-attached wait text = refl
 dash-attached streamers text = refl
 dash-attached lives text = refl
+dash-attached reverse text = refl
+dash-attached calls text = refl
 
 -- ---- a walk that fails once what is pending is used
 
@@ -506,7 +599,7 @@ no-words h none s stands known = subst (Answers (at h 1) []) (sym (final-nothing
 no-words h (one a) s stands known = subst (Answers (at h 2) []) (sym (final-nothing (one a) s)) (is-refused (at h 2) [] kind.MissingRequiredArgument (ends h (one a) s stands))
 no-words h (two a b) s stands known =
     subst (Answers (at h 3) []) (sym (final-nothing (two a b) s))
-    (is-taken (at h 3) [] (texts_from (Some a) (Some b) (s seed) (s wait) (s streamers) (s lives)) (ends h (two a b) s stands) (tells-is h (two a b) s stands))
+    (is-taken (at h 3) [] (texts_from (Some a) (Some b) (s seed) (s wait) (s streamers) (s lives) (s reverse) (s calls)) (ends h (two a b) s stands) (tells-is h (two a b) s stands))
 
 plain-step : (word : Text) (rest : List Text) → is_option word ≡ false → Holds rest → Holds (word ∷ rest)
 plain-step word rest plain holds h none s stands known =
@@ -580,6 +673,8 @@ bare-ends seed h position = refl
 bare-ends wait h position = refl
 bare-ends streamers h position = refl
 bare-ends lives h position = refl
+bare-ends reverse h position = refl
+bare-ends calls h position = refl
 
 bare-step : (which : Which) → Holds (alone which ∷ [])
 bare-step which h past s stands known =
@@ -617,12 +712,12 @@ start-answers words known = holds words nothing_held none nothing_given stands-s
 -- The matches tell the texts.
 pub run-some : (app : App) (words : List Text) (m : ArgMatches) → app ≡ run_app → has_foreign run_options words ≡ false → (is_simple_and_free app ≡ true → IsRead app words (Some m))
     → texts_from (first_value (found_of m) (codes "one")) (first_value (found_of m) (codes "two")) (first_value (found_of m) (codes "seed")) (first_value (found_of m) (codes "wait"))
-    (first_value (found_of m) (codes "streamers")) (first_value (found_of m) (codes "lives"))
+    (first_value (found_of m) (codes "streamers")) (first_value (found_of m) (codes "lives")) (first_value (found_of m) (codes "reverse")) (first_value (found_of m) (codes "calls"))
     ≡ run_in words
 run-some app words m is known read =
     let parsed : IsRead run_app words (Some m) = subst (λ a. IsRead a words (Some m)) is (read (ap is_simple_and_free is ∙ run-simple)) in
     let rows : (id : Text) → first_value (found_of m) id ≡ first_of id _ = λ id. first_value-rows (found_of m) id ∙ ap (first_of id) parsed.1 in
-    (λ i. texts_from (rows (codes "one") i) (rows (codes "two") i) (rows (codes "seed") i) (rows (codes "wait") i) (rows (codes "streamers") i) (rows (codes "lives") i))
+    (λ i. texts_from (rows (codes "one") i) (rows (codes "two") i) (rows (codes "seed") i) (rows (codes "wait") i) (rows (codes "streamers") i) (rows (codes "lives") i) (rows (codes "reverse") i) (rows (codes "calls") i))
     ∙ (start-answers words known).taken parsed.0
 
 pub run-no : (app : App) (words : List Text) → app ≡ run_app → has_foreign run_options words ≡ false → (is_simple_and_free app ≡ true → IsRead app words None) → None ≡ run_in words

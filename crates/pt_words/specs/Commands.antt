@@ -52,7 +52,11 @@ trace_app =
     with_rule (with_rule (with_rule two_app (position_rule (codes "three"))) (option_rule (codes "seed"))) (option_rule (codes "mb"))
 
 -- Two words and the options `--seed`, `--wait`, `--streamers` and `--lives`.
-abbrev pub run_app : App
-run_app =
+abbrev pub common_app : App
+common_app =
     with_rule (with_rule (with_rule (with_rule two_app (option_rule (codes "seed"))) (option_rule (codes "wait"))) (option_rule (codes "streamers")))
     (option_rule (codes "lives"))
+
+-- The same and the options `--reverse` and `--calls`.
+abbrev pub run_app : App
+run_app = with_rule (with_rule common_app (option_rule (codes "reverse"))) (option_rule (codes "calls"))

@@ -1,5 +1,6 @@
 -- What words are as texts, and what `clap` is asked.
 pub mod Words
+pub mod Target
 pub mod Session
 pub mod Options
 pub mod Trace

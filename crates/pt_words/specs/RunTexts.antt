@@ -13,10 +13,21 @@ texts_of run =
       wait = option_map (λ text. text.now) run.wait;
       streamers = option_map (λ text. text.now) run.streamers;
       lives = option_map (λ text. text.now) run.lives;
+      reverse = option_map (λ text. text.now) run.reverse;
+      calls = option_map (λ text. text.now) run.calls;
     }
 
 -- Two texts, where each is there, with those of the options.
-abbrev pub texts_from : (threads writes seed wait streamers lives : Option (List ℕ)) → Option RunTexts
-texts_from (Some threads) (Some writes) seed wait streamers lives =
-    Some (record { threads = threads; writes = writes; seed = seed; wait = wait; streamers = streamers; lives = lives })
-texts_from threads writes seed wait streamers lives = None
+abbrev pub texts_from : (threads writes seed wait streamers lives reverse calls : Option (List ℕ)) → Option RunTexts
+texts_from (Some threads) (Some writes) seed wait streamers lives reverse calls =
+    Some (record {
+      threads = threads;
+      writes = writes;
+      seed = seed;
+      wait = wait;
+      streamers = streamers;
+      lives = lives;
+      reverse = reverse;
+      calls = calls;
+    })
+texts_from threads writes seed wait streamers lives reverse calls = None

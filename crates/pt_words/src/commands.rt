@@ -1,7 +1,7 @@
 //! The commands that `clap` is given. None has help, a version or a name before its words.
 ghost use Rattle.std.specs.Prelude.{◌≡◌, IfOk, false};
 ghost use Rattle.clap.specs.Words.{app_of, rule_of};
-ghost use Rattle.pt_words.specs.Commands.{plain_command, position_rule, several_rule, option_rule, one_app, two_app, several_app, session_app, trace_app, run_app};
+ghost use Rattle.pt_words.specs.Commands.{plain_command, position_rule, several_rule, option_rule, one_app, two_app, several_app, session_app, trace_app, common_app, run_app};
 
 use clap::{Arg, ArgAction, Command};
 use std::alloc::{AllocError, Global};
@@ -44,15 +44,24 @@ pub(crate) fn trace_words<'a>(alloc: Global) -> Result<Command<'a>, AllocError>
         .arg(option(alloc, "mb"))
 }
 
-/// Two positions, and the options `--seed`, `--wait`, `--streamers` and `--lives`, each of which has one text.
-pub(crate) fn run_words<'a>(alloc: Global) -> Result<Command<'a>, AllocError>
-    ensures { IfOk result (λ command. app_of command ≡ run_app) }
+// Two positions, and the options `--seed`, `--wait`, `--streamers` and `--lives`, each of which has one text.
+fn common_words<'a>(alloc: Global) -> Result<Command<'a>, AllocError>
+    ensures { IfOk result (λ command. app_of command ≡ common_app) }
 {
     two_positions(alloc)?
         .arg(option(alloc, "seed"))?
         .arg(option(alloc, "wait"))?
         .arg(option(alloc, "streamers"))?
         .arg(option(alloc, "lives"))
+}
+
+/// The same, and the options `--reverse` and `--calls`, each of which has one text.
+pub(crate) fn run_words<'a>(alloc: Global) -> Result<Command<'a>, AllocError>
+    ensures { IfOk result (λ command. app_of command ≡ run_app) }
+{
+    common_words(alloc)?
+        .arg(option(alloc, "reverse"))?
+        .arg(option(alloc, "calls"))
 }
 
 // No positions.

@@ -1,11 +1,11 @@
-//! The words of a command of two positions with the options `--seed`, `--wait`, `--streamers` and `--lives`.
+//! The words of a command of two positions with the options `--seed`, `--wait`, `--streamers`, `--lives`, `--reverse` and `--calls`.
 ghost use Rattle.std.specs.Prelude.{◌≡◌, ◌||◌, ◌++◌, ◌∷◌, [], IfOk, map, nat_eq, option_map, codes};
 ghost use Rattle.std.specs.List.{list_any, starts_with};
 ghost use Rattle.std.specs.Str.{bytes_eq};
 ghost use Rattle.std.specs.String.{string_bytes};
 ghost use Rattle.clap.specs.Words.{found_of, first_value};
 ghost use Rattle.pt_words.specs.Options.{is_foreign, is_known};
-ghost use Rattle.pt_words.specs.Run.{run_in, run_options};
+ghost use Rattle.pt_words.specs.Run.{run_in, run_options, common_options, calling_options};
 ghost use Rattle.pt_words.specs.RunTexts.{texts_of, texts_from};
 
 use crate::commands::run_words;
@@ -23,10 +23,12 @@ pub struct Run<'a> {
     pub wait: Option<&'a str>,
     pub streamers: Option<&'a str>,
     pub lives: Option<&'a str>,
+    pub reverse: Option<&'a str>,
+    pub calls: Option<&'a str>,
 }
 
-/// The texts of two positions, and of the options `--seed`, `--wait`, `--streamers` and `--lives`, each of which may stand
-/// before, between or after them, as two words or as one with `=`.
+/// The texts of two positions, and of the options `--seed`, `--wait`, `--streamers`, `--lives`, `--reverse` and `--calls`, each of
+/// which may stand before, between or after them, as two words or as one with `=`.
 ///
 /// None where there are more positions or fewer, where an option stands twice or has no text, or where a word begins
 /// with `-` and is not one of them.
@@ -47,7 +49,8 @@ fn texts_of<'a>(matches: &ArgMatches<'a>) -> Option<Run<'a>>
     ensures { option_map texts_of result ≡ texts_from
         (first_value (found_of matches.now) (codes "one")) (first_value (found_of matches.now) (codes "two"))
         (first_value (found_of matches.now) (codes "seed")) (first_value (found_of matches.now) (codes "wait"))
-        (first_value (found_of matches.now) (codes "streamers")) (first_value (found_of matches.now) (codes "lives")) }
+        (first_value (found_of matches.now) (codes "streamers")) (first_value (found_of matches.now) (codes "lives"))
+        (first_value (found_of matches.now) (codes "reverse")) (first_value (found_of matches.now) (codes "calls")) }
 {
     Some(Run {
         threads: matches.get_str("one")?,
@@ -56,6 +59,8 @@ fn texts_of<'a>(matches: &ArgMatches<'a>) -> Option<Run<'a>>
         wait: matches.get_str("wait"),
         streamers: matches.get_str("streamers"),
         lives: matches.get_str("lives"),
+        reverse: matches.get_str("reverse"),
+        calls: matches.get_str("calls"),
     })
 }
 
@@ -72,13 +77,28 @@ fn is_foreign(word: &String) -> bool
     is_option(word) && !is_known(word)
 }
 
+#[tactic(auto, using(crate::proofs::RunKnown::known_run))]
 fn is_known(word: &String) -> bool
     ensures { result ≡ is_known run_options (string_bytes word.now) }
+{
+    is_common(word) || is_calling(word)
+}
+
+// Whether a word is an option of any run, alone or with its text.
+fn is_common(word: &String) -> bool
+    ensures { result ≡ is_known common_options (string_bytes word.now) }
 {
     is_named(word, "--seed", "--seed=")
         || is_named(word, "--wait", "--wait=")
         || is_named(word, "--streamers", "--streamers=")
         || is_named(word, "--lives", "--lives=")
+}
+
+// Whether it is one of a run that calls a tool.
+fn is_calling(word: &String) -> bool
+    ensures { result ≡ is_known calling_options (string_bytes word.now) }
+{
+    is_named(word, "--reverse", "--reverse=") || is_named(word, "--calls", "--calls=")
 }
 
 // Whether a word is an option alone, or begins as the option with its text does.

@@ -25,11 +25,11 @@ use Rattle.tp_c.specs.declared.recorder.Stage.{Stage}
 use Rattle.tp_c.specs.declared.recorder.Stage.TheVariants.{Open, Over}
 use Rattle.tp_c.specs.declared.recorder.Recorder.{Recorder}
 use Rattle.tp_c.specs.declared.refusal.Refusal.{Refusal}
-use Rattle.tp_c.specs.declared.refusal.Refusal.TheVariants.{BadNames, OutOfMemory}
+use Rattle.tp_c.specs.declared.refusal.Refusal.TheVariants.{BadNames, NoDefinition, BadFrames, LongPayload, TooManyStacks, Ended, OutOfMemory, Cut}
 use Rattle.tp_c.specs.declared.shapes.EventHead.{EventHead}
 use Rattle.tp_c.specs.Counting.{events_of, told_of, count_in, IsRoll}
 use Rattle.tp_c.specs.Outgoing.{Outgoing, no_bytes, all_of, given_by}
-use Rattle.tp_c.specs.Recording.{HasAll, IsOpen, IsComplete, IsBegun, StandsFor, IsRecording, IsCut, HasTaken, HasCut, bytes_of, outgoing_of, threads_of, is_over_stage, is_over, is_cut_stage, event_of}
+use Rattle.tp_c.specs.Recording.{HasAll, IsOpen, IsComplete, IsBegun, StandsFor, IsRecording, IsCut, HasTaken, HasCut, bytes_of, outgoing_of, threads_of, is_over_stage, is_over, is_cut_stage, stage_refused, call_refused, event_of}
 use Rattle.tp_c.proofs.Definitions.{has-fewer}
 use Rattle.tp_c.proofs.Counts.{no-roll, event-roll, point-roll}
 
@@ -166,6 +166,36 @@ broke-off info entries others pulled fault old new before after h was is failed 
 -- What a writer is over these definitions alone.
 pub at-its-own : (info : TraceInfo) (entries : List Entry) (definitions : List EventDef) (writer : TraceWriter Outgoing) → AreDistinct (definition_at definitions) → IsOpen info entries definitions writer → IsWriting tells all_of [] (definition_at definitions) info entries writer
 at-its-own info entries definitions writer distinct h = h (definition_at definitions) distinct (has-its-own definitions)
+
+-- ---- what refuses no call
+
+-- A stage that stands for entries was not cut.
+not-cut : (info : TraceInfo) (entries : List Entry) (definitions : List EventDef) (stage : Stage) → AreDistinct (definition_at definitions) → StandsFor info entries definitions stage → stage_refused stage ≡ Some Cut → ⊥
+not-cut info entries definitions (Open writer) distinct h e =
+    unlike (subst (λ (fault : Option Fault). (if is_some fault then Some Cut else None) ≡ Some Cut) (at-its-own info entries definitions writer distinct h).sound e)
+  where
+    unlike : None ≡ Some Cut → ⊥
+    unlike h = cc
+not-cut info entries definitions (Over outlet true) distinct h e = unlike e
+  where
+    unlike : Some Ended ≡ Some Cut → ⊥
+    unlike h = cc
+not-cut info entries definitions (Over outlet false) distinct h e = h
+
+-- So no call of a recorder that stands for entries is refused as cut.
+pub never-cut : {A : Type 0} (info : TraceInfo) (entries : List Entry) (pulled : List ℕ) (recorder : Recorder) → IsRecording info entries pulled recorder → call_refused recorder ≡ Some Cut → A
+never-cut info entries pulled recorder h e =
+    absurd (not-cut info entries recorder.definitions recorder.stage h.distinct h.stands e)
+
+-- Nor an event, whose other reasons are others.
+pub head-cut : (call : Option Refusal) (no_definition bad_frames long_payload no_stack : Bool)
+    → (if is_some call then call else (if no_definition then Some NoDefinition else (if bad_frames then Some BadFrames else (if long_payload then Some LongPayload else (if no_stack then Some TooManyStacks else None))))) ≡ Some Cut → call ≡ Some Cut
+head-cut (Some refusal) no_definition bad_frames long_payload no_stack e = e
+head-cut None true bad_frames long_payload no_stack e = cc
+head-cut None false true long_payload no_stack e = cc
+head-cut None false false true no_stack e = cc
+head-cut None false false false true e = cc
+head-cut None false false false false e = e
 
 -- ---- the end
 

@@ -7,9 +7,9 @@ use Rattle.ep_defs.specs.declared.session.TraceInfo.{TraceInfo}
 use Rattle.nt_write.specs.Canonical.{IsCanonical}
 use Rattle.ep_model.specs.declared.step.Step.{Step}
 use Rattle.ep_model.specs.declared.step.Step.TheVariants as step
-use Rattle.ep_model.specs.Entries.{entries}
 use Rattle.ep_model.specs.History.{Past, is_finished}
 use Rattle.ep_model.specs.Marks.{marks_of}
+use Rattle.ep_told.specs.Told.{told_entries}
 use Rattle.ep_tables.specs.declared.judged.Judged.{Judged}
 use Rattle.ep_tables.specs.Judged.{IsReady, step_of}
 use Rattle.ep_core_laws.specs.Works.{Works, WorksBefore}
@@ -48,7 +48,7 @@ Makes judged old new = (info : TraceInfo) → MakesWith info judged old new
 -- What is left of a finished session is its stream and its marks.
 pub record EndedFollows (events : List EventDef) (info : TraceInfo) (session : ℕ) (past : Past) (ended : Ended) : Type 0 where
   pub finished : is_finished session past ≡ true
-  pub canonical : IsCanonical info (entries events session past) ended.sink.taken
+  pub canonical : IsCanonical info (told_entries events session past) ended.sink.taken
   pub marks_are : ended.marks ≡ marks_of session past
 
 -- This is left of the session that a Finish ends.

@@ -1,5 +1,5 @@
 //! Steps that are printed, each as one line.
-ghost use Rattle.std.specs.Prelude.{◌≡◌, ◌∷◌, [], true, false, IfOk, replicate};
+ghost use Rattle.std.specs.Prelude.{◌≡◌, ◌∷◌, [], IfOk, replicate};
 ghost use Rattle.ep_model.specs.declared.step.Step.TheVariants.{Accept, Begin};
 
 use ep_defs::{Config, Items, Rule, Units, Write};
@@ -72,12 +72,12 @@ fn name(alloc: Global) -> Result<Units, AllocError>
     Ok(Items::new(Vec::from_array(alloc, [77, 121, 45, 80])?))
 }
 
-fn accept(alloc: Global) -> Result<Step, AllocError>
+fn accept(alloc: Global, stackwalk: bool, rundown: bool) -> Result<Step, AllocError>
     ensures { IfOk result (λ step. step ≡ Accept 1 (record {
       rules = record { name = 77 ∷ 121 ∷ 45 ∷ 80 ∷ []; keywords = 240; level = 5 } ∷ [];
       chunks = 16;
-      stackwalk = true;
-      rundown = false;
+      stackwalk = stackwalk;
+      rundown = rundown;
     })) }
 {
     let rule = Rule {
@@ -88,14 +88,22 @@ fn accept(alloc: Global) -> Result<Step, AllocError>
     let config = Config {
         rules: Items::new(Vec::from_array(alloc, [rule])?),
         chunks: 16,
-        stackwalk: true,
-        rundown: false,
+        stackwalk,
+        rundown,
     };
     Ok(Step::Accept { session: 1, config })
 }
 
 fn line_of_a_rule(alloc: Global) -> Result<Vec<u8>, AllocError> {
-    print_step(alloc, &accept(alloc)?)
+    print_step(alloc, &accept(alloc, true, false)?)
+}
+
+fn line_with_a_rundown(alloc: Global) -> Result<Vec<u8>, AllocError> {
+    print_step(alloc, &accept(alloc, true, true)?)
+}
+
+fn line_without_stacks(alloc: Global) -> Result<Vec<u8>, AllocError> {
+    print_step(alloc, &accept(alloc, false, true)?)
 }
 
 // Whether a step is printed so.
@@ -128,6 +136,8 @@ fn a_step_is_printed_as_one_line(rt: HostRuntime) {
             b"begin 0 18446744073709551615 7 - - 0,abcdef,ffffffffffffffff -",
         ),
         is(line_of_a_rule(alloc), b"accept 1 16 My-P:f0:5"),
+        is(line_with_a_rundown(alloc), b"accept4 1 16 1 1 My-P:f0:5"),
+        is(line_without_stacks(alloc), b"accept4 1 16 0 1 My-P:f0:5"),
     ];
-    assert_eq!(rt; printed, [true; 6]);
+    assert_eq!(rt; printed, [true; 8]);
 }

@@ -27,6 +27,8 @@ const GOOD: &str = "Blank|\n\
     Step(Accept { session: 4, config: Config { rules: Items { items: [Rule { name: Items { items: [45] }, keywords: 18446744073709551615, level: 4294967295 }, Rule { name: Items { items: [80] }, keywords: 171, level: 5 }] }, chunks: 1, stackwalk: true, rundown: false } })|accept 4 1 -:ffffffffffffffff:4294967295 P:aB:005\n\
     Step(Accept { session: 2, config: Config { rules: Items { items: [Rule { name: Items { items: [65, 97, 126] }, keywords: 15, level: 0 }] }, chunks: 8, stackwalk: false, rundown: false } })|accept3 2 8 0 Aa~:000000000000000f:0\n\
     Step(Accept { session: 2, config: Config { rules: Items { items: [Rule { name: Items { items: [80] }, keywords: 0, level: 4 }] }, chunks: 8, stackwalk: true, rundown: false } })|accept3 2 8 1 P:0:4\n\
+    Step(Accept { session: 2, config: Config { rules: Items { items: [Rule { name: Items { items: [80] }, keywords: 0, level: 4 }] }, chunks: 8, stackwalk: false, rundown: true } })|accept4 2 8 0 1 P:0:4\n\
+    Step(Accept { session: 2, config: Config { rules: Items { items: [Rule { name: Items { items: [80] }, keywords: 0, level: 4 }] }, chunks: 8, stackwalk: true, rundown: false } })|accept4 2 8 1 00 P:0:4\n\
     Step(Begin { thread: 1, stamp: 5, write: Write { event: 2, activity: [0, 0, 0, 0, 0, 0, 0, 0, 0, 0, 0, 0, 0, 0, 0, 0], related: [0, 0, 0, 0, 0, 0, 0, 0, 0, 0, 0, 0, 0, 0, 0, 0], frames: Items { items: [] }, payload: Items { items: [] } } })|begin 1 5 2 - - - -\n\
     Step(Begin { thread: 1, stamp: 5, write: Write { event: 2, activity: [0, 1, 2, 3, 4, 5, 6, 7, 8, 9, 10, 11, 12, 13, 14, 255], related: [0, 0, 0, 0, 0, 0, 0, 0, 0, 0, 0, 0, 0, 0, 0, 0], frames: Items { items: [10, 11, 0] }, payload: Items { items: [0, 255, 16] } } })|begin 1 5 2 000102030405060708090A0b0c0d0eFf 00000000000000000000000000000000 a,00B,0 00fF10\n\
     Step(Begin { thread: 1, stamp: 5, write: Write { event: 2, activity: [0, 0, 0, 0, 0, 0, 0, 0, 0, 0, 0, 0, 0, 0, 0, 0], related: [0, 0, 0, 0, 0, 0, 0, 0, 0, 0, 0, 0, 0, 0, 0, 0], frames: Items { items: [18446744073709551615, 1] }, payload: Items { items: [] } } })|begin 1 5 2 - - ffffffffffffffff,1 -\n\
@@ -47,6 +49,10 @@ const BAD_STEPS: &str = "7 1 Word| \n\
     7 14 Number|accept3 1 16 2 P:1:4\n\
     7 14 Number|accept3 1 16 P:1:4\n\
     7 15 Word|accept3 1 16 0\n\
+    7 14 Number|accept4 1 16 2 1 P:1:4\n\
+    7 16 Number|accept4 1 16 1 2 P:1:4\n\
+    7 16 Number|accept4 1 16 1 P:1:4\n\
+    7 17 Word|accept4 1 16 1 1\n\
     7 8 Number|open 1 1\r\n\
     7 8 Number|open 1 4294967296\n\
     7 6 Number|open +1 1\n\
@@ -103,6 +109,7 @@ const BAD_STEPS: &str = "7 1 Word| \n\
     7 19 Hex|begin 1 5 1 - - - -00";
 
 const BAD_DEFINITIONS: &str = "7 6 Word|event\n\
+    7 1 Same|event 1 Pipe-Rundown 1 0 4 0 EventDescription -\n\
     7 7 EventOrder|event 0 P 1 0 4 1 E -\n\
     7 7 EventOrder|event 2 P 1 0 4 1 E -\n\
     7 7 Number|event 4294967296 P 1 0 4 1 E -\n\
@@ -139,6 +146,7 @@ const LATE: &str = "7 1 LateEvent|event\n\
 
 const SECOND: &str = "7 1 Same|event 2 P 1 0 4 1 E a:3\n\
     7 1 Same|event 02 P 01 00 04 0001 E a:3\n\
+    7 1 Same|event 2 Pipe-Rundown 1 0 4 0 EventDescription -\n\
     7 25 Word|event 2 P 1 0 4 1 E a:3 -\n\
     7 7 EventOrder|event 1 P 1 0 4 1 E a:3\n\
     Event { index: 2, def: EventDef { provider: Items { items: [80] }, id: 1, version: 0, level: 4, keywords: 1, name: Items { items: [69] }, fields: Items { items: [FieldDef { depth: 0, code: 4, name: Items { items: [97] } }] } } }|event 2 P 1 0 4 1 E a:4";

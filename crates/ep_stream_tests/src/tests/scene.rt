@@ -32,12 +32,17 @@ pub(super) struct Scene {
 
 impl Scene {
     /// A session that is open nowhere, over rows that refuse so many times to open one. Its sink fails at this write, the
-    /// first being 1.
-    pub(super) fn new(alloc: Global, fails: u64, refusals: u32) -> Result<Scene, AllocError> {
+    /// first being 1. It was asked for a rundown or not.
+    pub(super) fn new(
+        alloc: Global,
+        fails: u64,
+        refusals: u32,
+        rundown: bool,
+    ) -> Result<Scene, AllocError> {
         let rows = ListedRows::new(alloc, 4, refusals)?;
         let events = program(alloc)?;
         let sink = MemSink::new(Vec::from_array(alloc, [fails])?);
-        match begin(alloc, sink, b"", 4, false, ROWS) {
+        match begin(alloc, sink, b"", 4, rundown, ROWS) {
             Ok(session) => Ok(Scene {
                 session,
                 rows,
@@ -162,18 +167,23 @@ impl Scene {
     /// Ends the session, which is open nowhere.
     pub(super) fn finish(self, rt: &(impl Abort + AllocGlobal), stamp: u64) -> SessionEnd<MemSink> {
         self.must_be_closed(rt);
-        let Scene { session, .. } = self;
-        session.finish(rt.alloc(), stamp, Fate::ProgramEnd)
+        let Scene {
+            session,
+            events,
+            ..
+        } = self;
+        session.finish(rt.alloc(), stamp, Fate::ProgramEnd, events.as_slice())
     }
 }
 
-/// Begins the stream of a session of connection 7 in the slot, without rules, behind the reply. There are so many rows.
+/// Begins the stream of a session of connection 7 in the slot, without rules and stacks, behind the reply. There are so
+/// many rows.
 pub(super) fn begin(
     alloc: Global,
     sink: MemSink,
     reply: &[u8],
     chunks: u32,
-    stackwalk: bool,
+    rundown: bool,
     rows: u32,
 ) -> Result<Session<MemSink>, (MemSink, Fault)>
     ensures hands { IfOk result (λ session. (row : ℕ) → hand_on session row ≡ None) }
@@ -190,14 +200,14 @@ pub(super) fn begin(
     let config = Config {
         rules: Items::new(Vec::new(alloc)),
         chunks,
-        stackwalk,
-        rundown: false,
+        stackwalk: false,
+        rundown,
     };
     Session::start(alloc, sink, reply, seat, config, &standard_info(1, 1), rows)
 }
 
-// The program's events.
-fn program(alloc: Global) -> Result<Vec<EventDef>, AllocError>
+/// The program's events.
+pub(super) fn program(alloc: Global) -> Result<Vec<EventDef>, AllocError>
     ensures { IfOk result (λ events. events.items ≡ event_e ∷ []) }
 {
     Ok(Vec::from_array(alloc, [event(alloc)?])?)

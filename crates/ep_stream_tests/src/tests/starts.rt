@@ -11,8 +11,8 @@ fn started(
     sink: MemSink,
     fate: Fate,
 ) -> Result<SessionEnd<MemSink>, (MemSink, Fault)> {
-    match begin(alloc, sink, b"reply", 1, true, 4) {
-        Ok(session) => Ok(session.finish(alloc, 9, fate)),
+    match begin(alloc, sink, b"reply", 1, false, 4) {
+        Ok(session) => Ok(session.finish(alloc, 9, fate, &[])),
         Err(failed) => Err(failed),
     }
 }

@@ -11,6 +11,10 @@ use std::process::Abort;
 const ONE_EVENT: &[u8] =
     b"Nettrace\x14\0\0\0!FastSerialization.1\x05\x05\x01\x04\0\0\0\x04\0\0\0\x05\0\0\0Trace\x06\xb2\x07\x01\0\x04\0\x01\0\0\0\0\0\0\0\0\0\0\0\0\0\0\0\0\0\0\xca\x9a\x3b\0\0\0\0\x08\0\0\0\x01\0\0\0\x01\0\0\0\0\0\0\0\x06\x05\x05\x01\x02\0\0\0\x02\0\0\0\x0d\0\0\0MetadataBlock\x06\x3b\0\0\0\0\x14\0\x01\0\0\0\0\0\0\0\0\0\0\0\0\0\0\0\0\0\xc0\0\x24\x01\0\0\0P\0\0\0\x01\0\0\0E\0\0\0\x01\0\0\0\0\0\0\0\0\0\0\0\x04\0\0\0\0\0\0\0\x06\x05\x05\x01\x02\0\0\0\x02\0\0\0\x0a\0\0\0EventBlock\x06\x1b\0\0\0\0\0\x14\0\x01\0\x64\0\0\0\0\0\0\0\x64\0\0\0\0\0\0\0\x07\x01\0\x01\0\x01\x64\x06\x05\x05\x01\x02\0\0\0\x02\0\0\0\x07\0\0\0SPBlock\x06\x18\0\0\0\0\xc8\0\0\0\0\0\0\0\x01\0\0\0\x01\0\0\0\0\0\0\0\x01\0\0\0\x06\x01";
 
+// The 462 bytes of the same session with a rundown.
+const ONE_DESCRIBED: &[u8] =
+    b"Nettrace\x14\0\0\0!FastSerialization.1\x05\x05\x01\x04\0\0\0\x04\0\0\0\x05\0\0\0Trace\x06\xb2\x07\x01\0\x04\0\x01\0\0\0\0\0\0\0\0\0\0\0\0\0\0\0\0\0\0\xca\x9a\x3b\0\0\0\0\x08\0\0\0\x01\0\0\0\x01\0\0\0\0\0\0\0\x06\x05\x05\x01\x02\0\0\0\x02\0\0\0\x0d\0\0\0MetadataBlock\x06\x96\0\0\0\0\x14\0\x01\0\0\0\0\0\0\0\0\0\0\0\0\0\0\0\0\0\xc0\0\x24\x01\0\0\0P\0\0\0\x01\0\0\0E\0\0\0\x01\0\0\0\0\0\0\0\0\0\0\0\x04\0\0\0\0\0\0\0\xc0\0X\x02\0\0\0P\0i\0p\0e\0\x2d\0R\0u\0n\0d\0o\0w\0n\0\0\0\x01\0\0\0E\0v\0e\0n\0t\0D\0e\0s\0c\0r\0i\0p\0t\0i\0o\0n\0\0\0\0\0\0\0\0\0\0\0\0\0\0\0\x04\0\0\0\0\0\0\0\x06\x05\x05\x01\x02\0\0\0\x02\0\0\0\x0a\0\0\0EventBlock\x06K\0\0\0\0\0\0\x14\0\x01\0d\0\0\0\0\0\0\0\xc8\0\0\0\0\0\0\0\x07\x01\0\x01\0\x01d\x87\x02\xff\xff\xff\xff\x0f\0\0\0d\x24\x01\0\0\0P\0\0\0\x01\0\0\0E\0\0\0\x01\0\0\0\0\0\0\0\0\0\0\0\x04\0\0\0\0\0\0\0\x06\x05\x05\x01\x02\0\0\0\x02\0\0\0\x07\0\0\0SPBlock\x06\x24\0\0\0\0\xc8\0\0\0\0\0\0\0\x02\0\0\0\0\0\0\0\0\0\0\0\x01\0\0\0\x01\0\0\0\0\0\0\0\x01\0\0\0\x06\x01";
+
 // An event of a thread, with its number and its stamp, or a point at a stamp, by which thread 1 has come to 2 and thread 2
 // to 1.
 #[derive(Clone, Copy)]
@@ -106,16 +110,18 @@ fn make_all(rt: &(impl Abort + AllocGlobal), scene: &mut Scene, calls: &[Called]
     }
 }
 
-// A session over rows that refuse so many times to open one, after these calls. Its sink fails at this write, the first
-// being 1, and it ends at the stamp.
+// At which write the session's sink fails, the first being 1, how often the rows refuse to open one, and whether it was
+// asked for a rundown.
+type Setting = (u64, u32, bool);
+
+// A session after these calls, which ends at the stamp.
 fn ended(
     rt: &(impl Abort + AllocGlobal),
-    fails: u64,
-    refusals: u32,
+    (fails, refusals, rundown): Setting,
     calls: &[Called],
     stamp: u64,
 ) -> Option<SessionEnd<MemSink>> {
-    match Scene::new(rt.alloc(), fails, refusals) {
+    match Scene::new(rt.alloc(), fails, refusals, rundown) {
         Ok(mut scene) => {
             make_all(rt, &mut scene, calls);
             Some(scene.finish(rt, stamp))
@@ -201,6 +207,10 @@ fn one_event() -> &'static [u8] {
     ONE_EVENT
 }
 
+fn one_described() -> &'static [u8] {
+    ONE_DESCRIBED
+}
+
 fn one_write() -> &'static [Called] {
     ONE_WRITE
 }
@@ -223,18 +233,24 @@ fn link_failed() -> &'static [Called] {
 
 #[test]
 fn one_write_on_one_row_takes_310_bytes(rt: HostRuntime) {
-    let taken = has_taken(ended(&rt, 0, 0, one_write(), 200), one_event());
+    let taken = has_taken(ended(&rt, (0, 0, false), one_write(), 200), one_event());
     assert_eq!(rt; (one_event().len(), taken), (310, true));
 }
 
 #[test]
+fn one_write_and_its_description_take_462_bytes(rt: HostRuntime) {
+    let taken = has_taken(ended(&rt, (0, 0, true), one_write(), 200), one_described());
+    assert_eq!(rt; (one_described().len(), taken), (462, true));
+}
+
+#[test]
 fn a_sweep_writes_the_rows_one_after_another_and_a_point(rt: HostRuntime) {
-    assert!(rt; has_told(rt.alloc(), ended(&rt, 0, 0, swept(), 300), sweep()));
+    assert!(rt; has_told(rt.alloc(), ended(&rt, (0, 0, false), swept(), 300), sweep()));
 }
 
 #[test]
 fn a_row_that_refuses_memory_can_be_opened_later(rt: HostRuntime) {
-    assert!(rt; has_taken(ended(&rt, 0, 1, refused(), 200), one_event()));
+    assert!(rt; has_taken(ended(&rt, (0, 1, false), refused(), 200), one_event()));
 }
 
 #[test]
@@ -246,6 +262,6 @@ fn a_session_whose_link_failed_gives_back_and_keeps_its_marks(rt: HostRuntime) {
         taken: 3,
         refused: 0,
     };
-    let fate = fate_with(ended(&rt, 3, 0, link_failed(), 200), &[marks]);
+    let fate = fate_with(ended(&rt, (3, 0, false), link_failed(), 200), &[marks]);
     assert_eq!(rt; fate, Some((Fate::LinkFault, true)));
 }

@@ -110,7 +110,7 @@ impl Tables {
             .detach(alloc, &mut self.rows, both.on.row, self.events.as_slice())
     }
 
-    /// Ends a session's stream, and frees its slot.
+    /// Ends a session's stream, with a rundown where the session was asked for one, and frees its slot.
     pub fn finish(&mut self, alloc: Global, of: OfSession, stamp: u64) -> SessionEnd<MemSink>
         requires ready { IsReady self.old (Finish of stamp) }
         requires tied { AreTied self.old }
@@ -121,7 +121,9 @@ impl Tables {
         let present = self.present.remove(of.place);
         self.rows.unseat(present.slot);
         self.table.free(present.slot);
-        present.session.finish(alloc, stamp, Fate::ProgramEnd)
+        present
+            .session
+            .finish(alloc, stamp, Fate::ProgramEnd, self.events.as_slice())
     }
 }
 

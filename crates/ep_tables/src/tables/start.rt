@@ -7,6 +7,7 @@ ghost use Rattle.std.specs.Ordering.{nat_cmp};
 ghost use Rattle.ep_defs.specs.Definitions.{AreDistinct, definition_at};
 ghost use Rattle.ep_defs.specs.Event.{is_valid_event};
 ghost use Rattle.ep_defs.specs.declared.limits.TheConstants.{EVENTS as MOST_EVENTS, THREADS as ROWS};
+ghost use Rattle.ep_rundown.specs.Rundown.{lacks_rundown};
 ghost use Rattle.ep_tables.specs.Made.{IsStart};
 ghost use Rattle.ep_tables.specs.Tied.{AreTied};
 
@@ -24,6 +25,7 @@ impl Tables {
         requires few { length events.items ≤ EVENTS }
         requires valid { IsTrue (list_all is_valid_event events.items) }
         requires distinct { AreDistinct (definition_at events.items) }
+        requires lacks { IsTrue (lacks_rundown events.items) }
         ensures start { IfOk result (IsStart events.items) }
         ensures tied { IfOk result AreTied }
     {

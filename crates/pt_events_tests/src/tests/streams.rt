@@ -5,8 +5,8 @@ use pt_io::{MemSink, MemSource};
 use std::alloc::{AllocError, Global};
 use std::test::Fail;
 
-// One event of the provider P, named E, and a point at which its thread's last number is 1.
-const STREAM: [u8; 310] =
+/// One event of the provider P, named E, and a point at which its thread's last number is 1.
+pub const STREAM: [u8; 310] =
     *b"Nettrace\x14\0\0\0!FastSerialization.1\x05\x05\x01\x04\0\0\0\x04\0\0\0\x05\0\0\0Trace\x06\xb2\x07\x01\0\x04\0\x01\0\0\0\0\0\0\0\0\0\0\0\0\0\0\0\0\0\0\xca\x9a;\0\0\0\0\x08\0\0\0\x01\0\0\0\x01\0\0\0\0\0\0\0\x06\x05\x05\x01\x02\0\0\0\x02\0\0\0\x0d\0\0\0MetadataBlock\x06;\0\0\0\0\x14\0\x01\0\0\0\0\0\0\0\0\0\0\0\0\0\0\0\0\0\xc0\0$\x01\0\0\0P\0\0\0\x01\0\0\0E\0\0\0\x01\0\0\0\0\0\0\0\0\0\0\0\x04\0\0\0\0\0\0\0\x06\x05\x05\x01\x02\0\0\0\x02\0\0\0\n\0\0\0EventBlock\x06\x1b\0\0\0\0\0\x14\0\x01\0d\0\0\0\0\0\0\0d\0\0\0\0\0\0\0\x07\x01\0\x01\0\x01d\x06\x05\x05\x01\x02\0\0\0\x02\0\0\0\x07\0\0\0SPBlock\x06\x18\0\0\0\0\xc8\0\0\0\0\0\0\0\x01\0\0\0\x01\0\0\0\0\0\0\0\x01\0\0\0\x06\x01";
 
 // The line of the event, and those of the event and the point.
@@ -14,16 +14,16 @@ const EVENT: &str = "event        100          1          1 P E\n";
 
 const BOTH: &str = "event        100          1          1 P E\npoint        200          1\n";
 
-// How the command ended, and what it wrote.
+/// How the command ended, and what it wrote.
 #[derive(Drop)]
-struct Run {
-    end: (u8, u64),
-    written: Vec<u8>,
+pub struct Run {
+    pub end: (u8, u64),
+    pub written: Vec<u8>,
 }
 
-// Lists the events of these bytes, of which a read gives at most this many. The read and the write with these numbers, from 1,
-// fail, and the write takes four bytes.
-fn run_events(
+/// Lists the events of these bytes, of which a read gives at most this many. The read and the write with these numbers, from 1,
+/// fail, and the write takes four bytes.
+pub fn run_events(
     alloc: Global,
     form: Form,
     bytes: &[u8],

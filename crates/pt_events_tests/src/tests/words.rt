@@ -13,7 +13,7 @@ fn asked(alloc: Global, texts: &[&str]) -> Result<Option<Form>, AllocError> {
 
 #[test]
 fn the_words_of_events_are_told_from_others(rt: HostRuntime) -> Result<(), Fail> {
-    let cases: [(&[&str], Option<Form>); 10] = [
+    let cases: [(&[&str], Option<Form>); 16] = [
         (&["events"], Some(Form::Lines)),
         (&["events", "--json"], Some(Form::Json)),
         (&["--json", "events"], None),
@@ -24,6 +24,12 @@ fn the_words_of_events_are_told_from_others(rt: HostRuntime) -> Result<(), Fail>
         (&["Events"], None),
         (&["events", "--xml"], None),
         (&["events", "events"], None),
+        (&["convert", "chromium"], Some(Form::Chromium)),
+        (&["convert"], None),
+        (&["convert", "Chromium"], None),
+        (&["convert", "--json"], None),
+        (&["events", "chromium"], None),
+        (&["convert", "chromium", "chromium"], None),
     ];
     for (texts, want) in cases {
         assert_eq!(rt; asked(rt.alloc(), texts)?, want);

@@ -76,24 +76,47 @@ const TRACES: &[TraceRow] = &[
 ];
 
 // Words, and where they are the positions `2 8` with each option once at most, the texts of `--seed`, `--wait`,
-// `--streamers` and `--lives`.
+// `--streamers` and `--lives`, and those of `--reverse` and `--calls`.
 const RUNS: &[RunRow] = &[
-    ("2 8", Some((None, None, None, None))),
-    ("2 8 --seed 7", Some((Some("7"), None, None, None))),
-    ("--wait=3 2 8", Some((None, Some("3"), None, None))),
-    ("2 --streamers 4 8", Some((None, None, Some("4"), None))),
-    ("2 8 --lives=5", Some((None, None, None, Some("5")))),
+    ("2 8", Some(((None, None, None, None), (None, None)))),
     (
-        "--lives 5 2 --streamers=4 --wait 3 8 --seed=7",
-        Some((Some("7"), Some("3"), Some("4"), Some("5"))),
+        "2 8 --seed 7",
+        Some(((Some("7"), None, None, None), (None, None))),
+    ),
+    (
+        "--wait=3 2 8",
+        Some(((None, Some("3"), None, None), (None, None))),
+    ),
+    (
+        "2 --streamers 4 8",
+        Some(((None, None, Some("4"), None), (None, None))),
+    ),
+    (
+        "2 8 --lives=5",
+        Some(((None, None, None, Some("5")), (None, None))),
+    ),
+    (
+        "--reverse /x 2 8",
+        Some(((None, None, None, None), (Some("/x"), None))),
+    ),
+    (
+        "2 --calls=9 8",
+        Some(((None, None, None, None), (None, Some("9")))),
+    ),
+    (
+        "--lives 5 2 --streamers=4 --calls 6 --wait 3 8 --reverse=/x --seed=7",
+        Some((
+            (Some("7"), Some("3"), Some("4"), Some("5")),
+            (Some("/x"), Some("6")),
+        )),
     ),
     (
         "2 8 --seed= --wait==",
-        Some((Some(""), Some("="), None, None)),
+        Some(((Some(""), Some("="), None, None), (None, None))),
     ),
     (
         "2 8 --lives=--seed",
-        Some((None, None, None, Some("--seed"))),
+        Some(((None, None, None, Some("--seed")), (None, None))),
     ),
     ("", None),
     ("2", None),
@@ -105,6 +128,9 @@ const RUNS: &[RunRow] = &[
     ("--seed 7 --seed 7 2 8", None),
     ("--wait=1 2 8 --wait 1", None),
     ("2 8 --lives=1 --lives=1", None),
+    ("2 8 --reverse=/x --reverse /x", None),
+    ("2 8 --calls --reverse /x", None),
+    ("2 8 --revers /x", None),
     ("2 8 --live=1", None),
     ("2 8 --mb 1", None),
     ("-- 2 8", None),
@@ -127,10 +153,13 @@ type RunRow = (&'static str, Option<RunOptions<'static>>);
 type TraceOptions<'a> = (Option<&'a str>, Option<&'a str>);
 
 type RunOptions<'a> = (
-    Option<&'a str>,
-    Option<&'a str>,
-    Option<&'a str>,
-    Option<&'a str>,
+    (
+        Option<&'a str>,
+        Option<&'a str>,
+        Option<&'a str>,
+        Option<&'a str>,
+    ),
+    (Option<&'a str>, Option<&'a str>),
 );
 
 // The words between the spaces.
@@ -224,7 +253,10 @@ fn is_run(alloc: Global, words: &[String], wanted: Option<RunOptions>) -> bool {
         Ok(Some(run)) => {
             let found = (
                 [run.threads, run.writes],
-                Some((run.seed, run.wait, run.streamers, run.lives)),
+                Some((
+                    (run.seed, run.wait, run.streamers, run.lives),
+                    (run.reverse, run.calls),
+                )),
             );
             found == (["2", "8"], wanted)
         }

@@ -6,8 +6,8 @@ use std::alloc::Global;
 // How the bytes of a stream are read.
 #[derive(Clone, Copy)]
 enum Reading {
-    // They are a whole stream, in which so many points tell of an event.
-    Whole { points: usize },
+    // They are a whole stream, in which so many points tell of an event and so many events are of thread 0.
+    Whole { points: usize, described: usize },
     // A stream begins with them and goes on.
     Part,
     // They are something else.
@@ -22,8 +22,16 @@ pub(super) fn is_part(alloc: Global, taken: &[u8]) -> bool {
 /// How many points of this tell of an event, where it is a whole stream.
 pub(super) fn points_in(alloc: Global, taken: &[u8]) -> usize {
     match reading_of(alloc, taken) {
-        Reading::Whole { points } => points,
+        Reading::Whole { points, .. } => points,
         Reading::Part | Reading::None => 0,
+    }
+}
+
+/// How many definitions this describes, where it is a whole stream.
+pub(super) fn described_in(alloc: Global, taken: &[u8]) -> Option<usize> {
+    match reading_of(alloc, taken) {
+        Reading::Whole { described, .. } => Some(described),
+        Reading::Part | Reading::None => None,
     }
 }
 
@@ -34,12 +42,16 @@ fn reading_of(alloc: Global, taken: &[u8]) -> Reading {
     let mut reader = TraceReader::new(alloc);
     let mut items = Vec::new(alloc);
     let fed = reader.feed(stream, &mut items);
-    judged(fed, reader.finish(), points_of(&items))
+    let whole = Reading::Whole {
+        points: points_of(&items),
+        described: described_of(&items),
+    };
+    judged(fed, reader.finish(), whole)
 }
 
-fn judged(fed: Result<(), ReadFault>, end: Result<(), ReadFault>, points: usize) -> Reading {
+fn judged(fed: Result<(), ReadFault>, end: Result<(), ReadFault>, whole: Reading) -> Reading {
     match (fed, end) {
-        (Ok(()), Ok(())) => Reading::Whole { points },
+        (Ok(()), Ok(())) => whole,
         (
             Ok(()),
             Err(
@@ -61,6 +73,21 @@ fn points_of(items: &[Item]) -> usize {
         }
     }
     points
+}
+
+fn described_of(items: &[Item]) -> usize {
+    let mut described = 0usize;
+    for item in items {
+        if describes(item) {
+            described = described.saturating_add(1);
+        }
+    }
+    described
+}
+
+// Whether it is an event of thread 0.
+fn describes(item: &Item) -> bool {
+    matches!(&item.kind, ItemKind::Event { thread: 0, .. })
 }
 
 // Whether it is a point that tells of a thread's event.

@@ -1,6 +1,7 @@
 //! Whole runs, whose links take all that is written.
 use super::peers::{Request, sound};
 use super::scene::{Asked, Case, come, run, runs};
+use super::stream::described_in;
 use std::alloc::AllocError;
 
 const BOTH: &str =
@@ -39,6 +40,20 @@ fn sessions_get_what_their_rules_admit(rt: HostRuntime) -> Result<(), AllocError
         ),
     ];
     come(&rt, rt.alloc(), &cases)
+}
+
+// Who asks for a rundown gets events of four definitions, each described once; who asks for none has no events of thread 0.
+#[test]
+fn a_session_with_a_rundown_describes_what_it_used(rt: HostRuntime) -> Result<(), AllocError> {
+    let alloc = rt.alloc();
+    let most = run(&rt, alloc, runs(2, 16, 1), &[sound(Request::Most)], &[])?;
+    let jobs = run(&rt, alloc, runs(2, 16, 1), &[sound(Request::Jobs)], &[])?;
+    let described = (
+        described_in(alloc, &most.taken),
+        described_in(alloc, &jobs.taken),
+    );
+    assert_eq!(rt; described, (Some(4), Some(0)));
+    Ok(())
 }
 
 // Nobody is let in behind them, so the threads wait for no session more, and the session that is there goes on to its end.

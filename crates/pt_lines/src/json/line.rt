@@ -2,6 +2,7 @@
 ghost use Rattle.std.specs.Prelude.{◌≡◌, ◌∷◌, [], ◌++◌, ℕ, codes, map, OnOk};
 ghost use Rattle.ep_defs.specs.Entry.{EventEntry};
 ghost use Rattle.pt_lines.specs.declared.form.Form.TheVariants as forms;
+ghost use Rattle.pt_lines.specs.declared.origin.Origin.{Origin};
 ghost use Rattle.pt_lines.specs.Line.{Event};
 ghost use Rattle.pt_lines.specs.Forms.{IsLine};
 ghost use Rattle.pt_lines.specs.Json.{activity_members, array, behind_commas, commas, definition_members, error_object, known_object, lost_object, place_members, point_object};
@@ -76,12 +77,12 @@ fn put_thread(out: &mut Vec<u8>, is_first: bool, thread: u64, number: u32) -> Re
 
 /// Appends the object of an event.
 pub fn put_event(out: &mut Vec<u8>, alloc: Global, event: &EventLine<'_>) -> Result<(), AllocError>
-    ensures { (address processor thread : ℕ) (entry : EventEntry) → Tells event.now address processor thread entry
-        → OnOk result (Appends (IsLine forms.Json (Event address processor thread entry)) out.old.items out.new.items) }
+    ensures { (origin : Origin) (processor thread : ℕ) (entry : EventEntry) → Tells event.now origin processor thread entry
+        → OnOk result (Appends (IsLine forms.Json (Event origin processor thread entry)) out.old.items out.new.items) }
 {
     put_head(out, event)?;
     put_word(out, ",\"stack\":")?;
-    put_stack(out, width_of(event.address), event.stack)?;
+    put_stack(out, width_of(event.origin.address), event.stack)?;
     out.push(b',')?;
     put_payload(out, alloc, event.def.fields.as_slice(), event.payload)?;
     put_word(out, "}\n")
@@ -89,7 +90,7 @@ pub fn put_event(out: &mut Vec<u8>, alloc: Global, event: &EventLine<'_>) -> Res
 
 // Appends an event up to its stack.
 fn put_head(out: &mut Vec<u8>, event: &EventLine<'_>) -> Result<(), AllocError>
-    ensures { (address processor thread : ℕ) (entry : EventEntry) → Tells event.now address processor thread entry
+    ensures { (origin : Origin) (processor thread : ℕ) (entry : EventEntry) → Tells event.now origin processor thread entry
         → OnOk result (out.new.items ≡ out.old.items ++ (codes "{" ++ commas (place_members processor thread entry
         ++ definition_members entry.def ++ activity_members entry))) }
 {
@@ -100,7 +101,7 @@ fn put_head(out: &mut Vec<u8>, event: &EventLine<'_>) -> Result<(), AllocError>
 
 // Appends when and where an event was written.
 fn put_place(out: &mut Vec<u8>, event: &EventLine<'_>) -> Result<(), AllocError>
-    ensures { (address processor thread : ℕ) (entry : EventEntry) → Tells event.now address processor thread entry
+    ensures { (origin : Origin) (processor thread : ℕ) (entry : EventEntry) → Tells event.now origin processor thread entry
         → OnOk result (out.new.items ≡ out.old.items ++ (codes "{" ++ commas (place_members processor thread entry))) }
 {
     put_word(out, "{\"kind\":\"event\",\"stamp\":")?;
@@ -135,7 +136,7 @@ fn put_definition(out: &mut Vec<u8>, def: &EventDef) -> Result<(), AllocError>
 
 // Appends the activities of an event.
 fn put_activities(out: &mut Vec<u8>, event: &EventLine<'_>) -> Result<(), AllocError>
-    ensures { (address processor thread : ℕ) (entry : EventEntry) → Tells event.now address processor thread entry
+    ensures { (origin : Origin) (processor thread : ℕ) (entry : EventEntry) → Tells event.now origin processor thread entry
         → OnOk result (out.new.items ≡ out.old.items ++ behind_commas (activity_members entry)) }
 {
     put_word(out, ",\"activity\":")?;

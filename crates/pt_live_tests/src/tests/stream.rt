@@ -4,6 +4,7 @@ ghost use Rattle.std.specs.List.{list_all};
 ghost use Rattle.ep_defs.specs.declared.limits.TheConstants.{SESSIONS};
 ghost use Rattle.ep_defs.specs.Event.{is_valid_event};
 ghost use Rattle.ep_defs.specs.Session as valid;
+ghost use Rattle.ep_rundown.specs.Rundown.{lacks_rundown};
 ghost use Rattle.ep_guarded.specs.Granted.{IsGrantFor};
 ghost use Rattle.ep_live.specs.Made.{AreHandTies, AreStands};
 ghost use Rattle.pt_stream.specs.State.{first_seat};
@@ -16,6 +17,7 @@ use ep_defs::{
 use ep_guarded::{Agreed, Grant, Program};
 use ep_live::{Ended, Free, Live, free_slots};
 use ep_pool::{Pool, PoolSeat};
+use ep_rundown::rundown_def;
 use ep_stream::{Fate, SessionEnd};
 use ep_tie::{Blank, Right};
 use nt_write::Fault;
@@ -92,17 +94,29 @@ fn are_valid(events: &[EventDef]) -> bool
     events.iter().all(|event| event.is_valid())
 }
 
+fn lack_rundown(alloc: Global, events: &[EventDef]) -> Result<bool, AllocError>
+    ensures { IfOk result (λ lack. lack ≡ lacks_rundown events.now) }
+{
+    let rundown = rundown_def(alloc)?;
+    Ok(events.iter().all(|event| !event.is_same(&rundown)))
+}
+
 // The definitions of the program's events.
 fn events(rt: &impl Abort, alloc: Global) -> Vec<EventDef>
     ensures one { length result.items ≡ 1 }
     ensures valid { list_all is_valid_event result.items ≡ true }
+    ensures lacks { lacks_rundown result.items ≡ true }
 {
     let events = one_event(alloc).expect(rt, MEMORY);
     insist(rt, are_valid(events.as_slice()));
+    insist(
+        rt,
+        lack_rundown(alloc, events.as_slice()).expect(rt, MEMORY),
+    );
     events
 }
 
-// A session that gets all events of the provider P, with four chunks.
+// A session that gets all events of the provider P, with four chunks and a rundown.
 fn config(alloc: Global) -> Result<Config, AllocError>
     ensures { IfOk result (λ config. config.chunks ≡ 4) }
 {
@@ -115,7 +129,7 @@ fn config(alloc: Global) -> Result<Config, AllocError>
         rules: Items::new(Vec::from_array(alloc, [rule])?),
         chunks: 4,
         stackwalk: false,
-        rundown: false,
+        rundown: true,
     })
 }
 

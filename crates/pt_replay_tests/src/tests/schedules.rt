@@ -100,7 +100,7 @@ const BEHIND_THE_OPENING: [(&[u8], &[u8]); 35] = [
 ];
 
 /// Texts without a step, and what the replay answers.
-const TEXTS: [(&[u8], &[u8]); 9] = [
+const TEXTS: [(&[u8], &[u8]); 12] = [
     (b"", b"error: end: NotFinished 1\n"),
     (b"\n", b"error: end: NotFinished 1\n"),
     (
@@ -122,6 +122,18 @@ const TEXTS: [(&[u8], &[u8]); 9] = [
     (
         b"accept3 1 16 2 P:1:4\n",
         b"error: line 1 column 14: Number\n",
+    ),
+    (
+        b"accept4 1 16 2 1 P:1:4\n",
+        b"error: line 1 column 14: Number\n",
+    ),
+    (
+        b"accept4 1 16 1 2 P:1:4\n",
+        b"error: line 1 column 16: Number\n",
+    ),
+    (
+        b"event 1 Pipe-Rundown 1 0 4 0 EventDescription -\n",
+        b"error: line 1 column 1: Same\n",
     ),
     (b"enter 256\n", b"error: line 1 column 1: NoThread\n"),
     (b"enter 300\n", b"error: line 1 column 1: ThreadsFull\n"),

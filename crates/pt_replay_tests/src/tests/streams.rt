@@ -43,6 +43,27 @@ const NO_EVENTS: &[&[u8]] = &[
     b"\x18\0\0\0\0\0\0\xc8\0\0\0\0\0\0\0\x01\0\0\0\x01\0\0\0\0\0\0\0\0\0\0\0\x06\x01",
 ];
 
+/// What follows the start of the same two with a rundown: thread 0 is named first, and an event of it describes the
+/// definition that was used.
+const ONE_DESCRIBED: &[&[u8]] = &[
+    b"\x05\x05\x01\x02\0\0\0\x02\0\0\0\x0d\0\0\0MetadataBlock\x06\x96\0\0\0\0",
+    b"\x14\0\x01\0\0\0\0\0\0\0\0\0\0\0\0\0\0\0\0\0",
+    b"\xc0\0\x24\x01\0\0\0P\0\0\0\x01\0\0\0E\0\0\0\x01\0\0\0\0\0\0\0\0\0\0\0\x04\0\0\0\0\0\0\0",
+    b"\xc0\0\x58\x02\0\0\0P\0i\0p\0e\0-\0R\0u\0n\0d\0o\0w\0n\0\0\0\x01\0\0\0",
+    b"E\0v\0e\0n\0t\0D\0e\0s\0c\0r\0i\0p\0t\0i\0o\0n\0\0\0\0\0\0\0\0\0\0\0\0\0\0\0\x04\0\0\0\0\0\0\0\x06",
+    EVENTS,
+    b"\x4b\0\0\0\0\0\0\x14\0\x01\0\x64\0\0\0\0\0\0\0\xc8\0\0\0\0\0\0\0\x07\x01\0\x01\0\x01\x64",
+    b"\x87\x02\xff\xff\xff\xff\x0f\0\0\0\x64\x24",
+    b"\x01\0\0\0P\0\0\0\x01\0\0\0E\0\0\0\x01\0\0\0\0\0\0\0\0\0\0\0\x04\0\0\0\0\0\0\0\x06",
+    POINT,
+    b"\x24\0\0\0\0\xc8\0\0\0\0\0\0\0\x02\0\0\0\0\0\0\0\0\0\0\0\x01\0\0\0\x01\0\0\0\0\0\0\0\x01\0\0\0\x06\x01",
+];
+
+const NONE_DESCRIBED: &[&[u8]] = &[
+    POINT,
+    b"\x24\0\0\0\0\0\0\xc8\0\0\0\0\0\0\0\x02\0\0\0\0\0\0\0\0\0\0\0\0\0\0\0\x01\0\0\0\0\0\0\0\0\0\0\0\x06\x01",
+];
+
 /// The start of a stream, and what follows it.
 pub fn stream_of(alloc: Global, pieces: &[&[u8]]) -> Result<Vec<u8>, AllocError> {
     let mut stream = START.to_vec(alloc)?;
@@ -65,7 +86,7 @@ const ONE_FRAME: &[u8] =
 
 /// Schedules, the bytes that a read gives at most, and the length of the stream of session 1 with the bytes that follow
 /// its start.
-const SCHEDULES: [(&[&[u8]], usize, u64, &[&[u8]]); 9] = [
+const SCHEDULES: [(&[&[u8]], usize, u64, &[&[u8]]); 11] = [
     (&[WRITTEN, b"finish 1 200\n"], 4096, 310, ONE_EVENT),
     (&[WRITTEN, b"finish 1 200\n"], 1, 310, ONE_EVENT),
     // The last line feed may be missing.
@@ -75,6 +96,22 @@ const SCHEDULES: [(&[&[u8]], usize, u64, &[&[u8]]); 9] = [
         4096,
         158,
         NO_EVENTS,
+    ),
+    // With a rundown the definition that was used is described.
+    (
+        &[
+            b"event 1 P 1 0 4 1 E -\naccept4 1 16 1 1 P:1:4\nopen 1 1\n\
+            begin 1 100 1 - - - -\nshow 1 1\nend 1\nsteal 1 1\ngive 1\nclose 1 1\nfinish 1 200\n",
+        ],
+        4096,
+        462,
+        ONE_DESCRIBED,
+    ),
+    (
+        &[b"accept4 1 16 1 1 P:1:4\nopen 1 1\nclose 1 1\nfinish 1 200\n"],
+        4096,
+        170,
+        NONE_DESCRIBED,
     ),
     // A steal between the beginning of a write and its show takes nothing.
     (
@@ -375,7 +412,7 @@ fn report_of(
 }
 
 /// Schedules of session 1, the bytes that a read of its stream gives at most, and the report of the stream.
-const REPORTS: [(&[Piece], usize, &[u8]); 6] = [
+const REPORTS: [(&[Piece], usize, &[u8]); 7] = [
     // The second thread's first write finds the one chunk taken, and its second write gets it.
     (
         &[
@@ -409,6 +446,22 @@ const REPORTS: [(&[Piece], usize, &[u8]); 6] = [
         b"trace          8          1          1\nitems          3          1          0          2\n\
         provider          3 P\nevent          3          1          0 P E\n\
         thread          1          1          1          0\nthread        300          2          2          0\n",
+    ),
+    // Each definition that was used is described once, by an event of thread 0; the third one is not used.
+    (
+        &[(
+            b"event 1 P 1 0 4 1 A -\nevent 2 P 2 0 4 1 B -\nevent 3 P 3 0 4 1 C -\naccept4 1 16 0 1 P:1:4\nopen 1 1\n\
+            begin 1 1 2 - - - -\nshow 1 1\nend 1\nbegin 1 2 1 - - - -\nshow 1 1\nend 1\nbegin 1 3 2 - - - -\nshow 1 1\nend 1\n\
+            close 1 1\ngive 1\nfinish 1 9\n",
+            1,
+            1,
+        )],
+        4096,
+        b"trace          8          1          1\nitems          5          3          0          1\n\
+        provider          3 P\nprovider          2 Pipe-Rundown\n\
+        event          1          1          0 P A\nevent          2          2          0 P B\n\
+        event          2          1          0 Pipe-Rundown EventDescription\n\
+        thread          0          2          2          0\nthread          1          3          3          0\n",
     ),
     // One number is missing before the last event.
     (REFUSED_BEFORE_THE_END, 4096, MISSING_BEFORE),

@@ -6,7 +6,7 @@ use std::test::Fail;
 
 /// Words, whom a client finds where it calls, the status, what is written, and whether somebody is left whom it could have
 /// called.
-const CASES: [(&str, &[Peer], u8, &[u8], bool); 11] = [
+const CASES: [(&str, &[Peer], u8, &[u8], bool); 12] = [
     (
         "ps /x",
         &[PROGRAM],
@@ -61,6 +61,14 @@ const CASES: [(&str, &[Peer], u8, &[u8], bool); 11] = [
     ("ps /x", &[], status::LINK_FAULT, b"", false),
     ("stop /x 1", &[], status::LINK_FAULT, b"", false),
     ("collect /x 1 P:1:4", &[], status::LINK_FAULT, b"", false),
+    // So it is of a tool that a run calls.
+    (
+        "run 1 0 --reverse /x",
+        &[],
+        status::LINK_FAULT,
+        b"run          1          0\nconnections          0\n",
+        false,
+    ),
 ];
 
 // Nobody is called but for a client's words, and nobody is let in but for those of a run.
@@ -79,6 +87,25 @@ fn a_command_leaves_alone_what_it_has_no_use_for(rt: HostRuntime) -> Result<(), 
             (wanted, text, (true, is_left))
         );
     }
+    Ok(())
+}
+
+// Who waits for a program leaves those alone that it could call.
+#[test]
+fn nobody_comes_to_a_dock_without_links(rt: HostRuntime) -> Result<(), Fail> {
+    let asked = Asked {
+        called: &[PROGRAM],
+        ..words("greet /x")
+    };
+    let told = run(&rt, rt.alloc(), &asked)?;
+    assert_eq!(rt;
+        (told.status, told.written.as_slice(), told.left),
+        (
+            status::REFUSED,
+            b"error: no peer\n".as_slice(),
+            (false, true)
+        )
+    );
     Ok(())
 }
 

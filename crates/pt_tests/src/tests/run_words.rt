@@ -4,27 +4,30 @@ use pt_run::asked_of;
 use std::alloc::{AllocError, Global};
 use std::test::Fail;
 
-/// Threads, writes, seed, wait, streamers and lives.
-type Numbers = (u32, u32, u64, u32, u32, u32);
+/// Threads, writes, seed, wait, streamers, lives, and how many links to a tool there are, 0 where none is called.
+type Numbers = (u32, u32, u64, u32, u32, u32, u32);
 
 // Words that ask for a run.
-const GOOD: [(&str, Numbers); 6] = [
-    ("run 4 10000 --wait 2", (4, 10_000, 0, 2, 4, 1)),
-    ("run 1 0", (1, 0, 0, 1, 4, 1)),
-    ("run 256 4000000000", (256, 4_000_000_000, 0, 1, 4, 1)),
+const GOOD: [(&str, Numbers); 9] = [
+    ("run 4 10000 --wait 2", (4, 10_000, 0, 2, 4, 1, 0)),
+    ("run 1 0", (1, 0, 0, 1, 4, 1, 0)),
+    ("run 256 4000000000", (256, 4_000_000_000, 0, 1, 4, 1, 0)),
     (
         "run --lives=3 2 80 --streamers 1 --wait=1 --seed 18446744073709551615",
-        (2, 80, u64::MAX, 1, 1, 3),
+        (2, 80, u64::MAX, 1, 1, 3, 0),
     ),
-    ("run 002 80 --wait 64", (2, 80, 0, 64, 4, 1)),
+    ("run 002 80 --wait 64", (2, 80, 0, 64, 4, 1, 0)),
     (
         "run 2 80 --streamers 64 --lives 100",
-        (2, 80, 0, 1, 64, 100),
+        (2, 80, 0, 1, 64, 100, 0),
     ),
+    ("run 2 80 --reverse /x", (2, 80, 0, 1, 4, 1, 500)),
+    ("run 2 80 --reverse /x --calls 1", (2, 80, 0, 1, 4, 1, 1)),
+    ("run --calls=500 2 80 --reverse=x", (2, 80, 0, 1, 4, 1, 500)),
 ];
 
 // Words that ask for none.
-const BAD: [&str; 24] = [
+const BAD: [&str; 29] = [
     "",
     "run",
     "run 4",
@@ -47,6 +50,11 @@ const BAD: [&str; 24] = [
     "run 4 10000 --seed=",
     "run 4 10000 --wait 1 --wait 1",
     "run 4 10000 --mb 1",
+    "run 4 10000 --reverse",
+    "run 4 10000 --reverse=",
+    "run 4 10000 --calls 1",
+    "run 4 10000 --reverse /x --calls 0",
+    "run 4 10000 --reverse /x --calls 501",
     "run 4 10000 --help",
     "-- run 4 10000",
 ];
@@ -65,6 +73,10 @@ fn numbers(alloc: Global, words: &str) -> Result<Option<Numbers>, AllocError> {
         asked.wait,
         asked.streamers,
         asked.lives,
+        match asked.reverse {
+            Some(tool) => tool.calls,
+            None => 0,
+        },
     )))
 }
 

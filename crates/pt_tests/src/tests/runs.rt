@@ -2,7 +2,7 @@
 use super::peers::{
     INFO, JOBS, MOST, MOST_DEAF_1, MOST_DEAF_2, MOST_DEAF_3, MOST_DEAF_3_PART, MOST_UNHEARD, Peer,
 };
-use super::scene::{Asked, run, words};
+use super::scene::{ADVERT, Asked, run, words};
 use pt_command::status;
 use std::str;
 use std::test::Fail;
@@ -121,6 +121,61 @@ fn a_run_tells_of_its_sessions_and_ends_with_the_status_of_its_fault(
             peers,
             failing_turn,
             failing_write,
+            ..words(of)
+        };
+        let told = run(&rt, rt.alloc(), &asked)?;
+        assert_eq!(rt; (told.status, told.written.as_slice()), (wanted, text));
+    }
+    Ok(())
+}
+
+/// A run that calls a tool, whose links are those of the run of two sessions. Each of them has taken first who the program is.
+const CALLING: &str = "run 4 10000 --wait 2 --reverse /x --calls 2";
+
+#[test]
+fn a_run_calls_a_tool_and_says_first_who_it_is(rt: HostRuntime) -> Result<(), Fail> {
+    let asked = Asked {
+        called: &[MOST, JOBS, INFO],
+        ..words(CALLING)
+    };
+    let told = run(&rt, rt.alloc(), &asked)?;
+    let begins = told.begins.iter().all(|begin| *begin == ADVERT);
+    assert_eq!(rt;
+        (
+            told.status,
+            told.written.as_slice(),
+            told.begins.len(),
+            begins,
+            told.left
+        ),
+        (status::DONE, BOTH, 2, true, (false, true))
+    );
+    Ok(())
+}
+
+/// The words, whom a call of the tool leads to, the status, and what is written: a call that fails is a link fault, and so is
+/// a link that cannot take who the program is, which is no connection.
+const CALLS: [(&str, &[Peer], u8, &[u8]); 3] = [
+    ("run 1 0 --reverse /x", &[], status::LINK_FAULT, NOBODY),
+    (
+        "run 1 0 --reverse /x",
+        &[MOST_DEAF_1, JOBS],
+        status::LINK_FAULT,
+        NOBODY,
+    ),
+    (
+        "run 1 0 --reverse /x --calls 2 --streamers=64",
+        &[INFO, JOBS],
+        status::DONE,
+        ASKED,
+    ),
+];
+
+#[test]
+fn a_tool_that_cannot_be_called_is_a_link_fault(rt: HostRuntime) -> Result<(), Fail> {
+    for (of, called, wanted, text) in CALLS {
+        let asked = Asked {
+            called,
             ..words(of)
         };
         let told = run(&rt, rt.alloc(), &asked)?;

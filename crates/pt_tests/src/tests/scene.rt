@@ -14,6 +14,10 @@ use std::sync::Wait;
 use std::thread::Threads;
 use std::time::Clock as Timer;
 
+/// With which the program of these tests says who it is.
+pub(super) const ADVERT: [u8; 34] =
+    *b"ADVR_V1\0\x01\x01\x01\x01\x01\x01\x01\x01\x01\x01\x01\x01\x01\x01\x01\x01\x07\0\0\0\0\0\0\0\0\0";
+
 /// What is asked of the program, and what it has around it.
 #[derive(Clone, Copy, Debug)]
 pub(super) struct Asked<'a> {
@@ -46,8 +50,9 @@ pub(super) fn words(words: &str) -> Asked<'_> {
 pub(super) struct Told {
     pub(super) status: u8,
     pub(super) written: Vec<u8>,
-    /// How many bytes the link of each session of a run took, by id.
+    /// How many bytes the link of each session of a run took, by id, and the first of them.
     pub(super) taken: Vec<usize>,
+    pub(super) begins: Vec<[u8; 34]>,
     /// Whether somebody is left who could have come in, and whom it could have called.
     pub(super) left: (bool, bool),
 }
@@ -124,10 +129,12 @@ fn told_of(
     outside: &mut Outside,
 ) -> Result<Told, AllocError> {
     let taken = taken_of(alloc, end)?;
+    let begins = begins_of(alloc, end)?;
     Ok(Told {
         status: end.status,
         written: outside.output.taken().to_vec(alloc)?,
         taken,
+        begins,
         left: (comes(&mut outside.dock), is_there(&mut outside.caller)),
     })
 }
@@ -140,6 +147,25 @@ fn taken_of(alloc: Global, end: &Finished<MemLink>) -> Result<Vec<usize>, AllocE
         }
     }
     Ok(taken)
+}
+
+fn begins_of(alloc: Global, end: &Finished<MemLink>) -> Result<Vec<[u8; 34]>, AllocError> {
+    let mut begins = Vec::new(alloc);
+    if let Some(live) = &end.live {
+        for session in &live.sessions {
+            begins.push(begin_of(session.link.taken()))?;
+        }
+    }
+    Ok(begins)
+}
+
+// The first bytes, where there are as many.
+fn begin_of(bytes: &[u8]) -> [u8; 34] {
+    let mut begin = [0; 34];
+    if let Some(first) = bytes.get(..34) {
+        begin.copy_from_slice(first);
+    }
+    begin
 }
 
 fn comes(dock: &mut MemDock) -> bool {

@@ -3,7 +3,7 @@ use Rattle.ep_tables.specs.declared.judged.Judged.{Judged}
 use Rattle.ep_tables.specs.Judged.{step_of}
 use Rattle.ep_model.specs.declared.step.Step.TheVariants as step
 use Rattle.ep_core.specs.state.Works.{CanWork, MakesWith, EndedFollow}
-use Rattle.ep_core.proofs.Ending.{ended_after}
+use Rattle.ep_core.proofs.Ending.{ended_after, told_stays}
 use Rattle.ep_core.proofs.machine.make.Goals as goal
 
 pub returns-in-Leave-clause-works : goal.returns-in-Leave-clause-works
@@ -71,7 +71,7 @@ returns-in_ok-insert-in-Finish-clause-ended c events past =
     subst Keeps (sym c.in-Finish.is) (λ before follow other.
     ended_after events info past session stamp other c.in_ok-left-in-Finish.left _ _ (c.in_ok-insert-in-Finish.ensures.updates.0 other)
     (law.stays other past (step.Finish session stamp))
-    (law.same_entries events other past (step.Finish session stamp) before.lawful)
+    (λ done. told_stays events other past (step.Finish session stamp) (law.same_config events other past (step.Finish session stamp) before.lawful done) (law.same_entries events other past (step.Finish session stamp) before.lawful done))
     (law.same_marks events other past (step.Finish session stamp) before.lawful)
     (c.in_ok-left-in-Finish.ensures.ended events info past before)
     (follow other))

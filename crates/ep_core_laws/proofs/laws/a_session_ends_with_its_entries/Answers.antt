@@ -6,5 +6,5 @@ pub returns : goal.returns
 returns c =
     record {
       marks = λ events info past session stamp tables begun end before. ends_marks c.the_last_marks_are_all.ensures events info past session stamp tables end (stands before);
-      stream = λ events info past session stamp tables begun end before. ends_stream c.entries_are_what_was_told.ensures.finished events info past session stamp tables end (stands before);
+      stream = λ events info past session stamp tables begun end before. ends_stream c.a_finished_session_tells_its_last_entries.ensures events info past session stamp tables end (stands before);
     }

@@ -11,4 +11,4 @@ returns-clause-read c =
     let first = a.1.words in
     let second = b.1.words in
     let words : codes "accept" ∷ left c.args.words.now ≡ codes "accept" ∷ a.0 ∷ b.0 ∷ left c.number-2.new.self = cc in
-    (a.0, b.0, left c.number-2.new.self, inl (words, refl), a.2, b.2, c.in_ok-rules.ensures.read, refl)
+    (a.0, b.0, left c.number-2.new.self, inl (words, refl, refl), a.2, b.2, c.in_ok-rules.ensures.read)

@@ -1,4 +1,4 @@
-use Rattle.std.proofs.Common.{◌≡◌, ◌∷◌, codes, inr, refl}
+use Rattle.std.proofs.Common.{◌≡◌, ◌∷◌, codes, inl, inr, refl}
 use Rattle.ep_plan.specs.Lines.{Spells}
 use Rattle.ep_plan.specs.Cursor.{left}
 use Rattle.ep_plan.proofs.step.read_accept3.Goals as goal
@@ -13,4 +13,4 @@ returns-clause-read c =
     let second = b.1.words in
     let third = flag.1.words in
     let words : codes "accept3" ∷ left c.args.words.now ≡ codes "accept3" ∷ a.0 ∷ b.0 ∷ flag.0 ∷ left c.flag.new.self = cc in
-    (a.0, b.0, left c.flag.new.self, inr (flag.0, words, flag.2), a.2, b.2, c.in_ok-rules.ensures.read, refl)
+    (a.0, b.0, left c.flag.new.self, inr (inl (flag.0, words, flag.2, refl)), a.2, b.2, c.in_ok-rules.ensures.read)

@@ -4,7 +4,7 @@ use Rattle.pt_cli.specs.declared.words.Command.{Command}
 use Rattle.pt_cli.specs.Program.{Around, HasFaults}
 use Rattle.pt_command.specs.declared.end.End.TheVariants as ends
 use Rattle.pt_cli.proofs.Causes.{comes-faults}
-use Rattle.pt_cli.proofs.Nothing.{unlisted}
+use Rattle.pt_cli.proofs.Nothing.{ungreeted, unlisted, unran}
 use Rattle.pt_cli.proofs.top.tracepipe.Goals as goal
 
 pub returns-in-Ok-clause-replayed : goal.returns-in-Ok-clause-replayed
@@ -30,6 +30,9 @@ returns-in-Ok-clause-ran g c = λ asked is. rw (c.in-Ok.ensures.meant ∙ is) at
 
 pub returns-in-Ok-clause-asked : goal.returns-in-Ok-clause-asked
 returns-in-Ok-clause-asked g c = λ asked is. rw (c.in-Ok.ensures.meant ∙ is) at c.carry_out.ensures.comes
+
+pub returns-in-Ok-clause-greeted : goal.returns-in-Ok-clause-greeted
+returns-in-Ok-clause-greeted g c = λ target is. rw (c.in-Ok.ensures.meant ∙ is) at c.carry_out.ensures.comes
 
 pub returns-in-Ok-clause-words : goal.returns-in-Ok-clause-words
 returns-in-Ok-clause-words g c = λ is. rw (c.in-Ok.ensures.meant ∙ is) at c.carry_out.ensures.comes
@@ -61,3 +64,12 @@ returns-in-Ok-clause-faults g c =
 -- Where the words found no memory nothing was listed.
 pub returns-in-Err-clause-listed : goal.returns-in-Err-clause-listed
 returns-in-Err-clause-listed g c = λ form is. (ends.OutOfMemory, c.ended_with.ensures.ended, unlisted g.I.Source g.O.Sink form c.args.input.now c.args.output.now)
+
+-- Nor was a run begun, or a program waited for.
+pub returns-in-Err-clause-ran : goal.returns-in-Err-clause-ran
+returns-in-Err-clause-ran g c = λ asked is.
+    (ends.OutOfMemory, c.ended_with.ensures.ended, (rw c.ended_with.ensures.peer (rw c.ended_with.ensures.live (unran g.O.Sink g.D.Dock g.K.Caller g.L.Sink g.L.Sink.read_side g.L.Source.write_side asked c.args.facts.now c.args.output.now c.args.dock.now c.args.caller.now asked.reverse))))
+
+pub returns-in-Err-clause-greeted : goal.returns-in-Err-clause-greeted
+returns-in-Err-clause-greeted g c = λ target is.
+    (ends.OutOfMemory, c.ended_with.ensures.ended, (rw c.ended_with.ensures.peer (ungreeted g.O.Sink g.D.Dock g.L.Source g.L.Sink c.args.output.now c.args.dock.now)))

@@ -1,7 +1,7 @@
 -- How the command ended.
 use Rattle.std.proofs.Common.{ap, ◌∙◌, inl, inr}
 use Rattle.std.specs.Prelude.{Err}
-use Rattle.pt_events.proofs.Ending.{done, refused, broke, spent, spent-end, unread, unwritten}
+use Rattle.pt_events.proofs.Ending.{done, undone, refused, broke, spent, spent-end, unread, unwritten}
 use Rattle.pt_events.proofs.command.write_events.Goals as goal
 
 pub write_pieces-requires-clause-fresh : goal.write_pieces-requires-clause-fresh
@@ -14,20 +14,24 @@ returns-in-Ok g c =
     let form = c.args.form in
     let all = c.in-Ok.ensures.all in
     let bytes = all.0 in
-    let text = all.1 in
+    let lines = all.1 in
     let input = c.write_pieces.new.input in
     let output = c.write_pieces.new.output in
     let told = c.write_pieces.ensures.told in
     let is = c.in-Ok.is in
     let sound = c.write_pieces.ensures.read (λ wrong. cc) in
-    elim (c.write_end.ensures bytes text all.2) [
-      | inl end ↦ done source sink form c.args.input.now input c.args.output.now output c.write_end.new.output bytes text _ all.3 sound all.4 end.0 end.1 end.2
+    elim (c.write_end.ensures bytes lines all.2) [
+      | inl end ↦
+          elim end.1 [
+            | inl said ↦ done source sink form c.args.input.now input c.args.output.now output c.write_end.new.output bytes lines _ all.3 sound told all.4 end.0 said.0 said.1
+            | inr said ↦ undone source sink form c.args.input.now input c.args.output.now output c.write_end.new.output bytes lines _ all.3 sound told all.4 end.0 said.0 said.1
+          ]
       | inr (inl end) ↦
           elim end.2 [
-            | inl said ↦ refused source sink form c.args.input.now input c.args.output.now output c.write_end.new.output bytes text _ end.0 all.3 sound told all.4 end.1 said.0 said.1
-            | inr said ↦ broke source sink form c.args.input.now input c.args.output.now output c.write_end.new.output bytes text _ end.0 all.3 sound told all.4 end.1 said.0 said.1
+            | inl said ↦ refused source sink form c.args.input.now input c.args.output.now output c.write_end.new.output bytes lines _ end.0 all.3 sound told all.4 end.1 said.0 said.1
+            | inr said ↦ broke source sink form c.args.input.now input c.args.output.now output c.write_end.new.output bytes lines _ end.0 all.3 sound told all.4 end.1 said.0 said.1
           ]
-      | inr (inr end) ↦ spent-end source sink form c.args.input.now input c.args.output.now output c.write_end.new.output bytes text c.write_pieces.new.reading _ all.2 all.3 sound all.4 end.0 end.1
+      | inr (inr end) ↦ spent-end source sink form c.args.input.now input c.args.output.now output c.write_end.new.output bytes lines c.write_pieces.new.reading _ all.2 all.3 sound all.4 end.0 end.1
     ]
 
 pub returns : goal.returns

@@ -11,4 +11,4 @@ abbrev pub invariant-loop-thread : goal.invariant-loop-thread
 invariant-loop-thread l =
     (past : List (ℕ × Sighting)) → HasSeen past l.fn.lasts
     → HasSeen (past ++ known_by (take l.thread-index l.threads)) l.lasts
-    × Appends (AreLines l.fn.form (lost_lines past (known_by (take l.thread-index l.threads)))) l.fn.out.items l.out.items
+    × Appends (AreLines l.fn.form (lost_lines l.origin l.stamp past (known_by (take l.thread-index l.threads)))) l.fn.out.items l.out.items

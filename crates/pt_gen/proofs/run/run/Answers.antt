@@ -1,5 +1,5 @@
 -- Each step can be made, by the law of the schedule.
-use Rattle.std.proofs.Common.{◌≡◌, List, [], ◌∷◌, ◌++◌, Some, None, Err, length, reverse, sym, ap, subst, ◌∙◌, arith}
+use Rattle.std.proofs.Common.{◌≡◌, List, [], ◌∷◌, ◌++◌, Some, None, Err, length, reverse, refl, sym, ap, subst, ◌∙◌, arith}
 use Rattle.ep_defs.specs.Session.{standard_info_of}
 use Rattle.ep_model.specs.declared.step.Kind.{Kind}
 use Rattle.ep_model.specs.declared.step.Step.{Step}
@@ -20,6 +20,9 @@ new-requires-clause-valid c = rw c.in_ok-sample_events.ensures c.sample_events_a
 
 pub new-requires-clause-distinct : goal.new-requires-clause-distinct
 new-requires-clause-distinct c = rw c.in_ok-sample_events.ensures c.sample_events_are_valid.ensures.distinct
+
+pub new-requires-clause-lacks : goal.new-requires-clause-lacks
+new-requires-clause-lacks c = rw c.in_ok-sample_events.ensures c.sample_events_are_valid.ensures.lacks
 
 pub loop-machine-init : goal.loop-machine-init
 loop-machine-init c =

@@ -23,5 +23,5 @@ invariant_of-result g c =
       rows_are = threads ∙ sym w.rows_are;
       few_rows = omega (arith, w.rows_are, w.few);
       writes_are = λ thread. ap (λ (ws : ℕ → List Write). length (ws thread)) w.writes_are ∙ count-writes g.W.World.world.plan thread ∙ sym writes;
-      events_are = subst AreEvents (sym w.events_are) (record { few = valid.few; valid = valid.valid; distinct = valid.distinct });
+      events_are = subst AreEvents (sym w.events_are) (record { few = valid.few; valid = valid.valid; distinct = valid.distinct; lacks = valid.lacks });
     }

@@ -6,10 +6,10 @@ use Rattle.pt_lines.proofs.Steps.{event-put}
 use Rattle.pt_lines.proofs.line.put_event_line.Goals as goal
 
 pub returns : goal.returns
-returns c = λ address processor thread entry tells.
+returns c = λ origin processor thread entry tells.
     on_ok_weaker c.put_end.result
     (λ e.
-    event-put address processor thread entry c.as_slice.result.now c.args.event.now.payload.now c.args.out.now.items c.put_event_start.new.out.items c.put_payload.new.out.items _
+    event-put origin processor thread entry c.as_slice.result.now c.args.event.now.payload.now c.args.out.now.items c.put_event_start.new.out.items c.put_payload.new.out.items _
     (c.as_slice.ensures ∙ ap (λ (def : EventDef). def.fields) tells.def) tells.payload
-    (c.in_ok-put_event_start.ensures address processor thread entry tells) c.in_ok-put_payload.ensures e)
+    (c.in_ok-put_event_start.ensures origin processor thread entry tells) c.in_ok-put_payload.ensures e)
     c.put_end.ensures.ok

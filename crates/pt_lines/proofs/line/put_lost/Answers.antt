@@ -9,4 +9,4 @@ pub returns-then-count-eq0 : goal.returns-then-count-eq0
 returns-then-count-eq0 c = rw c.if-count-eq0.true (nothing (AreLines c.args.form []) c.args.out.now.items refl)
 
 pub returns : goal.returns
-returns c = lost-put c.args.form c.put_one_lost.result c.args.out.now.items _ c.args.thread c.args.count (ne_eqb c.args.count 0 c.if-count-eq0.false) c.put_one_lost.ensures
+returns c = lost-put c.args.form c.put_one_lost.result c.args.out.now.items _ c.args.origin c.args.stamp c.args.thread c.args.count (ne_eqb c.args.count 0 c.if-count-eq0.false) c.put_one_lost.ensures

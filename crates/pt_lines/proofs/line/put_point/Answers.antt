@@ -6,3 +6,6 @@ returns-in-Lines c = rw c.in-Lines.is (said-eq c.put_point_line.result _ _ _ c.p
 
 pub returns-in-Json : goal.returns-in-Json
 returns-in-Json c = rw c.in-Json.is (said-eq c.put_point.result _ _ _ c.put_point.ensures)
+
+pub returns-in-Chromium : goal.returns-in-Chromium
+returns-in-Chromium c = rw c.in-Chromium.is (said-eq c.put_point-in-Chromium.result _ _ _ c.put_point-in-Chromium.ensures)

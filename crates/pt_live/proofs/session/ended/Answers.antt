@@ -1,9 +1,10 @@
 use Rattle.std.proofs.Common.{◌∙◌, inl, inr, List, length, sym, ap, subst, arith}
 use Rattle.std.specs.List.{AllByRecursion}
+use Rattle.ep_defs.specs.declared.event.EventDef.{EventDef}
 use Rattle.ep_defs.specs.declared.session.Marks.{Marks}
 use Rattle.ep_defs.specs.declared.session.Write.{Write}
 use Rattle.pt_load.specs.declared.plan.Plan.{Plan}
-use Rattle.pt_stream.specs.State.{EndsAt}
+use Rattle.pt_stream.specs.State.{AreEvents, EndsAt}
 use Rattle.pt_writers.proofs.Load.{count-writes}
 use Rattle.pt_live.proofs.Ending.{ended-at, faulty-memory, memory-apart, never-asked, own-end, spent-so}
 use Rattle.pt_live.proofs.Firsts.{all-done}
@@ -36,6 +37,12 @@ end-end-requires-clause-done g c is =
           (λ thread. ap (λ (ws : List Write). length ws) (c.args.around.now.is_run.writes_are thread) ∙ count-writes c.args.around.now.plan.now thread ∙ ap (λ (p : Plan). p.writes) c.args.around.now.plan_is)
           (c.close_all-streaming.ensures.ends g.P.SampleRun.plan.writes why.2 (subst (λ (ms : List Marks). AllByRecursion (EndsAt g.P.SampleRun.plan.writes) ms) (sym c.requires.marks) tt))
     ]
+
+pub end-end-requires-clause-events : goal.end-end-requires-clause-events
+end-end-requires-clause-events g c =
+    let sound = c.sample_events_are_valid.ensures in
+    subst (λ (es : List EventDef). AreEvents es) (sym c.args.around.now.is_run.events_are)
+    (record { few = sound.few; valid = sound.valid; distinct = sound.distinct; lacks = sound.lacks })
 
 pub returns-clause-ended : goal.returns-clause-ended
 returns-clause-ended g c to stands =

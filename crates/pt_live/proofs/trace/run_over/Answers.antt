@@ -51,13 +51,13 @@ returns-in-Ok-start-clause-traces g c =
     let writes = ap (λ (p : Plan). p.writes) c.args.around.now.plan_is in
     let most : plan.writes ≤ WRITES = omega (arith, writes, c.args.around.now.is_run.few_writes) in
     traces-by g.O.Sink run.info plan run.config old last.lent.output.now c.streamed-output.result.1 _ _ _ _
-    (λ end rows ended spent. traces-end _ g.O.Sink _ run plan old _ c.requires.lent (λ l. refl) (λ l. refl) (λ l. refl) (record { traces = c.a_traced_stream_is_found.ensures sample run.config (writes_of plan); parts = c.a_part_is_found.ensures sample run.config (writes_of plan) }) end g.P.Program.rows last most rows all
+    (λ end rows ended spent. traces-end _ g.O.Sink _ run plan old _ c.requires.lent (λ l. refl) (λ l. refl) (λ l. refl) (record { traces = c.a_traced_stream_is_found.ensures sample run.config (writes_of plan); parts = c.a_part_is_found.ensures sample run.config (writes_of plan); lacks = c.sample_events_are_valid.ensures.lacks }) end g.P.Program.rows last most rows all
     (of-sample _ run plan g.P.Program.events g.P.Program.writes g.P.Program.rows plan.writes _ end.marks end.fate last c.args.around.now.is_run.events_are c.requires.writes ended)
     spent)
     (λ ended told.
     let (opened, marks, end, few, e) = ended in
     let within : opened ≤ plan.threads = omega (arith, few, all) in
-    unwritten-end _ g.O.Sink _ run plan old _ c.requires.lent (λ l. refl) (λ l. refl) (λ l. refl) (record { traces = c.a_traced_stream_is_found.ensures sample run.config (writes_of plan); parts = c.a_part_is_found.ensures sample run.config (writes_of plan) }) opened marks end last most within
+    unwritten-end _ g.O.Sink _ run plan old _ c.requires.lent (λ l. refl) (λ l. refl) (λ l. refl) (record { traces = c.a_traced_stream_is_found.ensures sample run.config (writes_of plan); parts = c.a_part_is_found.ensures sample run.config (writes_of plan); lacks = c.sample_events_are_valid.ensures.lacks }) opened marks end last most within
     (of-sample _ run plan g.P.Program.events g.P.Program.writes opened 0 _ marks end last c.args.around.now.is_run.events_are c.requires.writes e)
     told)
     c.streamed-output.ensures.rows
@@ -71,7 +71,7 @@ returns-in-OutOfMemory-clause-traces g c =
     let plan = g.P.SampleRun.plan in
     let start = rw c.requires.asked.0 at c.in-Err-start.ensures.part in
     traces-memory g.O.Sink run.info plan run.config _ _ _
-    (unwritten-start run plan (record { traces = c.a_traced_stream_is_found.ensures sample run.config (writes_of plan); parts = c.a_part_is_found.ensures sample run.config (writes_of plan) }) g.O.Sink _ c.args.lent.output.now c.in-Err-start.failed.sink.lent.output.now c.requires.lent start)
+    (unwritten-start run plan (record { traces = c.a_traced_stream_is_found.ensures sample run.config (writes_of plan); parts = c.a_part_is_found.ensures sample run.config (writes_of plan); lacks = c.sample_events_are_valid.ensures.lacks }) g.O.Sink _ c.args.lent.output.now c.in-Err-start.failed.sink.lent.output.now c.requires.lent start)
 
 pub returns : goal.returns
 returns g c =
@@ -83,7 +83,7 @@ returns g c =
       same = sink.same ∙ sym c.requires.lent.same;
       traces =
           ended-so
-          (traces-none run plan (record { traces = c.a_traced_stream_is_found.ensures sample run.config (writes_of plan); parts = c.a_part_is_found.ensures sample run.config (writes_of plan) }) g.O.Sink _ c.args.lent.output.now sink.lent.output.now c.requires.lent _
+          (traces-none run plan (record { traces = c.a_traced_stream_is_found.ensures sample run.config (writes_of plan); parts = c.a_part_is_found.ensures sample run.config (writes_of plan); lacks = c.sample_events_are_valid.ensures.lacks }) g.O.Sink _ c.args.lent.output.now sink.lent.output.now c.requires.lent _
           c.untold-rows.ensures
           (c.new-marks.ensures ∙ c.new-in_default.ensures.items)
           refl

@@ -26,9 +26,9 @@ pub returns-clause-whole : goal.returns-clause-whole
 returns-clause-whole c = λ items entries bytes found told. (items, found, ordered items entries told)
 
 pub returns-clause-threads : goal.returns-clause-threads
-returns-clause-threads c = λ definitions session past items entries bytes text lawful finished told faithful found report.
+returns-clause-threads c = λ definitions session past items bytes text lawful finished told found report.
     record {
       report = report;
       lines_are = ap (λ (those : List Item). thread_lines (kinds_of those)) (same items bytes text found report)
-          ∙ c.a_report_has_a_line_for_each_thread.ensures definitions session past items entries lawful finished told faithful;
+          ∙ c.a_report_has_a_line_for_each_thread.ensures definitions session past items lawful finished told;
     }

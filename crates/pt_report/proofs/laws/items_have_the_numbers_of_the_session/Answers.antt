@@ -1,19 +1,30 @@
-use Rattle.std.proofs.Common.{◌∙◌}
-use Rattle.ep_model.specs.Faithful.{shares_of}
-use Rattle.ep_model.specs.History.{opened}
-use Rattle.pt_report.proofs.Sessions.{session_told, is_of-shares}
+use Rattle.pt_report.proofs.WithRundown.{told_known, told_unknown}
 use Rattle.pt_report.proofs.laws.items_have_the_numbers_of_the_session.Goals as goal
 
-pub returns : goal.returns
-returns c =
-    record {
-      numbers = λ definitions session thread past items entries lawful finished tell faithful was.
-          session_told definitions session thread past items entries faithful
-          (c.lawful_lists_are_limited.ensures.begins definitions past lawful)
-          (c.finished_sessions_are_faithful.ensures.counted definitions session thread past lawful finished was)
-          (c.items_have_the_numbers_of_their_shares.ensures.numbers (shares_of definitions session past) items entries tell faithful)
-          was;
-      none = λ definitions session thread past items entries tell faithful unopened.
-          c.items_have_the_numbers_of_their_shares.ensures.none (shares_of definitions session past) items entries thread tell faithful
-          (is_of-shares definitions session thread past (opened session past) ∙ unopened);
-    }
+pub returns-clause-numbers : goal.returns-clause-numbers
+returns-clause-numbers c definitions session thread past items lawful finished tell is =
+    told_known definitions session thread past items
+    (record {
+      faithful = c.finished_sessions_are_faithful.ensures.faithful definitions session past lawful finished;
+      no_0 = c.the_program_has_no_thread_0.ensures.shares definitions session past lawful;
+      limited = c.lawful_lists_are_limited.ensures.begins definitions past lawful;
+      counted = λ t. c.finished_sessions_are_faithful.ensures.counted definitions session t past lawful finished;
+      with_0 = c.a_rundown_tells_of_thread_0.ensures;
+      numbers = c.items_have_the_numbers_of_their_shares.ensures.numbers;
+      none = c.items_have_the_numbers_of_their_shares.ensures.none;
+      tell = tell;
+    }) is
+
+pub returns-clause-none : goal.returns-clause-none
+returns-clause-none c definitions session thread past items lawful finished tell is =
+    told_unknown definitions session thread past items
+    (record {
+      faithful = c.finished_sessions_are_faithful.ensures.faithful definitions session past lawful finished;
+      no_0 = c.the_program_has_no_thread_0.ensures.shares definitions session past lawful;
+      limited = c.lawful_lists_are_limited.ensures.begins definitions past lawful;
+      counted = λ t. c.finished_sessions_are_faithful.ensures.counted definitions session t past lawful finished;
+      with_0 = c.a_rundown_tells_of_thread_0.ensures;
+      numbers = c.items_have_the_numbers_of_their_shares.ensures.numbers;
+      none = c.items_have_the_numbers_of_their_shares.ensures.none;
+      tell = tell;
+    }) is

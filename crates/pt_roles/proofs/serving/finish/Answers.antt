@@ -19,7 +19,7 @@ new-finale-requires-clause-ended g c =
     in
     let fact : IsEnd {L = g.row.L.Denot} g.L.Sink.read_side g.L.Sink world session = is-end g.L.Sink.read_side g.L.Sink _ (λ s. refl) (λ s. refl) (λ s. refl) (λ s. refl) world g.W.Program.rows g.W.Program.events g.W.Program.writes g.W.Run.setting g.W.Process.facts g.W.Process.greeting c.args.stream c.args.fate c.end-end.result.0 session
     c.args.scene.now.is_world
-    (c.a_traced_stream_is_found.ensures sample session.config (writes_of world.plan)) (c.a_part_is_found.ensures sample session.config (writes_of world.plan))
+    (c.a_traced_stream_is_found.ensures sample session.config (writes_of world.plan)) (c.a_part_is_found.ensures sample session.config (writes_of world.plan)) c.sample_events_are_valid.ensures.lacks
     c.requires.last.asked c.requires.own.1 c.requires.complete c.requires.done c.end-end.ensures.ended c.session_of-session.ensures.left spent
     in
     search (rules, fact)

@@ -1,5 +1,9 @@
-use Rattle.std.proofs.Common.{ap, sym, ◌∙◌, refl, ℕ}
+use Rattle.std.proofs.Common.{true, List, ap, sym, ◌∙◌, refl, subst, ℕ}
 use Rattle.std.specs.Prelude.{◌==◌, option_map}
+use Rattle.ep_defs.specs.declared.event.EventDef.{EventDef}
+use Rattle.pt_io.specs.Memory.{SinkState}
+use Rattle.ep_stream.specs.Session.{Ended}
+use Rattle.ep_stream.specs.declared.session.Fate.TheVariants.{ProgramEnd}
 use Rattle.ep_tables.specs.declared.tables.Present.{Present}
 use Rattle.ep_tables.specs.Can.{IsNowhere, HasEmptyHand}
 use Rattle.ep_tables.proofs.Found.{All-at}
@@ -72,5 +76,5 @@ returns-clause-ended c =
         there = found_there (λ (p : Present). p.number == c.args.of.session) c.args.self.now.present.items c.args.of.place c.remove-present.result c.requires.ready.there c.remove-present.ensures.value;
       };
       marks = c.finish.ensures.marks;
-      ended = c.finish.ensures.ended;
+      ended = subst (λ (es : List EventDef). Ended (λ (s : SinkState). true) (λ (s : SinkState). s.taken) (λ (s : SinkState). s.faults) es c.args.stamp ProgramEnd c.remove-present.result.session c.finish.result.fate c.finish.result.sink) c.as_slice.ensures.value c.finish.ensures.ended;
     }

@@ -11,7 +11,7 @@ returns-clause-tied c =
     let none = sym c.new-2.ensures.items in
     record {
       known = c.in_ok-rows.ensures.definitions ∙ c.in_ok-copies.ensures ∙ c.as_slice.ensures.value;
-      can_be_told = record { few = c.requires.few; valid = c.requires.valid; distinct = c.requires.distinct };
+      can_be_told = record { few = c.requires.few; valid = c.requires.valid; distinct = c.requires.distinct; lacks = c.requires.lacks };
       sessions = subst (AllByRecursion (IsTied c.in_ok-rows.rows)) none tt;
       own_slots = subst HaveOwnSlots none tt;
       held = λ slot. ap (λ t. is_held t slot) c.new-3.ensures ∙ none_held 64 slot ∙ ap (has_slot slot) none;

@@ -12,4 +12,9 @@ returns c defs =
           λ number def at.
           ap (λ (xs : List ℕ). slice_index xs number) (c.in_ok-table.ensures.items_if_clones_equal (λ y e. e))
           ∙ slice_index-zeros (LAST_EVENT + 1) number;
+      none_is =
+          λ number none.
+          ap (λ (xs : List ℕ). slice_index xs number) (c.in_ok-table.ensures.items_if_clones_equal (λ y e. e))
+          ∙ slice_index-zeros (LAST_EVENT + 1) number;
+      numbers = refl;
     }

@@ -9,8 +9,8 @@ use Rattle.nt_check.specs.Faults.{disorder_of}
 use Rattle.nt_check.specs.state.Took.{names_at}
 use Rattle.pt_lines.specs.Forms.{AreLines}
 use Rattle.pt_lines.proofs.Steps.{nothing}
-use Rattle.pt_events.specs.Lines.{sighted}
-use Rattle.pt_events.specs.state.Listed.{address_at}
+use Rattle.pt_events.specs.Lines.{sighted, unsaid}
+use Rattle.pt_events.specs.state.Listed.{origin_at}
 use Rattle.pt_events.proofs.Items.{listed-kind, listed-quiet, refused-kind, event-lines, found-told, told-none, passed-fault}
 use Rattle.pt_events.specs.state.Known.{IsFound}
 use Rattle.pt_events.proofs.listing.Listing.item.Goals as goal
@@ -86,10 +86,10 @@ returns-in_ok-put_all-in-Event-clause-lines c = λ kinds had.
     let found : IsFound names e.metadata e.stack def bytes = rw (c.in_ok-def-in-Event.def-is, c.in_ok-def-in-Event.stack-is) (c.in_ok-def-in-Event.ensures names had.names) in
     let entry : EventEntry = record { thread = e.capture; number = e.number; stamp = e.stamp; def = def; activity = e.activity; related = e.related; stack = bytes; payload = e.payload } in
     rw e.is
-    (event-lines c.args.form names past (address_at 0 kinds) e.metadata e.number e.capture e.processor e.thread e.stack e.stamp e.activity e.related e.payload def bytes c.args.out.now.items c.put_all.new.out.items found
-    (c.in_ok-put_all-in-Event.ensures.lines past (address_at 0 kinds) e.processor e.thread entry had.lasts
+    (event-lines c.args.form names past (origin_at unsaid kinds) e.metadata e.number e.capture e.processor e.thread e.stack e.stamp e.activity e.related e.payload def bytes c.args.out.now.items c.put_all.new.out.items found
+    (c.in_ok-put_all-in-Event.ensures.lines past (origin_at unsaid kinds) e.processor e.thread entry had.lasts
     (record {
-      address = had.address;
+      origin = had.origin;
       processor = refl;
       thread_id = refl;
       stamp = refl;

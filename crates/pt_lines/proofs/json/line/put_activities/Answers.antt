@@ -7,7 +7,7 @@ use Rattle.pt_lines.proofs.Steps.{onto, then}
 use Rattle.pt_lines.proofs.json.line.put_activities.Goals as goal
 
 pub returns : goal.returns
-returns c = λ address processor thread entry tells.
+returns c = λ origin processor thread entry tells.
     let event = c.args.event.now in
     let first = uuid_text event.activity.now in
     let second = uuid_text event.related.now in

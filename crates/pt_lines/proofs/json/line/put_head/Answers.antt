@@ -6,11 +6,11 @@ use Rattle.pt_lines.proofs.Objects.{head-put}
 use Rattle.pt_lines.proofs.json.line.put_head.Goals as goal
 
 pub returns : goal.returns
-returns c = λ address processor thread entry tells.
+returns c = λ origin processor thread entry tells.
     let first = c.put_place.new.out.items in
     on_ok_weaker c.put_activities.result
     (λ e.
     head-put processor thread entry c.args.out.now.items first c.put_definition.new.out.items _
-    (c.in_ok-put_place.ensures address processor thread entry tells)
+    (c.in_ok-put_place.ensures origin processor thread entry tells)
     (c.in_ok-put_definition.ensures ∙ ap (λ (def : EventDef). first ++ behind_commas (definition_members def)) tells.def) e)
-    (c.put_activities.ensures address processor thread entry tells)
+    (c.put_activities.ensures origin processor thread entry tells)

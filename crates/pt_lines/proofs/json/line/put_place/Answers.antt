@@ -7,7 +7,7 @@ use Rattle.pt_lines.proofs.Steps.{onto, then, then-by}
 use Rattle.pt_lines.proofs.json.line.put_place.Goals as goal
 
 pub returns : goal.returns
-returns c = λ address processor thread entry tells.
+returns c = λ origin processor thread entry tells.
     let event = c.args.event.now in
     let stamped = then (integer event.thread) (then (codes ",\"thread\":") (then (integer event.stamp) c.in_ok-put_word.ensures.ok c.in_ok-put_integer.ensures) c.in_ok-put_word-2.ensures.ok) c.in_ok-put_integer-2.ensures in
     let numbered = then (codes ",\"processor\":") (then-by integer c.from.result event.number c.from.ensures (then (codes ",\"number\":") stamped c.in_ok-put_word-3.ensures.ok) c.in_ok-put_integer-3.ensures) c.in_ok-put_word-4.ensures.ok in

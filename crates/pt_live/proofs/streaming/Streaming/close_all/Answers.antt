@@ -14,7 +14,7 @@ pub close_row-stream-requires-clause-events : goal.close_row-stream-requires-cla
 close_row-stream-requires-clause-events g c =
     let sound = c.sample_events_are_valid.ensures in
     subst (λ (es : List EventDef). AreEvents es) (sym c.args.around.now.is_run.events_are)
-    (record { few = sound.few; valid = sound.valid; distinct = sound.distinct })
+    (record { few = sound.few; valid = sound.valid; distinct = sound.distinct; lacks = sound.lacks })
 
 pub loop-place-preserved : goal.loop-place-preserved
 loop-place-preserved g c =

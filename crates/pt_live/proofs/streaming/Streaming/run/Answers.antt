@@ -8,5 +8,5 @@ sweep-swept-requires g c =
     let sound = c.sample_events_are_valid.ensures in
     record {
       events = subst (λ (es : List EventDef). AreEvents es) (sym c.args.around.now.is_run.events_are)
-          (record { few = sound.few; valid = sound.valid; distinct = sound.distinct });
+          (record { few = sound.few; valid = sound.valid; distinct = sound.distinct; lacks = sound.lacks });
     }

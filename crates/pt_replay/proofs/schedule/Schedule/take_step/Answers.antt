@@ -30,6 +30,7 @@ returns-clause-taken c = λ lines stands.
         few = stands.few;
         valid = stands.valid;
         distinct = stands.distinct;
+        lacks = stands.lacks;
         lawful = (stands.lawful, lawful);
       },
     )

@@ -1,4 +1,5 @@
 -- The stream of a session that was judged good has a report, with the lines of the session's threads.
+use Rattle.ep_told.specs.Told.{told_entries}
 use Rattle.pt_replay.specs.Schedule.{definitions_of, past_of}
 use Rattle.pt_replay.proofs.ReadSoFar.{judged-good}
 use Rattle.pt_replay.proofs.text.Reader.outcome.Goals as goal
@@ -12,14 +13,13 @@ returns-in-Some-stream c = λ bytes judged.
     let lines = good.0 in
     let lawful = good.2.lawful in
     let is = c.in-Some-stream.ensures.some lines good.2 in
-    let items = is.1.canonical.items in
-    let faithful = is.1.faithful in
+    let canonical = is.1.canonical in
     record {
       lines = lines;
       schedule = good.1;
       lawful = lawful;
       finished = is.0;
       told = is.1;
-      whole = law.whole items faithful.entries stream is.1.found faithful.told;
-      threads = λ text reported. law.threads (definitions_of lines) c.args.session (past_of lines) items faithful.entries stream text lawful is.0 faithful.told faithful.faithful is.1.found reported;
+      whole = law.whole canonical.items (told_entries (definitions_of lines) c.args.session (past_of lines)) stream is.1.found canonical.told;
+      threads = λ text reported. law.threads (definitions_of lines) c.args.session (past_of lines) canonical.items stream text lawful is.0 canonical.told is.1.found reported;
     }

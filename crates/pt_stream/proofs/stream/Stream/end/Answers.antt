@@ -1,4 +1,6 @@
 use Rattle.std.proofs.Common.{◌∙◌, ◌≡◌, ◌<◌, ◌≤◌, ℕ, false, List, ap, subst, sym}
+use Rattle.ep_defs.specs.Definitions.{AreDistinct, definition_at}
+use Rattle.ep_defs.specs.declared.event.EventDef.{EventDef}
 use Rattle.ep_live.specs.RowSet.{LiveRowsState, expected_in}
 use Rattle.pt_stream.specs.declared.place.Place.{Place}
 use Rattle.pt_stream.specs.End.{HasEnded}
@@ -13,8 +15,8 @@ returns-clause-ended g c =
     let e = c.finish.ensures in
     let shut = subst (λ (places : List Place). (row : ℕ) → 0 < row → row ≤ g.P.Program.rows → (place_at places row).is_open ≡ false) (sym (ap (λ (v : StreamState). v.places) c.self.view_is)) c.requires.shut in
     subst (λ (v : StreamState). HasEnded {S = g.row.S.Denot} g.S.Sink (watch_of g.P.Program.rows g.P.Program.events g.P.Program.writes g.P.Run.setting v.config v.id) g.P.Program.rows g.P.Run.setting.lives (g.P.Run.setting.faults v.id) v c.args.fate c.finish.result) c.self.view_is
-    (has-ended g.S.Sink g.P.Program.rows g.P.Program.events g.P.Program.writes g.P.Run.setting c.self.inside.rows session c.self.inside.openings c.self.inside.seat c.self.inside.places.items c.self.inside.early c.self.inside.stands c.args.stamp c.args.fate c.finish.result
-    c.self.invariant.1 shut c.requires.own.0
+    (has-ended g.S.Sink g.P.Program.rows g.P.Program.events g.P.Program.writes g.P.Run.setting c.self.inside.rows session c.self.inside.openings c.self.inside.seat c.self.inside.places.items c.self.inside.early c.self.inside.stands c.events.result.now c.args.stamp c.args.fate c.finish.result
+    c.events.ensures c.self.invariant.1 shut c.requires.own.0
     (λ watch opened over. c.a_session_that_ends_has_traced.ensures watch opened c.args.fate c.finish.result.fate session c.finish.result.sink over)
     e.id e.slot e.conn e.config e.marks e.ended e.later e.other_side)
 
@@ -30,3 +32,6 @@ finish-requires-clause-closed g c =
     let k = c.self.invariant.1 in
     let shut = subst (λ (places : List Place). (r : ℕ) → 0 < r → r ≤ g.P.Program.rows → (place_at places r).is_open ≡ false) (sym (ap (λ (v : StreamState). v.places) c.self.view_is)) c.requires.shut in
     no-hands g.P.Program.rows g.P.Run.setting.lives c.self.inside.places.items c.self.inside.session shut k.places_are
+
+pub finish-requires-clause-distinct : goal.finish-requires-clause-distinct
+finish-requires-clause-distinct g c = subst (λ (es : List EventDef). AreDistinct (definition_at es)) (sym c.events.ensures) c.requires.events.distinct

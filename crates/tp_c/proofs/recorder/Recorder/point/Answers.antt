@@ -1,9 +1,10 @@
-use Rattle.std.proofs.Common.{ℕ, List, [], ◌∷◌, ◌++◌, refl, subst, ◌∙◌}
+use Rattle.std.proofs.Common.{◌≡◌, ℕ, List, [], ◌∷◌, ◌++◌, Some, refl, ap, sym, subst, ◌∙◌}
 use Rattle.ep_defs.specs.Definitions.{definition_at}
 use Rattle.ep_defs.specs.Entry.{Point}
 use Rattle.nt_write.specs.Writer.{IsWriting, TookPart, point_of, sink_of}
+use Rattle.tp_c.specs.declared.refusal.Refusal.TheVariants.{Cut}
 use Rattle.tp_c.specs.Outgoing.{all_of}
-use Rattle.tp_c.proofs.Recordings.{tells, by_writer, at-its-own, pointed, broke-off}
+use Rattle.tp_c.proofs.Recordings.{tells, by_writer, at-its-own, never-cut, pointed, broke-off}
 use Rattle.tp_c.proofs.recorder.Recorder.point.Goals as goal
 
 pub returns-in-Ok-clause-ok : goal.returns-in-Ok-clause-ok
@@ -29,3 +30,8 @@ returns-in-Open-clause-cut c info entries pulled h is_cut =
     (c.deref.ensures.value ∙ c.in_ok-roll.ensures.roll)
     (c.in-Err.ensures.part [] (definition_at old.definitions) info entries (at-its-own info entries old.definitions before h.distinct standing)))
     c.point.ensures.other_side
+
+pub returns-in-Some-clause-cut : goal.returns-in-Some-clause-cut
+returns-in-Some-clause-cut c info entries pulled h is =
+    let cut : c.in-Some.refusal ≡ Cut = cc in
+    never-cut info entries pulled c.args.self.now h (sym c.in-Some.ensures ∙ ap Some cut)

@@ -1,0 +1,2 @@
+pub mod Rundown
+pub mod Rows

@@ -1,0 +1,2 @@
+mod Program
+mod WithRundown

@@ -1,0 +1,129 @@
+-- The objects of trace events, put piece by piece.
+use Rattle.std.proofs.Common.{◌≡◌, ℕ, List, [], ◌∷◌, ◌++◌, length, refl, ap, sym, ◌∙◌, subst, append_assoc}
+use Rattle.std.specs.Prelude.{codes}
+use Rattle.std.specs.List.{concat}
+use Rattle.std.proofs.lemmas.List.{append-nil}
+use Rattle.std.proofs.lemmas.List.Folds.{concat-append}
+use Rattle.ep_defs.specs.declared.event.FieldDef.{FieldDef}
+use Rattle.ep_defs.specs.Entry.{EventEntry, PointEntry}
+use Rattle.nt_fields.specs.Values.{payload_at}
+use Rattle.pt_lines.specs.declared.form.Form.TheVariants as forms
+use Rattle.pt_lines.specs.declared.origin.Origin.{Origin}
+use Rattle.pt_lines.specs.Line.{Event}
+use Rattle.pt_lines.specs.Forms.{IsLine}
+use Rattle.pt_lines.specs.Texts.{quoted}
+use Rattle.pt_lines.specs.Json.{IsPayloadMember, behind_commas, integer, object}
+use Rattle.pt_lines.specs.Chromium.{event_phase, lost_counter, moment_text, next_object, phase_of, phase_text, point_instant}
+use Rattle.pt_lines.specs.Appends.{Appends}
+use Rattle.pt_lines.specs.state.Pieces.{named_pieces, placed_pieces}
+
+-- ---- an object, member by member
+
+-- Members behind others, and an end.
+abbrev rest_on : List (List ℕ) → List ℕ → List ℕ
+rest_on [] end = end
+rest_on (member ∷ members) end = codes "," ++ (member ++ rest_on members end)
+
+rest-on : (members : List (List ℕ)) (end : List ℕ) → behind_commas members ++ end ≡ rest_on members end
+rest-on [] end = refl
+rest-on (member ∷ members) end =
+    append_assoc (codes "," ++ member) (behind_commas members) end
+    ∙ ap (λ (xs : List ℕ). (codes "," ++ member) ++ xs) (rest-on members end)
+
+entry-on : (member : List ℕ) (members : List (List ℕ)) → next_object (member ∷ members) ≡ codes ",\n{" ++ (member ++ rest_on members (codes "}"))
+entry-on member members =
+    ap (λ (xs : List ℕ). codes ",\n{" ++ xs)
+    (append_assoc member (behind_commas members) (codes "}") ∙ ap (λ (xs : List ℕ). member ++ xs) (rest-on members (codes "}")))
+
+one-argument : (key value end : List ℕ) → (((key ++ value) ++ []) ++ end) ++ end ≡ key ++ (value ++ (end ++ end))
+one-argument key value end = simp (append_assoc, append-nil)
+
+two-arguments : (key value comma payload end : List ℕ) → (((key ++ value) ++ ((comma ++ payload) ++ [])) ++ end) ++ end ≡ key ++ (value ++ (comma ++ (payload ++ (end ++ end))))
+two-arguments key value comma payload end = simp (append_assoc, append-nil)
+
+-- ---- the objects
+
+pub counter-is : (origin : Origin) (stamp thread count : ℕ)
+    → lost_counter origin stamp thread count
+    ≡ concat
+    (codes ",\n{\"name\":\"lost\",\"ph\":\"C\",\"id\":"
+    ∷ integer thread
+    ∷ codes ","
+    ∷ moment_text origin stamp
+    ∷ codes ",\"tid\":"
+    ∷ integer thread
+    ∷ codes ",\"args\":{\"count\":"
+    ∷ integer count
+    ∷ codes "}}"
+    ∷ [])
+counter-is origin stamp thread count =
+    let arguments = codes "\"args\":" ++ object ((codes "\"count\":" ++ integer count) ∷ []) in
+    entry-on (codes "\"name\":\"lost\"")
+    (codes "\"ph\":\"C\"" ∷ (codes "\"id\":" ++ integer thread) ∷ moment_text origin stamp ∷ (codes "\"tid\":" ++ integer thread) ∷ arguments ∷ [])
+    ∙ ap
+    (λ (xs : List ℕ).
+    codes ",\n{\"name\":\"lost\",\"ph\":\"C\",\"id\":"
+    ++ (integer thread ++ (codes "," ++ (moment_text origin stamp ++ (codes ",\"tid\":" ++ (integer thread ++ (codes ",\"args\":{" ++ xs)))))))
+    (one-argument (codes "\"count\":") (integer count) (codes "}"))
+
+pub instant-is : (origin : Origin) (point : PointEntry)
+    → point_instant origin point
+    ≡ concat
+    (codes ",\n{\"name\":\"point\",\"ph\":\"i\",\"s\":\"p\","
+    ∷ moment_text origin point.stamp
+    ∷ codes ",\"args\":{\"threads\":"
+    ∷ integer (length point.threads)
+    ∷ codes "}}"
+    ∷ [])
+instant-is origin point =
+    let count = integer (length point.threads) in
+    let arguments = codes "\"args\":" ++ object ((codes "\"threads\":" ++ count) ∷ []) in
+    entry-on (codes "\"name\":\"point\"") (codes "\"ph\":\"i\"" ∷ codes "\"s\":\"p\"" ∷ moment_text origin point.stamp ∷ arguments ∷ [])
+    ∙ ap (λ (xs : List ℕ). codes ",\n{\"name\":\"point\",\"ph\":\"i\",\"s\":\"p\"," ++ (moment_text origin point.stamp ++ (codes ",\"args\":{" ++ xs)))
+    (one-argument (codes "\"threads\":") count (codes "}"))
+
+entry-is : (origin : Origin) (event : EventEntry) (payload : List ℕ)
+    → event_phase origin event payload ≡ concat (named_pieces event) ++ (concat (placed_pieces origin event) ++ (payload ++ codes "}}"))
+entry-is origin event payload =
+    let phase = phase_of event.activity event.def.name in
+    let name = quoted phase.1 in
+    let category = quoted event.def.provider in
+    let kind = phase_text event.activity phase.0 in
+    let moment = moment_text origin event.stamp in
+    let thread = integer event.thread in
+    let number = integer event.number in
+    let arguments = codes "\"args\":" ++ object ((codes "\"number\":" ++ number) ∷ payload ∷ []) in
+    let behind = payload ∷ codes "}}" ∷ [] in
+    entry-on (codes "\"name\":" ++ name) ((codes "\"cat\":" ++ category) ∷ kind ∷ moment ∷ (codes "\"tid\":" ++ thread) ∷ arguments ∷ [])
+    ∙ ap
+    (λ (xs : List ℕ).
+    codes ",\n{\"name\":"
+    ++ (name ++ (codes ",\"cat\":" ++ (category ++ (codes "," ++ (kind ++ (codes "," ++ (moment ++ (codes ",\"tid\":" ++ (thread ++ (codes ",\"args\":{" ++ xs)))))))))))
+    (two-arguments (codes "\"number\":") number (codes ",") payload (codes "}"))
+    ∙ concat-append (named_pieces event) (placed_pieces origin event ++ behind)
+    ∙ ap (λ (xs : List ℕ). concat (named_pieces event) ++ xs) (concat-append (placed_pieces origin event) behind)
+
+pieces : (old named placed payload end : List ℕ) → (((old ++ named) ++ placed) ++ payload) ++ end ≡ old ++ (named ++ (placed ++ (payload ++ end)))
+pieces old named placed payload end = simp append_assoc
+
+-- The object of an event was put.
+pub entry-put : (origin : Origin) (processor thread : ℕ) (event : EventEntry) (fields : List FieldDef) (payload old first second third new : List ℕ)
+    → fields ≡ event.def.fields → payload ≡ event.payload
+    → first ≡ old ++ concat (named_pieces event)
+    → second ≡ first ++ concat (placed_pieces origin event)
+    → Appends (IsPayloadMember fields payload (payload_at fields payload)) second third
+    → new ≡ third ++ codes "}}"
+    → Appends (IsLine forms.Chromium (Event origin processor thread event)) old new
+entry-put origin processor thread event fields payload old first second third new same_fields same_payload named placed (member, is_member, put) end =
+    let told : IsPayloadMember event.def.fields event.payload (payload_at event.def.fields event.payload) member =
+    subst (λ (p : List ℕ). IsPayloadMember event.def.fields p (payload_at event.def.fields p) member) same_payload
+    (subst (λ (f : List FieldDef). IsPayloadMember f payload (payload_at f payload) member) same_fields is_member) in
+    let start = concat (named_pieces event) in
+    let place = concat (placed_pieces origin event) in (
+      event_phase origin event member,
+      (member, told, refl),
+      end
+          ∙ ap (λ (xs : List ℕ). xs ++ codes "}}") (put ∙ ap (λ (xs : List ℕ). xs ++ member) (placed ∙ ap (λ (xs : List ℕ). xs ++ place) named))
+          ∙ pieces old start place member (codes "}}")
+          ∙ ap (λ (xs : List ℕ). old ++ xs) (sym (entry-is origin event member)),
+    )

@@ -1,0 +1,22 @@
+-- The pieces of an event in the form of trace events, up to its payload.
+use Rattle.std.specs.Prelude.{ℕ, List, [], ◌∷◌, codes}
+use Rattle.ep_defs.specs.Entry.{EventEntry}
+use Rattle.pt_lines.specs.declared.chromium.phase.Phase.{Phase}
+use Rattle.pt_lines.specs.declared.origin.Origin.{Origin}
+use Rattle.pt_lines.specs.Texts.{quoted}
+use Rattle.pt_lines.specs.Json.{integer}
+use Rattle.pt_lines.specs.Chromium.{moment_text, phase_of, phase_text}
+
+-- What it is in this phase of this name.
+abbrev pub pieces_in : Phase × List ℕ → EventEntry → List (List ℕ)
+pieces_in phase event =
+    codes ",\n{\"name\":" ∷ quoted phase.1 ∷ codes ",\"cat\":" ∷ quoted event.def.provider ∷ codes "," ∷ phase_text event.activity phase.0 ∷ []
+
+-- What it is.
+abbrev pub named_pieces : EventEntry → List (List ℕ)
+named_pieces event = pieces_in (phase_of event.activity event.def.name) event
+
+-- When and where it was.
+abbrev pub placed_pieces : Origin → EventEntry → List (List ℕ)
+placed_pieces origin event =
+    codes "," ∷ moment_text origin event.stamp ∷ codes ",\"tid\":" ∷ integer event.thread ∷ codes ",\"args\":{\"number\":" ∷ integer event.number ∷ codes "," ∷ []

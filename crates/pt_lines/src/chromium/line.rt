@@ -1,0 +1,108 @@
+//! Whole lines.
+ghost use Rattle.std.specs.Prelude.{◌≡◌, ◌++◌, ℕ, OnOk};
+ghost use Rattle.std.specs.List.{concat};
+ghost use Rattle.ep_defs.specs.Entry.{EventEntry};
+ghost use Rattle.pt_lines.specs.declared.form.Form.TheVariants as forms;
+ghost use Rattle.pt_lines.specs.declared.origin.Origin.{Origin};
+ghost use Rattle.pt_lines.specs.Line.{Event};
+ghost use Rattle.pt_lines.specs.Forms.{IsLine};
+ghost use Rattle.pt_lines.specs.Chromium.{error_tail, lost_counter, point_instant};
+ghost use Rattle.pt_lines.specs.Appends.{Appends, Tells};
+ghost use Rattle.pt_lines.specs.state.Pieces.{named_pieces, placed_pieces};
+
+use crate::chromium::moment::put_moment;
+use crate::chromium::phase::{phase_of, put_phase};
+use crate::json::fields::put_payload;
+use crate::json::line::put_error as put_error_object;
+use crate::json::value::put_integer;
+use crate::line::EventLine;
+use crate::origin::Origin;
+use crate::text::put_quoted;
+use pt_print::put_word;
+use std::alloc::{AllocError, Global};
+
+/// Appends the counter of numbers that a thread leaves out.
+pub fn put_lost(
+    out: &mut Vec<u8>,
+    origin: Origin,
+    stamp: u64,
+    thread: u64,
+    count: u32,
+) -> Result<(), AllocError>
+    ensures { OnOk result (out.new.items ≡ out.old.items ++ lost_counter origin stamp thread count) }
+{
+    put_word(out, ",\n{\"name\":\"lost\",\"ph\":\"C\",\"id\":")?;
+    put_integer(out, thread)?;
+    out.push(b',')?;
+    put_moment(out, origin, stamp)?;
+    put_word(out, ",\"tid\":")?;
+    put_integer(out, thread)?;
+    put_word(out, ",\"args\":{\"count\":")?;
+    put_integer(out, u64::from(count))?;
+    put_word(out, "}}")
+}
+
+/// Appends the instant of a point that names so many threads.
+pub fn put_point(
+    out: &mut Vec<u8>,
+    origin: Origin,
+    stamp: u64,
+    threads: &[(u64, u32)],
+) -> Result<(), AllocError>
+    ensures { OnOk result (out.new.items ≡ out.old.items ++ point_instant origin (record { stamp = stamp; threads = threads.now })) }
+{
+    put_word(out, ",\n{\"name\":\"point\",\"ph\":\"i\",\"s\":\"p\",")?;
+    put_moment(out, origin, stamp)?;
+    put_word(out, ",\"args\":{\"threads\":")?;
+    put_integer(out, threads.len() as u64)?;
+    put_word(out, "}}")
+}
+
+/// Appends the object of an event.
+pub fn put_event(out: &mut Vec<u8>, alloc: Global, event: &EventLine<'_>) -> Result<(), AllocError>
+    ensures { (origin : Origin) (processor thread : ℕ) (entry : EventEntry) → Tells event.now origin processor thread entry
+        → OnOk result (Appends (IsLine forms.Chromium (Event origin processor thread entry)) out.old.items out.new.items) }
+{
+    put_named(out, event)?;
+    put_place(out, event)?;
+    put_payload(out, alloc, event.def.fields.as_slice(), event.payload)?;
+    put_word(out, "}}")
+}
+
+// Appends the name, the category and the phase of an event.
+fn put_named(out: &mut Vec<u8>, event: &EventLine<'_>) -> Result<(), AllocError>
+    ensures { (origin : Origin) (processor thread : ℕ) (entry : EventEntry) → Tells event.now origin processor thread entry
+        → OnOk result (out.new.items ≡ out.old.items ++ concat (named_pieces entry)) }
+{
+    let (phase, name) = phase_of(event.activity, event.def.name.as_slice());
+    put_word(out, ",\n{\"name\":")?;
+    put_quoted(out, name)?;
+    put_word(out, ",\"cat\":")?;
+    put_quoted(out, event.def.provider.as_slice())?;
+    out.push(b',')?;
+    put_phase(out, event.activity, phase)
+}
+
+// Appends when and where an event was written, up to its payload.
+fn put_place(out: &mut Vec<u8>, event: &EventLine<'_>) -> Result<(), AllocError>
+    ensures { (origin : Origin) (processor thread : ℕ) (entry : EventEntry) → Tells event.now origin processor thread entry
+        → OnOk result (out.new.items ≡ out.old.items ++ concat (placed_pieces origin entry)) }
+{
+    out.push(b',')?;
+    put_moment(out, event.origin, event.stamp)?;
+    put_word(out, ",\"tid\":")?;
+    put_integer(out, event.thread)?;
+    put_word(out, ",\"args\":{\"number\":")?;
+    put_integer(out, u64::from(event.number))?;
+    Ok(out.push(b',')?)
+}
+
+/// Appends the ends of the objects of a stream that is wrong at this offset of its bytes, in words in which nothing has to be
+/// escaped, with an object that says so.
+pub fn put_error(out: &mut Vec<u8>, at: u64, words: &str) -> Result<(), AllocError>
+    ensures { OnOk result (out.new.items ≡ out.old.items ++ error_tail at words.now) }
+{
+    put_word(out, "\n],\"error\":")?;
+    put_error_object(out, at, words)?;
+    put_word(out, "}\n")
+}

@@ -1,0 +1,41 @@
+//! When something was.
+ghost use Rattle.std.specs.Prelude.{◌≡◌, ◌++◌, ◌<◌, ◌^◌, ◌*◌, OnOk};
+ghost use Rattle.pt_lines.specs.Chromium as texts;
+ghost use Rattle.pt_lines.specs.Chromium.{microseconds, moment_text};
+
+use crate::json::value::put_integer;
+use crate::limits::NANOSECONDS;
+use crate::origin::Origin;
+use crate::value::put_places;
+use pt_print::put_word;
+use std::alloc::AllocError;
+
+/// Appends the members of a stamp and of its process.
+pub fn put_moment(out: &mut Vec<u8>, origin: Origin, stamp: u64) -> Result<(), AllocError>
+    ensures { OnOk result (out.new.items ≡ out.old.items ++ moment_text origin stamp) }
+{
+    put_word(out, "\"ts\":")?;
+    put_microseconds(out, nanoseconds(origin.frequency, stamp))?;
+    put_word(out, ",\"pid\":")?;
+    put_integer(out, u64::from(origin.process))
+}
+
+// A stamp in nanoseconds, where so many ticks make a second.
+fn nanoseconds(frequency: u64, stamp: u64) -> u128
+    ensures { result ≡ texts.nanoseconds frequency stamp }
+{
+    if frequency == 0 {
+        return u128::from(stamp);
+    }
+    u128::from(stamp) * u128::from(NANOSECONDS) / u128::from(frequency)
+}
+
+// Appends nanoseconds as microseconds.
+fn put_microseconds(out: &mut Vec<u8>, nanos: u128) -> Result<(), AllocError>
+    ensures { OnOk result (out.new.items ≡ out.old.items ++ microseconds nanos) }
+{
+    let mut buffer = itoa::Buffer::new();
+    out.extend_from_slice(buffer.format(nanos / 1000).as_bytes())?;
+    out.push(b'.')?;
+    put_places(out, 3, (nanos % 1000) as u16)
+}

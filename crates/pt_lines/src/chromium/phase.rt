@@ -1,0 +1,60 @@
+//! What an event is: an instant, or an end of a span.
+ghost use Rattle.std.specs.Prelude.{◌≡◌, ◌++◌, OnOk};
+ghost use Rattle.pt_lines.specs.Chromium.{phase_of as phase_in, phase_text};
+ghost use Rattle.pt_lines.specs.Json.{uuid_text};
+
+use crate::json::value::put_uuid;
+use pt_print::put_word;
+use std::alloc::AllocError;
+
+/// What an event is.
+#[derive(Clone, Copy, Debug, PartialEq, Eq)]
+pub enum Phase {
+    /// An instant of its thread.
+    Instant,
+    /// It begins a span of its activity.
+    Begin,
+    /// It ends one.
+    End,
+}
+
+// The ends of names that begin and end a span (.NET's EventSource): `Start` and `Stop`.
+const START: [u16; 5] = [83, 116, 97, 114, 116];
+
+const STOP: [u16; 4] = [83, 116, 111, 112];
+
+/// What an event of this activity and with this name is, and the name of the instant or of the span.
+pub fn phase_of<'a>(activity: &[u8; 16], name: &'a [u16]) -> (Phase, &'a [u16])
+    ensures phase { result.0 ≡ (phase_in activity.now name.now).0 }
+    ensures name { result.1.now ≡ (phase_in activity.now name.now).1 }
+{
+    if *activity == [0; 16] {
+        return (Phase::Instant, name);
+    }
+    if let Some(stem) = name.strip_suffix(&START) {
+        return (Phase::Begin, stem);
+    }
+    match name.strip_suffix(&STOP) {
+        Some(stem) => (Phase::End, stem),
+        None => (Phase::Instant, name),
+    }
+}
+
+/// Appends the members that tell a phase.
+pub fn put_phase(out: &mut Vec<u8>, activity: &[u8; 16], phase: Phase) -> Result<(), AllocError>
+    ensures { OnOk result (out.new.items ≡ out.old.items ++ phase_text activity.now phase) }
+{
+    match phase {
+        Phase::Instant => put_word(out, "\"ph\":\"i\",\"s\":\"t\""),
+        Phase::Begin => put_span(out, "\"ph\":\"b\",\"id\":", activity),
+        Phase::End => put_span(out, "\"ph\":\"e\",\"id\":", activity),
+    }
+}
+
+// Appends a phase of a span.
+fn put_span(out: &mut Vec<u8>, phase: &str, activity: &[u8; 16]) -> Result<(), AllocError>
+    ensures { OnOk result (out.new.items ≡ out.old.items ++ (phase.now ++ uuid_text activity.now)) }
+{
+    put_word(out, phase)?;
+    put_uuid(out, *activity)
+}
