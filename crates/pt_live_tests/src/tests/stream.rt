@@ -320,6 +320,7 @@ impl<'r, 'a, P: Run, R: Wait + Abort> Scene<'r, 'a, P, R> {
     // It is stopped.
     fn ends(&self, stream: Stream<'a, P, MemSink>) -> Told
         requires two { P.rows ≡ 2 }
+        requires program { IsProgram P.events P.writes TURNS self.now.write.now }
     {
         insist_closed(self.rt, stream.place(1));
         insist_closed(self.rt, stream.place(2));
