@@ -3,8 +3,9 @@
 # writes as the first word says, for a session of one megabyte: with python3's json, and with jq (a Debian package) where it is
 # there. Each line is an object and the file one value; both have as many events as `report` counts, in one order and at one
 # time, and what is lost sums up to what `report` says is missing; every span is of an activity. The same trace cut in its
-# middle ends with status 3, and is JSON all the same. Where something is otherwise it says so and ends with 1. It needs
-# python3; PROGRAM names another program than ./tracepipe.
+# middle ends with status 3, and is JSON all the same. Where something is otherwise it says so and ends with 1. In the end it
+# prints how many instructions each form takes an event, counted by callgrind (valgrind, a Debian package) where it is there,
+# beside what is aimed at. It needs python3; PROGRAM names another program than ./tracepipe.
 here=$(cd "$(dirname "$0")/.." && pwd) || exit 1
 program=${PROGRAM:-$here/tracepipe}
 writes=${1:-100000}
@@ -75,3 +76,17 @@ half = json.load(open(f"{work}/half.chromium"), parse_float=Decimal)
 expect(half["error"] == halves[-1] and half["traceEvents"] == entries[: len(halves) - 1], "half a trace")
 print(f"{events} events, {spans} of them ends of spans, {points} points, {sum(lost.values())} lost; half of it: {half['error']['error']}")
 READ
+command -v valgrind >/dev/null || exit 0
+events=$(awk '$1 == "items" { print $2 }' "$work/report")
+program=${PROGRAM:-$here/crates/tracepipe/out/tracepipe}
+while read -r aim words; do
+    # shellcheck disable=SC2086
+    valgrind --tool=callgrind --callgrind-out-file="$work/callgrind" "$program" $words <"$work/trace" 2>"$work/said" >"$work/lines" || exit 1
+    count=$(sed -n 's/.*Collected : //p' "$work/said")
+    echo "$words: $((count / events)) instructions an event, $(($(wc -c <"$work/lines") / events)) bytes; the aim is $aim"
+done <<'AIMS'
+600 events
+900 events --json
+900 convert chromium
+900 page
+AIMS

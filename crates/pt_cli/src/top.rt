@@ -51,7 +51,7 @@ use std::time;
 /// With `events` it reads a stream from `input` to its end and writes a line for each event, each point and each place where
 /// events are missing, as it reads them, and an error line behind them where the stream is refused. With `events --json` each
 /// line is an object of JSON, the error line too. With `convert chromium` it writes them as the objects of a file of trace
-/// events, with what stands around these.
+/// events, with what stands around these, and with `page` as those of a page of HTML.
 ///
 /// With `gen SEED N` it makes a schedule of N writes, which the seed determines, and writes how many of them each session
 /// admitted, wrote and refused, in one write. It reads no input then.

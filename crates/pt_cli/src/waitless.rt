@@ -26,8 +26,8 @@ use pt_replay::replay;
 use pt_report::write_report;
 use std::alloc::{AllocError, Global};
 
-/// Does what the words of the command line ask for, where that waits for nobody: `replay`, `report`, `events`, `convert`
-/// and `gen`, as `tracepipe` does. All other words are refused with status 2 and one error line.
+/// Does what the words of the command line ask for, where that waits for nobody: `replay`, `report`, `events`, `convert`,
+/// `page` and `gen`, as `tracepipe` does. All other words are refused with status 2 and one error line.
 pub fn plain<I: Source, O: Sink>(
     alloc: Global,
     words: &[String],

@@ -17,7 +17,7 @@ pub enum Command<'a> {
     Replay { session: u32 },
     /// For the report of a stream.
     Report,
-    /// For the events of a stream one by one, in this form: `events` or `convert`.
+    /// For the events of a stream one by one, in this form: `events`, `convert` or `page`.
     Events(Form),
     /// For a schedule that is made and summed up.
     Gen(pt_gen::Asked),

@@ -17,6 +17,7 @@ use Rattle.pt_events.specs.Lines.{lines_of}
 use Rattle.pt_lines.specs.Forms.{AreLines}
 use Rattle.pt_lines.specs.Json.{error_object}
 use Rattle.pt_lines.specs.Chromium.{error_tail}
+use Rattle.pt_lines.specs.Page.{error_page}
 use Rattle.pt_lines.specs.Around.{opened, tail_of}
 
 -- The text is the lines of these items, in this form.
@@ -51,11 +52,12 @@ IsSoFar form bytes text =
     ⊎ ((at : ℕ) × (kind : CheckKind) × StandsBefore form (items_of (verdict bytes)) at kind text)
 
 -- What is said of a refusal, in this form: the error line of a report, an object with the same words, or this object behind
--- the others, and their ends.
+-- the others, and the end of the file or of the page.
 abbrev pub error_line : Form → Refusal → List ℕ
 error_line forms.Lines refusal = refusal_error refusal
 error_line forms.Json refusal = error_object refusal.at (flaw_name refusal.flaw)
 error_line forms.Chromium refusal = error_tail refusal.at (flaw_name refusal.flaw)
+error_line forms.Page refusal = error_page refusal.at (flaw_name refusal.flaw)
 
 -- The text is the lines before what is wrong with the bytes at this offset, behind what stands before them, and the error line.
 pub record IsError (form : Form) (bytes : List ℕ) (at : ℕ) (text : List ℕ) : Type 0 where

@@ -1,4 +1,4 @@
-//! The commands `events` and `convert`.
+//! The commands `events`, `convert` and `page`.
 ghost use Rattle.std.specs.Prelude.{◌≡◌, ◌≢◌, ◌⊎◌, ◌<◌, ◌^◌, ℕ, [], List, IfOk, IfErr, OnOk, OnErr, Err};
 ghost use Rattle.pt_io.specs.Faults.{HasRisen};
 ghost use Rattle.pt_command.specs.declared.limits.TheConstants.{PIECE_BYTES};
@@ -16,7 +16,7 @@ use crate::reading::Reading;
 use pt_command::limits::PIECE_BYTES;
 use pt_command::{End, say};
 use pt_io::{Failed, Sink, Source};
-use pt_lines::{Form, put_error, put_error_tail};
+use pt_lines::{Form, put_error, put_error_page, put_error_tail};
 use pt_report::{Refusal, flaw_text, refusal_text};
 use std::alloc::{AllocError, Global};
 
@@ -148,6 +148,7 @@ fn error_text(alloc: Global, form: Form, refusal: &Refusal) -> Result<Vec<u8>, A
         Form::Lines => Ok(refusal_text(alloc, refusal)?.into_bytes()),
         Form::Json => error_object(alloc, refusal),
         Form::Chromium => error_end(alloc, refusal),
+        Form::Page => error_page(alloc, refusal),
     }
 }
 
@@ -168,5 +169,15 @@ fn error_end(alloc: Global, refusal: &Refusal) -> Result<Vec<u8>, AllocError>
     let words = flaw_text(alloc, refusal.flaw)?;
     let mut line = Vec::new(alloc);
     put_error_tail(&mut line, refusal.at, &words)?;
+    Ok(line)
+}
+
+// It in a page, behind other objects, and the end of the page.
+fn error_page(alloc: Global, refusal: &Refusal) -> Result<Vec<u8>, AllocError>
+    ensures { IfOk result (λ line. line.items ≡ error_line forms.Page refusal.now) }
+{
+    let words = flaw_text(alloc, refusal.flaw)?;
+    let mut line = Vec::new(alloc);
+    put_error_page(&mut line, refusal.at, &words)?;
     Ok(line)
 }

@@ -1,4 +1,5 @@
-//! The events of a stream one by one, and the places where something is lost: the commands `events` and `convert`.
+//! The events of a stream one by one, and the places where something is lost: the commands `events`, `convert`
+//! and `page`.
 //!
 //! `names` knows what ids stand for, `lasts` how far each thread has come, and `listing` puts the lines of one item after
 //! another. `reading` feeds a reader piece by piece, and `command` writes the lines as its input is read; `words` reads the

@@ -1,5 +1,6 @@
 -- Lines behind what stands before them, and more lines.
-use Rattle.std.proofs.Common.{◌≡◌, ℕ, Bool, false, ◌&&◌, eqb, List, [], ◌∷◌, ◌++◌, length, inl, inr, refl, sym, ap, ◌∙◌, arith}
+use Rattle.std.proofs.Common.{◌≡◌, ℕ, Bool, true, false, ◌&&◌, eqb, List, [], ◌∷◌, ◌++◌, length, inl, inr, refl, sym, ap, ◌∙◌, append_assoc, arith}
+use Rattle.std.proofs.lemmas.List.{append-nil}
 use Rattle.std.proofs.lemmas.Bool.{cases_Bool, eqb-true}
 use Rattle.pt_lines.specs.declared.form.Form.{Form}
 use Rattle.pt_lines.specs.declared.form.Form.TheVariants as forms
@@ -14,6 +15,10 @@ pub opened-more : (form : Form) (lines more : List ℕ) → opened form (lines +
 opened-more forms.Lines lines more = refl
 opened-more forms.Json lines more = refl
 opened-more forms.Chromium [] more = refl
+opened-more forms.Page [] more = ap (λ (xs : List ℕ). xs ++ shown forms.Page true more) (sym (append-nil (head_of forms.Page)))
+opened-more forms.Page (x ∷ lines) more =
+    sym (append_assoc (head_of forms.Page) lines more)
+    ∙ ap (λ (first : Bool). opened forms.Page (x ∷ lines) ++ shown forms.Page first more) (sym (some-there x lines))
 opened-more forms.Chromium (x ∷ lines) more = ap (λ (first : Bool). opened forms.Chromium (x ∷ lines) ++ shown forms.Chromium first more) (sym (some-there x lines))
 
 -- There are none as long as none were there and none come.
@@ -26,3 +31,4 @@ pub opened-none : (form : Form) → opened form [] ≡ head_of form
 opened-none forms.Lines = refl
 opened-none forms.Json = refl
 opened-none forms.Chromium = refl
+opened-none forms.Page = append-nil (head_of forms.Page)

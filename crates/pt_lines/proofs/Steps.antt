@@ -9,6 +9,7 @@ use Rattle.pt_lines.specs.declared.origin.Origin.{Origin}
 use Rattle.pt_lines.specs.Line.{Event}
 use Rattle.pt_lines.specs.Texts.{IsPayload, event_start, closes}
 use Rattle.pt_lines.specs.Forms.{IsLine}
+use Rattle.pt_lines.specs.Page.{next_item}
 use Rattle.std.specs.List.{concat}
 use Rattle.std.proofs.lemmas.List.{append-nil}
 use Rattle.std.proofs.lemmas.Result.{on_ok_weaker}
@@ -21,6 +22,11 @@ said P answer old new text is put = on_ok_weaker answer (λ e. (text, is, e)) pu
 -- So it is with a text that is known.
 pub said-eq : {E A : Type 0} (answer : Result A E) (old new text : List ℕ) → OnOk answer (new ≡ old ++ text) → OnOk answer ((t : List ℕ) × (t ≡ text) × (new ≡ old ++ t))
 said-eq answer old new text put = on_ok_weaker answer (λ e. (text, refl, e)) put
+
+-- And with an object that is known, as an item of a page.
+pub item-put : {E A : Type 0} (answer : Result A E) (old new object : List ℕ) → OnOk answer (new ≡ old ++ next_item object)
+    → OnOk answer (Appends (λ (text : List ℕ). (o : List ℕ) × (o ≡ object) × (text ≡ next_item o)) old new)
+item-put answer old new object put = on_ok_weaker answer (λ e. (next_item object, (object, refl, refl), e)) put
 
 -- Nothing is put.
 pub nothing : (P : List ℕ → Type 0) (old : List ℕ) → P [] → Appends P old old

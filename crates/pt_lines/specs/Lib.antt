@@ -3,6 +3,7 @@ pub mod Line
 pub mod Texts
 pub mod Json
 pub mod Chromium
+pub mod Page
 pub mod Forms
 pub mod Around
 -- what putting answers

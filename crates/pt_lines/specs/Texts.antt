@@ -30,9 +30,10 @@ is_name_unit unit = is_in_range 33 126 unit && not (unit == 92) && not (unit == 
 abbrev pub name_unit : ℕ → List ℕ
 name_unit unit = if is_name_unit unit then unit ∷ [] else escape unit
 
--- Between quotes every printable ASCII character but `"` and `\` stands as it is.
+-- Between quotes every printable ASCII character but `"`, `\` and `<` stands as it is: without `<` no text ends a script or begins
+-- a tag where it stands in a page of HTML.
 abbrev pub is_text_unit : ℕ → Bool
-is_text_unit unit = is_in_range 32 126 unit && not (unit == 92) && not (unit == 34)
+is_text_unit unit = is_in_range 32 126 unit && not (unit == 92) && not (unit == 34) && not (unit == 60)
 
 -- A unit between quotes.
 abbrev pub text_unit : ℕ → List ℕ

@@ -3,6 +3,8 @@ ghost use Rattle.std.specs.Prelude.{◌≡◌};
 ghost use Rattle.pt_lines.specs.Around as texts;
 ghost use Rattle.pt_lines.specs.Around.{head_of, tail_of};
 
+use crate::page::text::HEAD;
+
 /// How lines are written.
 #[derive(Clone, Copy, Debug, PartialEq, Eq)]
 pub enum Form {
@@ -12,6 +14,8 @@ pub enum Form {
     Json,
     /// An object of a file of trace events, as Chromium's tools read it.
     Chromium,
+    /// An object of JSON in a page of HTML that shows the trace.
+    Page,
 }
 
 impl Form {
@@ -22,6 +26,7 @@ impl Form {
         match self {
             Form::Lines | Form::Json => "",
             Form::Chromium => "{\"displayTimeUnit\":\"ns\",\"traceEvents\":[",
+            Form::Page => HEAD,
         }
     }
 
@@ -30,7 +35,7 @@ impl Form {
         ensures { result.now ≡ texts.shown self is_first lines.now }
     {
         match self {
-            Form::Chromium if is_first && !lines.is_empty() => &lines[1..],
+            Form::Chromium | Form::Page if is_first && !lines.is_empty() => &lines[1..],
             _ => lines,
         }
     }
@@ -42,6 +47,7 @@ impl Form {
         match self {
             Form::Lines | Form::Json => "",
             Form::Chromium => "\n]}\n",
+            Form::Page => "]</script>\n</body>\n</html>\n",
         }
     }
 }

@@ -19,6 +19,7 @@ mod json;
 mod limits;
 mod line;
 mod origin;
+mod page;
 mod text;
 mod value;
 
@@ -27,3 +28,4 @@ pub use form::Form;
 pub use json::line::put_error;
 pub use line::{EventLine, put_event, put_lost, put_point};
 pub use origin::Origin;
+pub use page::line::put_error as put_error_page;

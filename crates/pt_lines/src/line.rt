@@ -11,7 +11,7 @@ ghost use Rattle.pt_lines.specs.Appends.{Appends, Tells};
 use crate::fields::put_payload;
 use crate::form::Form;
 use crate::origin::Origin;
-use crate::{chromium, json};
+use crate::{chromium, json, page};
 use ep_defs::EventDef;
 use pt_print::{put_end, put_number, put_units, put_word};
 use std::alloc::{AllocError, Global};
@@ -65,6 +65,7 @@ fn put_one_lost(
         Form::Lines => put_lost_line(out, thread, count),
         Form::Json => json::line::put_lost(out, thread, count),
         Form::Chromium => chromium::line::put_lost(out, origin, stamp, thread, count),
+        Form::Page => page::line::put_lost(out, thread, count),
     }
 }
 
@@ -91,6 +92,7 @@ pub fn put_point(
         Form::Lines => put_point_line(out, stamp, threads.len()),
         Form::Json => json::line::put_point(out, stamp, threads),
         Form::Chromium => chromium::line::put_point(out, origin, stamp, threads),
+        Form::Page => page::line::put_point(out, stamp, threads),
     }
 }
 
@@ -117,6 +119,7 @@ pub fn put_event(
         Form::Lines => put_event_line(out, alloc, event),
         Form::Json => json::line::put_event(out, alloc, event),
         Form::Chromium => chromium::line::put_event(out, alloc, event),
+        Form::Page => page::line::put_event(out, alloc, event),
     }
 }
 

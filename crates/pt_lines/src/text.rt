@@ -97,7 +97,10 @@ fn is_text_unit(unit: u16) -> bool
     ensures value { result ≡ texts.is_text_unit unit }
     ensures small { IsTrue result → unit < 2 ^ 8 }
 {
-    (32..=126).contains(&unit) && unit != u16::from(b'\\') && unit != u16::from(b'"')
+    (32..=126).contains(&unit)
+        && unit != u16::from(b'\\')
+        && unit != u16::from(b'"')
+        && unit != u16::from(b'<')
 }
 
 /// A digit below 16, in lower case.

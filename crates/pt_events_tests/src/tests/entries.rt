@@ -21,7 +21,7 @@ fn the_fields_of_an_event_stand_under_its_arguments(rt: HostRuntime) -> Result<(
             &[
                 0x3c, 0, 0x2f, 0, 0x73, 0, 0x3e, 0, 0x0a, 0, 0xff, 0xdf, 0, 0,
             ],
-            r#""fields":{"n":"</s>\u000a\udfff"}"#,
+            r#""fields":{"n":"\u003c/s>\u000a\udfff"}"#,
         ),
         (18, &[0x61, 0], r#""payload":"6100""#),
     ];

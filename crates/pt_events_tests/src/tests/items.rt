@@ -94,12 +94,16 @@ const MEMBERS: &str =
 const ENTRY: &str = r#",
 {"name":"E","cat":"P","ph":"i","s":"t","ts":0.100,"pid":0,"tid":1,"args":{"number":1,"#;
 
+const ITEM: &str =
+    r#",{"kind":"event","stamp":100,"thread":1,"number":1,"processor":0,"thread_id":9,"provider":"P","name":"E","id":1,"version":0,"level":4,"keywords":1,"activity":"00000000-0000-0000-0000-000000000000","related":"00000000-0000-0000-0000-000000000000","stack":[],"#;
+
 // What stands there, and what stands at the end of the line.
 fn around(form: Form) -> (&'static str, &'static str) {
     match form {
         Form::Lines => (NAMES, "\n"),
         Form::Json => (MEMBERS, "}\n"),
         Form::Chromium => (ENTRY, "}}"),
+        Form::Page => (ITEM, "}\n"),
     }
 }
 

@@ -143,13 +143,16 @@ fn long_values_are_texts(rt: HostRuntime) -> Result<(), Fail> {
     Ok(())
 }
 
-// A letter, a quote and half of a pair; then texts with a space, a backslash, a quote, a line feed, the other half, the
-// greatest unit that stands as it is, and three beyond it.
+// A letter, a quote, half of a pair and what begins a tag, with its neighbours; then texts with a space, a backslash, a quote, a
+// line feed, the other half, the greatest unit that stands as it is, and three beyond it.
 #[test]
 fn texts_are_printable_ascii(rt: HostRuntime) -> Result<(), Fail> {
-    let cases: [Case; 6] = [
+    let cases: [Case; 9] = [
         (4, &[0x41, 0], r#""fields":{"n":"A"}"#),
         (4, &[0x22, 0], r#""fields":{"n":"\u0022"}"#),
+        (4, &[0x3b, 0], r#""fields":{"n":";"}"#),
+        (4, &[0x3c, 0], r#""fields":{"n":"\u003c"}"#),
+        (4, &[0x3d, 0], r#""fields":{"n":"="}"#),
         (4, &[0, 0xd8], r#""fields":{"n":"\ud800"}"#),
         (18, &[0, 0], r#""fields":{"n":""}"#),
         (

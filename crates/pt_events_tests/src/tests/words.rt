@@ -13,7 +13,7 @@ fn asked(alloc: Global, texts: &[&str]) -> Result<Option<Form>, AllocError> {
 
 #[test]
 fn the_words_of_events_are_told_from_others(rt: HostRuntime) -> Result<(), Fail> {
-    let cases: [(&[&str], Option<Form>); 16] = [
+    let cases: [(&[&str], Option<Form>); 21] = [
         (&["events"], Some(Form::Lines)),
         (&["events", "--json"], Some(Form::Json)),
         (&["--json", "events"], None),
@@ -30,6 +30,11 @@ fn the_words_of_events_are_told_from_others(rt: HostRuntime) -> Result<(), Fail>
         (&["convert", "--json"], None),
         (&["events", "chromium"], None),
         (&["convert", "chromium", "chromium"], None),
+        (&["page"], Some(Form::Page)),
+        (&["Page"], None),
+        (&["page", "--json"], None),
+        (&["page", "page"], None),
+        (&["convert", "page"], None),
     ];
     for (texts, want) in cases {
         assert_eq!(rt; asked(rt.alloc(), texts)?, want);

@@ -8,3 +8,6 @@ returns-in-Json c = λ origin processor thread entry tells. rw c.in-Json.is (c.p
 
 pub returns-in-Chromium : goal.returns-in-Chromium
 returns-in-Chromium c = λ origin processor thread entry tells. rw c.in-Chromium.is (c.put_event-in-Chromium.ensures origin processor thread entry tells)
+
+pub returns-in-Page : goal.returns-in-Page
+returns-in-Page c = λ origin processor thread entry tells. rw c.in-Page.is (c.put_event-in-Page.ensures origin processor thread entry tells)
