@@ -13,8 +13,12 @@
 mod fault;
 mod judge;
 pub mod limits;
+mod names_reader;
 mod reader;
 mod stage;
+mod told;
 
 pub use fault::{ReadFault, ReadKind};
+pub use names_reader::NamesReader;
 pub use reader::TraceReader;
+pub use told::Told;
