@@ -1,6 +1,7 @@
 -- What is read of a header, field by field.
-use Rattle.std.proofs.Common.{◌≡◌, ℕ, suc, ◌+◌, ◌-◌, ◌<◌, ◌≤◌, Bool, true, List, ◌∷◌, length, get_or, take, drop, Ok, Err, refl, ap, sym, ◌∙◌, subst, arith, drop-cons}
+use Rattle.std.proofs.Common.{◌≡◌, ℕ, suc, ◌+◌, ◌-◌, ◌<◌, ◌≤◌, Bool, true, false, List, ◌∷◌, length, get_or, take, drop, None, Ok, Err, refl, ap, sym, ◌∙◌, subst, arith, drop-cons}
 use Rattle.std.specs.Prelude.{unwrap_or}
+use Rattle.std.proofs.Math.Nat.{div-eq_of_lt}
 use Rattle.std.specs.Option.{option_map_or}
 use Rattle.std.specs.Int.{w32, w64}
 use Rattle.pt_num.specs.declared.limits.TheConstants.{GROUP}
@@ -11,7 +12,7 @@ use Rattle.nt_head.specs.declared.limits.TheConstants.{ID_BYTES}
 use Rattle.nt_head.specs.declared.head.HeadState.{HeadState}
 use Rattle.nt_head.specs.Head.{HeadFields, number_after, state_after}
 use Rattle.nt_head.specs.Places.{Reads, ReadsNew}
-use Rattle.nt_head.specs.Reading.{if_set, head_at}
+use Rattle.nt_head.specs.Reading.{has_flag, if_set, head_at}
 use Rattle.nt_head.proofs.Steps.{Carries, id_read, new_read, stop_flags}
 use Rattle.nt_names.specs.declared.head.Head.{Head}
 use Rattle.nt_names.specs.state.Heads.{Cuts, CutsHead, Passes, head_of}
@@ -60,6 +61,14 @@ cut_head field bytes start carries cuts = λ before. (
 
 pub cut_flags : (bytes : List ℕ) → length bytes ≡ 0 → CutsHead bytes
 cut_flags bytes none = λ before. (Short, stop_flags bytes before none)
+
+-- Flags that are worth more than all that are set are not set.
+pub flag_unset : (worth flags : ℕ) → 0 < worth → flags < worth → has_flag worth flags ≡ false
+flag_unset worth flags some few = rw (div-eq_of_lt few) refl
+
+-- A field that no flag announces is not there.
+pub field_unset : {A : Type 0} (worth flags : ℕ) (field : List ℕ → Field A) (bytes : List ℕ) → 0 < worth → flags < worth → if_set (has_flag worth flags) field bytes ≡ Ok (None, bytes)
+field_unset worth flags field bytes some few = rw (flag_unset worth flags some few) refl
 
 -- What is kept of the state that fields say.
 pub head_kept : (before : HeadState) (fields : HeadFields) (previous now : Head) → head_of before ≡ previous → now.names.metadata ≡ unwrap_or fields.metadata previous.names.metadata → now.names.number ≡ number_after now.names.metadata previous.names.number fields.sequence → now.names.capture ≡ option_map_or (λ s. s.capture) fields.sequence previous.names.capture → now.names.stack ≡ unwrap_or fields.stack previous.names.stack → now.size ≡ unwrap_or fields.size previous.size → head_of (state_after before fields) ≡ now

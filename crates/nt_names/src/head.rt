@@ -56,6 +56,21 @@ pub fn read_head(bytes: &[u8], at: &mut usize, previous: &Head) -> Option<Head>
         has_flag(flags, METADATA),
         previous.names.metadata,
     )?;
+    if flags < SEQUENCE {
+        // The usual event: it is of the same thread with the same stack, and as large.
+        next64(bytes, at)?;
+        let number = number_after(metadata, previous.names.number, 0);
+        let names = EventNames {
+            metadata,
+            number,
+            capture: previous.names.capture,
+            stack: previous.names.stack,
+        };
+        return Some(Head {
+            names,
+            size: previous.size,
+        });
+    }
     let sequence = new_sequence(
         bytes,
         at,
@@ -100,7 +115,9 @@ fn next32(bytes: &[u8], at: &mut usize) -> Option<u32>
         *at += 1;
         return Some(value);
     }
-    long32(bytes, at)
+    let Long { value, end } = long32(bytes, *at)?;
+    *at = end;
+    Some(value)
 }
 
 #[inline(always)]
@@ -114,37 +131,46 @@ fn next64(bytes: &[u8], at: &mut usize) -> Option<u64>
         *at += 1;
         return Some(value);
     }
-    long64(bytes, at)
+    let Long { value, end } = long64(bytes, *at)?;
+    *at = end;
+    Some(value)
 }
 
-// The same, of any length.
+// A varuint, and the place behind it.
+#[derive(Clone, Copy, Drop)]
+struct Long<T> {
+    value: T,
+    end: usize,
+}
+
+// The same, of any length. The place is handed over by value, so that it stays in a register elsewhere.
 #[inline(never)]
-fn long32(bytes: &[u8], at: &mut usize) -> Option<u32>
-    requires { at.old ≤ length bytes.now }
-    ensures some { IfSome result (λ value. Reads (var_at w32) bytes.now at.old at.new value) }
-    ensures none { IsNone result → Cuts (var_at w32) bytes.now at.old }
+fn long32(bytes: &[u8], at: usize) -> Option<Long<u32>>
+    requires { at ≤ length bytes.now }
+    ensures some { IfSome result (λ long. Reads (var_at w32) bytes.now at long.end long.value) }
+    ensures none { IsNone result → Cuts (var_at w32) bytes.now at }
 {
-    match take_var32(&bytes[*at..]) {
-        Taken::Value { value, used } => {
-            *at += used;
-            Some(value)
-        }
+    match take_var32(&bytes[at..]) {
+        Taken::Value { value, used } => Some(Long {
+            value,
+            end: at + used,
+        }),
         Taken::Short => None,
         Taken::TooWide => None,
     }
 }
 
 #[inline(never)]
-fn long64(bytes: &[u8], at: &mut usize) -> Option<u64>
-    requires { at.old ≤ length bytes.now }
-    ensures some { IfSome result (λ value. Reads (var_at w64) bytes.now at.old at.new value) }
-    ensures none { IsNone result → Cuts (var_at w64) bytes.now at.old }
+fn long64(bytes: &[u8], at: usize) -> Option<Long<u64>>
+    requires { at ≤ length bytes.now }
+    ensures some { IfSome result (λ long. Reads (var_at w64) bytes.now at long.end long.value) }
+    ensures none { IsNone result → Cuts (var_at w64) bytes.now at }
 {
-    match take_var64(&bytes[*at..]) {
-        Taken::Value { value, used } => {
-            *at += used;
-            Some(value)
-        }
+    match take_var64(&bytes[at..]) {
+        Taken::Value { value, used } => Some(Long {
+            value,
+            end: at + used,
+        }),
         Taken::Short => None,
         Taken::TooWide => None,
     }
