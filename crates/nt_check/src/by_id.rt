@@ -72,23 +72,21 @@ impl<V: Drop> ById<V> {
     }
 
     /// Puts a value in the place of the one that stands under an id. It takes no memory.
-    #[inline(always)]
     pub fn set(&mut self, id: u64, value: V)
         requires { IsSome (value_at self.old id) }
         ensures { (other : ℕ) → value_at self.new other
             ≡ (if id == other then Some value else value_at self.old other) }
     {
         if self.is_in_row(id) {
-            let place = (id - self.first) as usize;
-            self.row[place] = Some(value);
+            self.set_in_row(id, value);
         } else {
             self.set_other(id, value);
         }
     }
 
-    // Whether a value stands in the row under an id.
+    /// Whether a value stands in the row under an id.
     #[inline(always)]
-    fn is_in_row(&self, id: u64) -> bool
+    pub fn is_in_row(&self, id: u64) -> bool
         ensures value { result ≡ is_some (in_row self.now.first self.now.row.items id) }
         ensures place { IsTrue result → (self.now.first ≤ id) × (id - self.now.first < length self.now.row.items) }
     {
@@ -97,6 +95,29 @@ impl<V: Drop> ById<V> {
         }
         let place = (id - self.first) as usize;
         place < self.row.len() && self.row[place].is_some()
+    }
+
+    /// The value under an id that stands in the row.
+    #[inline(always)]
+    pub fn in_row(&self, id: u64) -> &V
+        requires { IsSome (in_row self.now.first self.now.row.items id) }
+        ensures { in_row self.now.first self.now.row.items id ≡ Some result.now }
+    {
+        match &self.row[(id - self.first) as usize] {
+            Some(value) => value,
+            None => unreachable!(),
+        }
+    }
+
+    /// Puts a value in the place of the one that stands in the row under an id.
+    #[inline(always)]
+    pub fn set_in_row(&mut self, id: u64, value: V)
+        requires { IsSome (in_row self.old.first self.old.row.items id) }
+        ensures { (other : ℕ) → value_at self.new other
+            ≡ (if id == other then Some value else value_at self.old other) }
+    {
+        let place = (id - self.first) as usize;
+        self.row[place] = Some(value);
     }
 
     fn set_other(&mut self, id: u64, value: V)

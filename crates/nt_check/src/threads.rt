@@ -91,6 +91,24 @@ impl Threads {
         ensures first { IfOk result (λ first. first ≡ not (is_some (numbers_in self.old thread))) }
         ensures err { OnErr result ((other : ℕ) → numbers_in self.new other ≡ numbers_in self.old other) }
     {
+        if self.numbers.is_in_row(thread) {
+            if let Some(before) = *self.numbers.in_row(thread) {
+                self.numbers
+                    .set_in_row(thread, Some(one_more(before, number)));
+                return Ok(false);
+            }
+        }
+        self.count_elsewhere(thread, number)
+    }
+
+    // The same for a thread that stands elsewhere, or was not seen.
+    #[inline(never)]
+    fn count_elsewhere(&mut self, thread: u64, number: u32) -> Result<bool, AllocError>
+        ensures ok { OnOk result ((other : ℕ) → numbers_in self.new other
+            ≡ (if thread == other then after (numbers_in self.old thread) (Seen number) else numbers_in self.old other)) }
+        ensures first { IfOk result (λ first. first ≡ not (is_some (numbers_in self.old thread))) }
+        ensures err { OnErr result ((other : ℕ) → numbers_in self.new other ≡ numbers_in self.old other) }
+    {
         let Some(numbers) = self.numbers.get(thread) else {
             let numbers = after_event(None, number);
             self.numbers.insert(thread, Some(numbers))?;
@@ -169,7 +187,13 @@ const NOTHING: Numbers = Numbers {
 fn after_event(numbers: Option<Numbers>, number: u32) -> Numbers
     ensures { Some result ≡ after numbers (Seen number) }
 {
-    let before = numbers.unwrap_or(NOTHING);
+    one_more(numbers.unwrap_or(NOTHING), number)
+}
+
+#[inline(always)]
+fn one_more(before: Numbers, number: u32) -> Numbers
+    ensures { Some result ≡ after (Some before) (Seen number) }
+{
     let gap = number.wrapping_sub(before.last.wrapping_add(1));
     Numbers {
         events: before.events.saturating_add(1),

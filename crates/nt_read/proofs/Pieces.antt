@@ -63,7 +63,7 @@ pub reads-out : (a b : TraceReader) (bytes rest : List ℕ) (old new : List Item
 reads-out a b bytes rest old new reads = stops-then a b bytes rest old new new fault.OutOfMemory reads (runs-out b rest new)
 
 -- The unit whose last bytes are these, before what follows it.
-unit-front : (kept bytes more : List ℕ) (lacking : ℕ) → kept ++ (bytes ++ more) ≡ (kept ++ take lacking bytes) ++ (drop lacking bytes ++ more)
+pub unit-front : (kept bytes more : List ℕ) (lacking : ℕ) → kept ++ (bytes ++ more) ≡ (kept ++ take lacking bytes) ++ (drop lacking bytes ++ more)
 unit-front kept bytes more lacking =
     ap (λ (l : List ℕ). kept ++ (l ++ more)) (sym (take-append-drop lacking bytes))
     ∙ ap (λ (l : List ℕ). kept ++ l) (append_assoc (take lacking bytes) (drop lacking bytes) more)
@@ -94,7 +94,7 @@ step-stops before bytes lacking items fault.OutOfMemory refuses = runs-out befor
 
 -- ---- pieces
 
-items-waiting : (here : Stage) (told : List Item) → items_of (waiting here told) ≡ told
+pub items-waiting : (here : Stage) (told : List Item) → items_of (waiting here told) ≡ told
 items-waiting stage.Head told = refl
 items-waiting (stage.Tag has_trace) told = refl
 items-waiting (stage.Begun has_trace) told = refl
@@ -106,7 +106,7 @@ items-waiting (stage.Body block size) told = refl
 items-waiting stage.Close told = refl
 items-waiting stage.Ended told = refl
 
-answer-waiting : (here : Stage) (told : List Item) → answer_of (waiting here told) ≡ Ok tt
+pub answer-waiting : (here : Stage) (told : List Item) → answer_of (waiting here told) ≡ Ok tt
 answer-waiting stage.Head told = refl
 answer-waiting (stage.Tag has_trace) told = refl
 answer-waiting (stage.Begun has_trace) told = refl
@@ -235,7 +235,7 @@ ends-good bytes reader ended goes =
     let good : verdict bytes ≡ Good goes.told = rw ended at (read-verdict bytes reader goes) in
     sym (ap (end_answer (length bytes)) good)
 
-waiting-more : (here : Stage) (told : List Item) → here ≢ stage.Ended → waiting here told ≡ More told
+pub waiting-more : (here : Stage) (told : List Item) → here ≢ stage.Ended → waiting here told ≡ More told
 waiting-more stage.Head told other = refl
 waiting-more (stage.Tag has_trace) told other = refl
 waiting-more (stage.Begun has_trace) told other = refl

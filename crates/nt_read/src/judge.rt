@@ -1,5 +1,5 @@
 //! Judging a unit whose bytes are all there.
-ghost use Rattle.std.specs.Prelude.{◌≡◌, ℕ, ◌+◌, ◌<◌, ◌≤◌, ◌^◌, ◌&&◌, List, [], ◌∷◌, length, drop, take, nat_eq};
+ghost use Rattle.std.specs.Prelude.{◌≡◌, ℕ, ◌+◌, ◌<◌, ◌≤◌, ◌^◌, ◌&&◌, List, [], ◌∷◌, length, drop, take, true, nat_eq, IfOk, IfErr};
 ghost use Rattle.std.specs.Cmp.Lexicographic.{pointwise};
 ghost use Rattle.byteorder.specs.Endian.{little_number};
 ghost use Rattle.ep_defs.specs.declared.item.Item.{Item};
@@ -10,16 +10,22 @@ ghost use Rattle.nt_object.specs.Stream.{stream_head};
 ghost use Rattle.nt_blocks.specs.Taking.{StandsWithin};
 ghost use Rattle.nt_blocks.specs.Verdict.{info_in, may_stand};
 ghost use Rattle.nt_read.specs.declared.stage.Stage.TheVariants as stage;
+ghost use Rattle.nt_read.specs.declared.stage.Stage.TheVariants.{Close, Tag};
 ghost use Rattle.nt_read.specs.Stages.{needs};
-ghost use Rattle.nt_read.specs.state.Units.{Judges, body_fault, payload_stage};
+ghost use Rattle.nt_object.specs.declared.object.BlockKind.TheVariants as block;
+ghost use Rattle.nt_read.specs.Names.{Tells};
+ghost use Rattle.nt_read.specs.state.Names.{TurnsTold};
+ghost use Rattle.nt_read.specs.state.Units.{Faults, Judges, body_fault, payload_stage};
 ghost use Rattle.nt_read.specs.declared.fault.ReadFault.{ReadFault};
 
 use crate::fault::{ReadFault, ReadKind};
 use crate::stage::{Stage, Version};
+use crate::told::Told;
 use byteorder::{ByteOrder, LittleEndian};
 use ep_defs::{Item, ItemKind, TraceInfo};
 use nt_blocks::limits::READ_BYTES;
 use nt_blocks::{BodyFault, take_body};
+use nt_names::take_names;
 use nt_object::limits::{BEGIN_OBJECT, BLOCK_VERSION, END_OBJECT, NULL_REFERENCE, TRACE_VERSION};
 use nt_object::{BlockKind, ObjectKind};
 use std::alloc::Global;
@@ -54,6 +60,51 @@ pub fn judge(
         Stage::Body { kind, size } => body(alloc, kind, size, at, unit, pending),
         Stage::Close => close(at, unit),
         Stage::Ended => ended(at, unit),
+    }
+}
+
+/// The same for a reader of names, of which `pending` has what the open object tells.
+pub fn judge_names(
+    alloc: Global,
+    stage: Stage,
+    at: u64,
+    unit: &[u8],
+    pending: &mut Told,
+) -> Result<Stage, ReadFault>
+    requires whole { length unit.now ≡ needs stage at }
+    requires at { at + length unit.now < 2 ^ 63 }
+    ensures turns { IfOk result (λ next. (held : List Item) → Tells pending.old held
+        → TurnsTold stage at held unit.now next pending.new) }
+    ensures tag { IfOk result (λ next. stage ≡ Close → next ≡ Tag true) }
+    ensures faults { IfErr result (λ fault. (held : List Item) → Faults stage at held unit.now fault) }
+{
+    match stage {
+        Stage::Body {
+            kind: BlockKind::Event,
+            size,
+        } => names(size, at, unit, pending),
+        Stage::Close => close(at, unit),
+        _ => {
+            pending.events.clear();
+            judge(alloc, stage, at, unit, &mut pending.items)
+        }
+    }
+}
+
+// The body of a block of events.
+fn names(size: u32, at: u64, unit: &[u8], pending: &mut Told) -> Result<Stage, ReadFault>
+    requires whole { length unit.now ≡ size }
+    requires at { at + length unit.now < 2 ^ 63 }
+    ensures turns { IfOk result (λ next. (held : List Item)
+        → TurnsTold (stage.Body block.Event size) at held unit.now next pending.new) }
+    ensures faults { IfErr result (λ fault. (held : List Item)
+        → Faults (stage.Body block.Event size) at held unit.now fault) }
+{
+    let _size = size;
+    pending.clear();
+    match take_names(unit, at, &mut pending.events) {
+        Ok(()) => Ok(Stage::Close),
+        Err(fault) => Err(fault_in(at, fault)),
     }
 }
 
@@ -313,7 +364,8 @@ fn fault_in(at: u64, fault: BodyFault) -> ReadFault
 
 fn close(at: u64, unit: &[u8]) -> Result<Stage, ReadFault>
     requires { length unit.now ≡ 1 }
-    ensures { (pending : List Item) → Judges stage.Close at pending unit.now result pending }
+    ensures judged { (pending : List Item) → Judges stage.Close at pending unit.now result pending }
+    ensures tag { IfOk result (λ next. next ≡ stage.Tag true) }
 {
     if unit[0] != END_OBJECT {
         return Err(bad(at, ReadKind::BadObject));

@@ -1,5 +1,5 @@
 //! Where a reader stands in a stream: which unit is the next one.
-ghost use Rattle.std.specs.Prelude.{◌≡◌};
+ghost use Rattle.std.specs.Prelude.{◌≡◌, ◌≢◌, true, false};
 ghost use Rattle.nt_read.specs.Stages.{needs};
 
 use crate::limits::{BEGUN_BYTES, INFO_BYTES, SIZE_BYTES, TAG_BYTES};
@@ -55,6 +55,8 @@ pub enum Stage {
 }
 
 impl Stage {
+    ghost use Rattle.nt_read.specs.declared.stage.Stage.TheVariants.{Close};
+
     /// How many bytes the unit has that begins at this offset of the stream.
     pub fn needs(self, at: u64) -> usize
         ensures { result ≡ needs self at }
@@ -68,6 +70,16 @@ impl Stage {
             Stage::Size { .. } => SIZE_BYTES,
             Stage::Padding { .. } => padding(at),
             Stage::Body { size, .. } => size as usize,
+        }
+    }
+    /// Whether an object ends with this unit.
+    pub fn is_close(self) -> bool
+        ensures is { result ≡ true → self ≡ Close }
+        ensures other { result ≡ false → self ≢ Close }
+    {
+        match self {
+            Stage::Close => true,
+            _ => false,
         }
     }
 }

@@ -2,6 +2,7 @@ mod Ascending
 mod Balance
 pub mod Counted
 mod ThreadLines
+mod Told
 mod Named
 mod Numbers
 pub mod Placed

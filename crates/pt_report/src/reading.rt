@@ -1,22 +1,18 @@
 //! A stream that is read and reported piece by piece.
-ghost use Rattle.std.specs.Prelude.{◌≡◌, ◌+◌, ◌^◌, ◌<◌, ◌≤◌, ◌++◌, ◌↔◌, ℕ, [], ◌∷◌, List, length, Err, IfOk, OnOk};
+ghost use Rattle.std.specs.Prelude.{◌≡◌, ◌+◌, ◌^◌, ◌<◌, ◌≤◌, ◌++◌, ℕ, [], ◌∷◌, List, length, take, IfOk, OnOk};
 ghost use Rattle.ep_defs.specs.declared.item.Item.{Item};
-ghost use Rattle.ep_defs.specs.declared.item.ItemKind.{ItemKind};
-ghost use Rattle.nt_blocks.specs.Ordered.{no_names, told_after};
-ghost use Rattle.nt_blocks.specs.Verdict.{verdict};
-ghost use Rattle.nt_check.specs.declared.checker.CheckFault.TheVariants.{Bad};
-ghost use Rattle.nt_check.specs.declared.checker.CheckKind.{CheckKind};
-ghost use Rattle.nt_check.specs.Faults.{disorder_of};
-ghost use Rattle.nt_read.specs.Answers.{Gives, items_of};
-ghost use Rattle.nt_read.specs.Reading as reading;
-ghost use Rattle.pt_report.specs.state.Read.{IsChecked, HasRead, IsOutcome, used};
-ghost use Rattle.pt_report.specs.state.Taken.{HasTaken};
+ghost use Rattle.nt_check.specs.Events.{EventRest};
+ghost use Rattle.nt_names.specs.Told.{AreEvents, item_of};
+ghost use Rattle.nt_read.specs.Names as names;
+ghost use Rattle.nt_read.specs.Names.{Tells};
+ghost use Rattle.pt_report.specs.state.Read.{IsChecked, IsFed, HasRead, IsOutcome, used};
 
 use crate::errors::{Flaw, Refusal};
 use crate::report::Report;
-use ep_defs::{Item, ItemKind};
-use nt_check::{CheckFault, CheckKind, EventNames};
-use nt_read::{ReadFault, TraceReader};
+use ep_defs::Item;
+use nt_check::{CheckFault, CheckKind};
+use nt_names::EventAt;
+use nt_read::{NamesReader, ReadFault, Told};
 use pt_command::Reads;
 use std::alloc::{AllocError, Global};
 
@@ -38,10 +34,10 @@ pub(crate) enum Outcome {
 #[derive(Drop)]
 pub(crate) struct Reading {
     alloc: Global,
-    reader: TraceReader,
+    reader: NamesReader,
     report: Report,
-    // The items that a piece tells. It is kept empty between pieces, so that its memory serves again.
-    items: Vec<Item>,
+    // What an object tells. It is kept, so that its memory serves again.
+    told: Told,
     misplaced: Option<Misplaced>,
 }
 
@@ -52,9 +48,9 @@ impl Reading {
     {
         Reading {
             alloc,
-            reader: TraceReader::new(alloc),
+            reader: NamesReader::new(alloc),
             report: Report::new(alloc),
-            items: Vec::new(alloc),
+            told: Told::new(alloc),
             misplaced: None,
         }
     }
@@ -87,31 +83,45 @@ impl Reads for Reading {
     /// Reads the next piece of the stream. Where its bytes are refused, reading ends there, and what follows changes
     /// nothing.
     fn take(&mut self, piece: &[u8]) -> Result<(), AllocError> {
-        feed(&mut self.reader, piece, &mut self.items)?;
-        check_all(&mut self.report, self.items.as_slice(), &mut self.misplaced)?;
-        self.items.clear();
+        let mut here = 0;
+        while here < piece.len() {
+            here += feed(&mut self.reader, &piece[here..], &mut self.told)?;
+            check_all(&mut self.report, &self.told, &mut self.misplaced)?;
+        }
         Ok(())
     }
 }
 
-// Feeds a reader, whether or not the bytes are refused.
-fn feed(reader: &mut TraceReader, piece: &[u8], items: &mut Vec<Item>) -> Result<(), AllocError>
-    requires few { reading.used reader.old + length piece.now < 2 ^ 63 }
-    ensures read { (bytes : List ℕ) → reading.HasRead bytes reader.old
-        → OnOk result (reading.HasRead (bytes ++ piece.now) reader.new) }
-    ensures items { (bytes : List ℕ) → reading.HasRead bytes reader.old
-        → OnOk result (Gives (items_of (verdict bytes)) (items_of (verdict (bytes ++ piece.now))) items.old.items items.new.items) }
-    ensures used { reading.used reader.new ≤ reading.used reader.old + length piece.now }
+// Feeds a reader up to the end of an object, or all of the piece, whether or not the bytes are refused.
+fn feed(reader: &mut NamesReader, piece: &[u8], told: &mut Told) -> Result<usize, AllocError>
+    requires few { names.used reader.old + length piece.now < 2 ^ 63 }
+    ensures read { IfOk result (λ n. (bytes : List ℕ) → names.HasRead bytes reader.old
+        → IsFed bytes (take n piece.now) reader.new told.new) }
+    ensures within { IfOk result (λ n. n ≤ length piece.now) }
+    ensures some { IfOk result (λ n. 0 < length piece.now → 0 < n) }
+    ensures used { IfOk result (λ n. names.used reader.new ≤ names.used reader.old + n) }
 {
-    match reader.feed(piece, items) {
-        Ok(()) => Ok(()),
-        Err(ReadFault::Bad { .. }) => Ok(()),
+    match reader.feed(piece, told) {
+        Ok(count) => Ok(count),
+        Err(ReadFault::Bad { .. }) => Ok(piece.len()),
         Err(ReadFault::OutOfMemory) => Err(AllocError),
     }
 }
 
-// Gives a report more items, up to the first that can't stand where it does.
+// Gives a report what an object tells, up to the first item that can't stand where it does.
 fn check_all(
+    report: &mut Report,
+    told: &Told,
+    misplaced: &mut Option<Misplaced>,
+) -> Result<(), AllocError>
+    ensures { (before items : List Item) → Tells told.now items → IsChecked before report.old misplaced.old
+        → OnOk result (IsChecked (before ++ items) report.new misplaced.new) }
+{
+    check_items(report, told.items.as_slice(), misplaced)?;
+    check_events(report, told.events.as_slice(), misplaced)
+}
+
+fn check_items(
     report: &mut Report,
     items: &[Item],
     misplaced: &mut Option<Misplaced>,
@@ -136,7 +146,7 @@ fn check(
     if misplaced.is_some() {
         return Ok(());
     }
-    match take(report, &item.kind) {
+    match report.item(&item.kind) {
         Ok(()) => {}
         Err(CheckFault::Bad(kind)) => *misplaced = Some(Misplaced { at: item.at, kind }),
         Err(CheckFault::OutOfMemory) => return Err(AllocError),
@@ -144,27 +154,37 @@ fn check(
     Ok(())
 }
 
-// Gives a report one item more.
-fn take(report: &mut Report, kind: &ItemKind) -> Result<(), CheckFault>
-    ensures taken { OnOk result ((kinds : List ItemKind) → HasTaken kinds report.old
-        → HasTaken (kinds ++ kind.now ∷ []) report.new) }
-    ensures refused { (kinds : List ItemKind) → HasTaken kinds report.old → (fault : CheckKind)
-        → (result ≡ Err (Bad fault))
-        ↔ (told_after no_names (kinds ++ kind.now ∷ []) ≡ Err (disorder_of fault)) }
+fn check_events(
+    report: &mut Report,
+    events: &[EventAt],
+    misplaced: &mut Option<Misplaced>,
+) -> Result<(), AllocError>
+    ensures { (before items : List Item) → AreEvents events.now items
+        → IsChecked before report.old misplaced.old
+        → OnOk result (IsChecked (before ++ items) report.new misplaced.new) }
 {
-    match kind {
-        ItemKind::Event {
-            metadata,
-            number,
-            capture,
-            stack,
-            ..
-        } => report.event(&EventNames {
-            metadata: *metadata,
-            number: *number,
-            capture: *capture,
-            stack: *stack,
-        }),
-        _ => report.item(kind),
+    for event in events {
+        check_event(report, event, misplaced)?;
     }
+    Ok(())
+}
+
+#[inline(always)]
+fn check_event(
+    report: &mut Report,
+    event: &EventAt,
+    misplaced: &mut Option<Misplaced>,
+) -> Result<(), AllocError>
+    ensures { (before : List Item) (rest : EventRest) → IsChecked before report.old misplaced.old
+        → OnOk result (IsChecked (before ++ item_of event.now rest ∷ []) report.new misplaced.new) }
+{
+    if misplaced.is_some() {
+        return Ok(());
+    }
+    match report.event(&event.names) {
+        Ok(()) => {}
+        Err(CheckFault::Bad(kind)) => *misplaced = Some(Misplaced { at: event.at, kind }),
+        Err(CheckFault::OutOfMemory) => return Err(AllocError),
+    }
+    Ok(())
 }

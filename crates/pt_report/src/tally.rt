@@ -28,6 +28,7 @@ impl<K: Ord + Drop> Tally<K> {
     }
 
     /// Names a key, once or again, and answers its place.
+    #[inline(never)]
     pub fn name(&mut self, key: K) -> Result<usize, AllocError>
         ensures ok { OnOk result ((names : List K) → (uses : List K)
             → Counts K.cmp names uses self.old

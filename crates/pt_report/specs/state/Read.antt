@@ -1,10 +1,13 @@
 -- What was read of a stream.
-use Rattle.std.specs.Prelude.{◌≡◌, ℕ, List, [], Option, Some, None}
+use Rattle.std.specs.Prelude.{ℕ, List, Option, Some, None, Result}
 use Rattle.ep_defs.specs.declared.item.Item.{Item}
 use Rattle.nt_blocks.specs.Ordered.{kinds_of}
 use Rattle.nt_blocks.specs.Verdict.{verdict}
 use Rattle.nt_read.specs.Answers.{items_of}
-use Rattle.nt_read.specs.Reading as reader
+use Rattle.nt_read.specs.declared.fault.ReadFault.{ReadFault}
+use Rattle.nt_read.specs.declared.names_reader.NamesReader.{NamesReader}
+use Rattle.nt_read.specs.declared.told.Told.{Told}
+use Rattle.nt_read.specs.Names as reader
 use Rattle.pt_report.specs.declared.report.Report.{Report}
 use Rattle.pt_report.specs.state.Taken.{HasTaken}
 use Rattle.pt_report.specs.declared.reading.Misplaced.{Misplaced}
@@ -22,7 +25,10 @@ IsChecked items report (Some misplaced) = IsMisplaced items misplaced.at misplac
 pub record HasRead (bytes : List ℕ) (reading : Reading) : Type 0 where
   pub read : reader.HasRead bytes reading.reader
   pub checked : IsChecked (items_of (verdict bytes)) reading.report reading.misplaced
-  pub no_items : reading.items.items ≡ []
+
+-- After these bytes the reader was fed more, and this is what an object tells that ends with them, if one does.
+abbrev pub IsFed : List ℕ → List ℕ → NamesReader → Told → Type 0
+IsFed bytes more fed told = (answer : Result (Unit {0}) ReadFault) × reader.Takes bytes more answer fed told
 
 -- How many bytes were read.
 abbrev pub used : Reading → ℕ
