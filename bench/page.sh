@@ -168,7 +168,7 @@ expect(half.scripts == [None, "application/json", "application/json"], "an eleme
 
 hostile = Page("hostile")
 names = open(f"{work}/names").read().split("\n")
-expect(sorted(row[1] for row in hostile.tables["Events"]) == sorted(names), f"the names: {hostile.tables}")
+expect(sorted(row[1] for row in hostile.tables.get("Events", [])) == sorted(names), f"the names: {hostile.tables}")
 expect(hostile.texts["title"] == "tracepipe: a trace", f"nothing ran: {hostile.texts['title']}")
 expect(hostile.scripts == [None, "application/json"], f"no script of a stranger: {hostile.scripts}")
 total = sum(it[0] for it in threads.values())
