@@ -19,6 +19,9 @@ fi
 work=$(mktemp -d) || exit 1
 trap 'rm -rf "$work"' EXIT
 trap 'exit 143' TERM HUP
+# Chunks of a budget, of 64 KB each, stand in pages of their own, which go back to the system once they are freed: so memory is
+# what the program holds, and not also what glibc keeps of freed heap for later.
+export GLIBC_TUNABLES=glibc.malloc.mmap_threshold=32768:glibc.malloc.mmap_max=1000000
 export PYTHONPATH="$here/bench" PYTHONDONTWRITEBYTECODE=1
 python3 - "$TRACEPIPE" "$work" "${1:-120}" "${2:-0}" <<'SOAK'
 import collections, os, random, socket, subprocess, sys, threading, time
