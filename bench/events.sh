@@ -5,7 +5,8 @@
 # time, and what is lost sums up to what `report` says is missing; every span is of an activity. The same trace cut in its
 # middle ends with status 3, and is JSON all the same. Where something is otherwise it says so and ends with 1. In the end it
 # prints how many instructions each form takes an event, counted by callgrind (valgrind, a Debian package) where it is there,
-# beside what is aimed at. It needs python3; PROGRAM names another program than ./tracepipe.
+# beside what is aimed at, and beside those of a C program by hand that writes the same lines and objects (c/events.c), whose
+# bytes are compared. It needs python3 and cc; PROGRAM names another program than ./tracepipe.
 here=$(cd "$(dirname "$0")/.." && pwd) || exit 1
 program=${PROGRAM:-$here/tracepipe}
 writes=${1:-100000}
@@ -79,11 +80,26 @@ READ
 command -v valgrind >/dev/null || exit 0
 events=$(awk '$1 == "items" { print $2 }' "$work/report")
 program=${PROGRAM:-$here/crates/tracepipe/out/tracepipe}
+${CC:-cc} -O2 -o "$work/by_hand" "$here/bench/c/events.c" || exit 1
+
+# The instructions of a command an event, whose output goes to a file.
+instructions() {
+    valgrind --tool=callgrind --callgrind-out-file="$work/callgrind" "$@" <"$work/trace" 2>"$work/said" >"$work/lines" || exit 1
+    echo "$(($(sed -n 's/.*Collected : //p' "$work/said") / events))"
+}
+
 while read -r aim words; do
     # shellcheck disable=SC2086
-    valgrind --tool=callgrind --callgrind-out-file="$work/callgrind" "$program" $words <"$work/trace" 2>"$work/said" >"$work/lines" || exit 1
-    count=$(sed -n 's/.*Collected : //p' "$work/said")
-    echo "$words: $((count / events)) instructions an event, $(($(wc -c <"$work/lines") / events)) bytes; the aim is $aim"
+    count=$(instructions "$program" $words)
+    echo "$words: $count instructions an event, $(($(wc -c <"$work/lines") / events)) bytes; the aim is $aim"
+    case $words in
+    events*)
+        mv "$work/lines" "$work/ours"
+        # shellcheck disable=SC2086
+        echo "  by hand: $(instructions "$work/by_hand" ${words#events})"
+        cmp "$work/ours" "$work/lines" || exit 1
+        ;;
+    esac
 done <<'AIMS'
 600 events
 900 events --json
