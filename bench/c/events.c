@@ -1,31 +1,30 @@
-// The commands `events` and, with any word, `events --json` as one would write them by hand in C, for comparison: the same
-// bytes from the same stream, where fields are numbers of four or eight bytes and names are plain.
+// The commands `events`, `events --json` and `convert chromium`, with these words, as one would write them by hand in C, for
+// comparison: the same bytes from the same stream, where fields are numbers of four or eight bytes and names are plain.
 #include "stream.h"
-
-// What is the same of each event of a definition, in the form that is written.
-typedef struct {
-    char *front;
-    size_t front_size;
-    uint32_t fields;
-    struct {
-        uint32_t code;
-        char *name;
-        size_t size;
-    } field[8];
-} Definition;
 
 typedef struct {
     char *text;
     size_t size;
-} Stack;
+} Text;
+
+// What is the same of each event of a definition, in the form that is written; and of those that are an end of a span.
+typedef struct {
+    Text front, span;
+    uint32_t fields;
+    struct {
+        uint32_t code;
+        Text name;
+    } field[8];
+} Definition;
 
 static Definition *definitions;
 static uint32_t definition_room;
-static Stack *stacks;
+static Text *stacks;
 static uint32_t stack_room;
 static char *out;
 static size_t used, room;
-static int json;
+static enum { LINES, JSON, CHROMIUM } form;
+static int is_first = 1;
 static char two_digits[100][2], two_hex[256][2];
 
 static void make_room(size_t more) {
@@ -38,6 +37,8 @@ static void bytes(const char *text, size_t size) {
 }
 
 #define WORD(text) bytes(text, sizeof text - 1)
+
+static void put(const Text *text) { bytes(text->text, text->size); }
 
 static size_t digits(char to[20], uint64_t number) {
     char text[20];
@@ -88,6 +89,27 @@ static void uuid(const uint8_t id[16]) {
     hex(id + 10, 6);
 }
 
+// What begins an object of a file, up to what tells when it was.
+static void begin_object(void) {
+    if (!is_first) WORD(",");
+    is_first = 0;
+    WORD("\n");
+}
+
+// When it was, in microseconds, and the process.
+static void moment(uint64_t stamp) {
+    unsigned __int128 nanoseconds = stamp;
+    if (frequency) nanoseconds = nanoseconds * 1000000000 / frequency;
+    uint32_t rest = nanoseconds % 1000;
+    WORD(",\"ts\":");
+    plain(nanoseconds / 1000);
+    out[used++] = '.';
+    out[used++] = '0' + rest / 100;
+    bytes(two_digits[rest % 100], 2);
+    WORD(",\"pid\":");
+    plain(trace_info[1]);
+}
+
 static void write_out(void) {
     fwrite(out, 1, used, stdout);
     used = 0;
@@ -96,7 +118,8 @@ static void write_out(void) {
 static void lost(uint64_t thread, uint32_t count) {
     if (!count) return;
     make_room(100);
-    if (json) {
+    if (form == CHROMIUM) refuse();
+    if (form == JSON) {
         WORD("{\"kind\":\"lost\",\"thread\":");
         exact(thread);
         WORD(",\"count\":");
@@ -120,8 +143,8 @@ static int value(const uint8_t **at, const uint8_t *end, uint32_t code) {
         out[used++] = '-';
         number = -number;
     }
-    if (json) exact(number);
-    else plain(number);
+    if (form == LINES) plain(number);
+    else exact(number);
     return 1;
 }
 
@@ -130,25 +153,42 @@ static void fields(const Definition *definition, const uint8_t *at, const uint8_
     const uint8_t *payload = at;
     int fits = 1;
     for (uint32_t i = 0; i < definition->fields && fits; i++) {
-        bytes(definition->field[i].name, definition->field[i].size);
+        put(&definition->field[i].name);
         fits = value(&at, end, definition->field[i].code);
     }
     if (fits && at == end) return;
     used = start;
-    if (json) refuse();
+    if (form != LINES) refuse();
     WORD(" payload=");
     hex(payload, end - payload);
 }
 
 static void take_event(const Head *now, const uint8_t *payload) {
-    if (now->metadata >= definition_room || !definitions[now->metadata].front) refuse();
+    if (now->metadata >= definition_room || !definitions[now->metadata].front.text) refuse();
     const Definition *definition = &definitions[now->metadata];
     if (now->stack && (now->stack >= stack_room || !stacks[now->stack].text)) refuse();
     Thread *thread = thread_of(now->capture);
     lost(now->capture, now->number - (thread->last + 1));
     thread->last = now->number;
     make_room(2048 + 2 * now->size + (now->stack ? stacks[now->stack].size : 0));
-    if (json) {
+    if (form == CHROMIUM) {
+        begin_object();
+        if (definition->span.text && memcmp(now->activity, (uint8_t[16]){0}, 16)) {
+            put(&definition->span);
+            uuid(now->activity);
+            WORD("\"");
+        } else {
+            put(&definition->front);
+        }
+        moment(now->stamp);
+        WORD(",\"tid\":");
+        exact(now->capture);
+        WORD(",\"args\":{\"number\":");
+        plain(now->number);
+        WORD(",\"fields\":{");
+        fields(definition, payload, payload + now->size);
+        WORD("}}}");
+    } else if (form == JSON) {
         WORD("{\"kind\":\"event\",\"stamp\":");
         exact(now->stamp);
         WORD(",\"thread\":");
@@ -159,13 +199,13 @@ static void take_event(const Head *now, const uint8_t *payload) {
         plain(now->processor);
         WORD(",\"thread_id\":");
         exact(now->thread);
-        bytes(definition->front, definition->front_size);
+        put(&definition->front);
         WORD(",\"activity\":\"");
         uuid(now->activity);
         WORD("\",\"related\":\"");
         uuid(now->related);
         WORD("\",\"stack\":[");
-        if (now->stack) bytes(stacks[now->stack].text, stacks[now->stack].size);
+        if (now->stack) put(&stacks[now->stack]);
         WORD("],\"fields\":{");
         fields(definition, payload, payload + now->size);
         WORD("}}\n");
@@ -174,7 +214,7 @@ static void take_event(const Head *now, const uint8_t *payload) {
         in_places(now->stamp);
         in_places(now->capture);
         in_places(now->number);
-        bytes(definition->front, definition->front_size);
+        put(&definition->front);
         fields(definition, payload, payload + now->size);
         WORD("\n");
     }
@@ -190,6 +230,23 @@ static size_t plain_name(char *to, const uint8_t *units, size_t size) {
     return size / 2;
 }
 
+// Appends the name and the category of an object of a file.
+static char *named(char *to, const uint8_t *provider, size_t provider_size, const uint8_t *name, size_t name_size) {
+    to += sprintf(to, "{\"name\":\"");
+    to += plain_name(to, name, name_size);
+    to += sprintf(to, "\",\"cat\":\"");
+    to += plain_name(to, provider, provider_size);
+    return to + sprintf(to, "\",");
+}
+
+// What begins the object of an end of a span.
+static Text span_of(char phase, const uint8_t *provider, size_t provider_size, const uint8_t *name, size_t name_size) {
+    Text span = {.text = again(NULL, provider_size + name_size + 200)};
+    char *to = named(span.text, provider, provider_size, name, name_size);
+    span.size = to + sprintf(to, "\"ph\":\"%c\",\"id\":\"", phase) - span.text;
+    return span;
+}
+
 static void take_definition(const uint8_t *at, const uint8_t *end) {
     uint32_t id = number32(at);
     const uint8_t *provider = at + 4;
@@ -203,23 +260,31 @@ static void take_definition(const uint8_t *at, const uint8_t *end) {
     at += 20;
     definitions = reach(definitions, &definition_room, id, sizeof *definitions);
     Definition *now = &definitions[id];
-    if (now->front || count > 8) refuse();
-    char *to = now->front = again(NULL, provider_size + name_size + 200);
-    to += sprintf(to, json ? ",\"provider\":\"" : " ");
-    to += plain_name(to, provider, provider_size);
-    to += sprintf(to, json ? "\",\"name\":\"" : " ");
-    to += plain_name(to, name, name_size);
-    if (json) to += sprintf(to, "\",\"id\":%u,\"version\":%u,\"level\":%u,\"keywords\":%lu", event, version, level, keywords);
-    now->front_size = to - now->front;
+    if (now->front.text || count > 8) refuse();
+    char *to = now->front.text = again(NULL, provider_size + name_size + 200);
+    if (form == CHROMIUM) {
+        size_t stem = name_size / 2;
+        if (stem >= 5 && !memcmp(name + 2 * (stem - 5), "S\0t\0a\0r\0t", 10)) now->span = span_of('b', provider, provider_size, name, 2 * (stem - 5));
+        else if (stem >= 4 && !memcmp(name + 2 * (stem - 4), "S\0t\0o\0p", 8)) now->span = span_of('e', provider, provider_size, name, 2 * (stem - 4));
+        to = named(to, provider, provider_size, name, name_size);
+        to += sprintf(to, "\"ph\":\"i\",\"s\":\"t\"");
+    } else {
+        to += sprintf(to, form == JSON ? ",\"provider\":\"" : " ");
+        to += plain_name(to, provider, provider_size);
+        to += sprintf(to, form == JSON ? "\",\"name\":\"" : " ");
+        to += plain_name(to, name, name_size);
+        if (form == JSON) to += sprintf(to, "\",\"id\":%u,\"version\":%u,\"level\":%u,\"keywords\":%lu", event, version, level, keywords);
+    }
+    now->front.size = to - now->front.text;
     now->fields = count;
     for (uint32_t i = 0; i < count; i++) {
         size_t size = text_size(at + 4, end);
         now->field[i].code = number32(at);
-        to = now->field[i].name = again(NULL, size + 8);
-        to += sprintf(to, json ? i ? ",\"" : "\"" : " ");
+        to = now->field[i].name.text = again(NULL, size + 8);
+        to += sprintf(to, form == LINES ? " " : i ? ",\"" : "\"");
         to += plain_name(to, at + 4, size);
-        to += sprintf(to, json ? "\":" : "=");
-        now->field[i].size = to - now->field[i].name;
+        to += sprintf(to, form == LINES ? "=" : "\":");
+        now->field[i].name.size = to - now->field[i].name.text;
         at += 4 + size + 2;
     }
 }
@@ -240,7 +305,14 @@ static void take_point(const uint8_t *at, uint32_t count, uint64_t stamp) {
         thread->last = number;
     }
     make_room(100 + 60 * count);
-    if (json) {
+    if (form == CHROMIUM) {
+        begin_object();
+        WORD("{\"name\":\"point\",\"ph\":\"i\",\"s\":\"p\"");
+        moment(stamp);
+        WORD(",\"args\":{\"threads\":");
+        plain(count);
+        WORD("}}");
+    } else if (form == JSON) {
         WORD("{\"kind\":\"point\",\"stamp\":");
         exact(stamp);
         WORD(",\"threads\":[");
@@ -261,15 +333,18 @@ static void take_point(const uint8_t *at, uint32_t count, uint64_t stamp) {
     }
     for (uint32_t id = 0; id < stack_room; id++) {
         free(stacks[id].text);
-        stacks[id] = (Stack){0};
+        stacks[id] = (Text){0};
     }
 }
 
 int main(int words, char **word) {
-    (void)word;
-    json = words > 1;
+    if (words > 2) form = strcmp(word[2], "chromium") ? JSON : CHROMIUM;
     for (int i = 0; i < 100; i++) memcpy(two_digits[i], (char[]){'0' + i / 10, '0' + i % 10}, 2);
     for (int i = 0; i < 256; i++) memcpy(two_hex[i], (char[]){"0123456789abcdef"[i / 16], "0123456789abcdef"[i % 16]}, 2);
+    make_room(1000);
+    if (form == CHROMIUM) WORD("{\"displayTimeUnit\":\"ns\",\"traceEvents\":[");
     read_stream();
+    make_room(1000);
+    if (form == CHROMIUM) WORD("\n]}\n");
     write_out();
 }

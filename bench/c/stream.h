@@ -28,6 +28,7 @@ static size_t thread_count, thread_room;
 static uint32_t *slots;
 static size_t slot_count;
 static int has_trace;
+static uint64_t frequency;
 static uint32_t trace_info[3];
 
 static void refuse(void) { exit(3); }
@@ -189,6 +190,7 @@ static void read_stream(void) {
         memcpy(name, next(name_size + 1), name_size);
         if (!strcmp(name, "Trace")) {
             const uint8_t *payload = next(48);
+            frequency = number64(payload + 24);
             for (int i = 0; i < 3; i++) trace_info[i] = number32(payload + 32 + 4 * i);
             has_trace = 1;
         } else {
