@@ -115,11 +115,20 @@ static void write_out(void) {
     used = 0;
 }
 
-static void lost(uint64_t thread, uint32_t count) {
+static void lost(uint64_t thread, uint32_t count, uint64_t stamp) {
     if (!count) return;
-    make_room(100);
-    if (form == CHROMIUM) refuse();
-    if (form == JSON) {
+    make_room(200);
+    if (form == CHROMIUM) {
+        begin_object();
+        WORD("{\"name\":\"lost\",\"ph\":\"C\",\"id\":");
+        exact(thread);
+        moment(stamp);
+        WORD(",\"tid\":");
+        exact(thread);
+        WORD(",\"args\":{\"count\":");
+        plain(count);
+        WORD("}}");
+    } else if (form == JSON) {
         WORD("{\"kind\":\"lost\",\"thread\":");
         exact(thread);
         WORD(",\"count\":");
@@ -168,7 +177,7 @@ static void take_event(const Head *now, const uint8_t *payload) {
     const Definition *definition = &definitions[now->metadata];
     if (now->stack && (now->stack >= stack_room || !stacks[now->stack].text)) refuse();
     Thread *thread = thread_of(now->capture);
-    lost(now->capture, now->number - (thread->last + 1));
+    lost(now->capture, now->number - (thread->last + 1), now->stamp);
     thread->last = now->number;
     make_room(2048 + 2 * now->size + (now->stack ? stacks[now->stack].size : 0));
     if (form == CHROMIUM) {
@@ -301,7 +310,7 @@ static void take_point(const uint8_t *at, uint32_t count, uint64_t stamp) {
     for (uint32_t i = 0; i < count; i++) {
         Thread *thread = thread_of(number64(at + 12 * i));
         uint32_t number = number32(at + 12 * i + 8);
-        lost(thread->thread, number - thread->last);
+        lost(thread->thread, number - thread->last, stamp);
         thread->last = number;
     }
     make_room(100 + 60 * count);
