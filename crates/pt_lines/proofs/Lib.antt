@@ -1,3 +1,4 @@
+pub mod Addresses
 pub mod Around
 pub mod Floats
 pub mod Entries
@@ -8,3 +9,4 @@ pub mod Members
 pub mod Nests
 pub mod Objects
 pub mod Steps
+pub mod Uuids

@@ -62,6 +62,10 @@ pub fn put_signed(out: &mut Vec<u8>, number: i64) -> Result<(), AllocError>
 pub fn put_digits(out: &mut Vec<u8>, number: u64) -> Result<(), AllocError>
     ensures { OnOk result (out.new.items ≡ out.old.items ++ decimal number) }
 {
+    // Most of a definition's numbers have one digit.
+    if number < 10 {
+        return Ok(out.push(b'0' + number as u8)?);
+    }
     let mut buffer = itoa::Buffer::new();
     out.extend_from_slice(buffer.format(number).as_bytes())
 }
@@ -103,6 +107,10 @@ pub fn put_hex(out: &mut Vec<u8>, alloc: Global, bytes: &[u8]) -> Result<(), All
 pub fn put_guid(out: &mut Vec<u8>, bytes: [u8; 16]) -> Result<(), AllocError>
     ensures { OnOk result (out.new.items ≡ out.old.items ++ hyphenated_text lower (swap_fields bytes)) }
 {
+    // Most events belong to no activity.
+    if bytes == [0; 16] {
+        return out.extend_from_slice(b"00000000-0000-0000-0000-000000000000");
+    }
     let mut buffer = Uuid::encode_buffer();
     let text = Uuid::from_bytes_le(bytes)
         .hyphenated()
