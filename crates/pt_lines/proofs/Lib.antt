@@ -1,5 +1,6 @@
 pub mod Addresses
 pub mod Around
+pub mod Digits
 pub mod Floats
 pub mod Entries
 pub mod Frames

@@ -55,9 +55,15 @@ pub fn put_truth(out: &mut Vec<u8>, truth: bool) -> Result<(), AllocError>
 pub fn put_signed(out: &mut Vec<u8>, number: i64) -> Result<(), AllocError>
     ensures { OnOk result (out.new.items ≡ out.old.items ++ signed_decimal number) }
 {
+    if number >= 0 {
+        return put_digits(out, number.unsigned_abs());
+    }
     let mut buffer = itoa::Buffer::new();
     out.extend_from_slice(buffer.format(number).as_bytes())
 }
+
+/// How many digits a number has at most: those of 2^64 - 1.
+pub const MOST_DIGITS: usize = 20;
 
 /// Appends a number.
 pub fn put_digits(out: &mut Vec<u8>, number: u64) -> Result<(), AllocError>
@@ -67,8 +73,9 @@ pub fn put_digits(out: &mut Vec<u8>, number: u64) -> Result<(), AllocError>
     if number < 10 {
         return Ok(out.push(b'0' + number as u8)?);
     }
-    let mut buffer = itoa::Buffer::new();
-    out.extend_from_slice(buffer.format(number).as_bytes())
+    let mut text = [0; MOST_DIGITS];
+    let start = itoa::write_digits(number, &mut text, MOST_DIGITS);
+    out.extend_from_slice(&text[start..])
 }
 
 /// The bits of the exponent, all of them set: above them, without the sign, stands no number.
