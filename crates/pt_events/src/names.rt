@@ -10,12 +10,13 @@ ghost use Rattle.pt_events.specs.state.Known.{Knows, IsFound, IsUnknown};
 
 use ep_defs::{Bytes, Duplicate, EventDef};
 use nt_check::{ById, CheckFault, CheckKind};
+use pt_lines::NamedDef;
 use std::alloc::Global;
 
 /// The definitions by their metadata ids, and the stacks since the last point by theirs.
 #[derive(Drop)]
 pub struct KnownNames {
-    definitions: ById<EventDef>,
+    definitions: ById<NamedDef>,
     stacks: ById<Bytes>,
 }
 
@@ -54,7 +55,7 @@ impl KnownNames {
         if self.is_defined(id) {
             return Err(CheckFault::Bad(CheckKind::MetadataTwice { id }));
         }
-        let def = def.copy(alloc)?;
+        let def = NamedDef::new(alloc, def)?;
         self.definitions.insert(u64::from(id), def)?;
         Ok(())
     }
@@ -75,7 +76,7 @@ impl KnownNames {
     }
 
     /// The definition and the stack of an event with these ids, or which of them stands for nothing.
-    pub fn find(&self, metadata: u32, stack: u32) -> Result<(&EventDef, &[u8]), CheckFault>
+    pub fn find(&self, metadata: u32, stack: u32) -> Result<(&NamedDef, &[u8]), CheckFault>
         ensures { (names : Names) → Knows names self.now
             → MatchResult result (λ found. IsFound names metadata stack found.0.now found.1.now)
             (λ fault. (kind : CheckKind) × (fault ≡ Bad kind) × IsUnknown names metadata stack (disorder_of kind)) }

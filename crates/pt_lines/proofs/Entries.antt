@@ -1,11 +1,12 @@
 -- The objects of trace events, put piece by piece.
-use Rattle.std.proofs.Common.{◌≡◌, ℕ, List, [], ◌∷◌, ◌++◌, length, refl, ap, sym, ◌∙◌, subst, append_assoc}
+use Rattle.std.proofs.Common.{◌≡◌, ℕ, true, replicate, List, [], ◌∷◌, ◌++◌, length, refl, ap, sym, ◌∙◌, subst, append_assoc}
 use Rattle.std.specs.Prelude.{codes}
 use Rattle.std.specs.List.{concat}
 use Rattle.std.proofs.lemmas.List.{append-nil}
 use Rattle.std.proofs.lemmas.List.Folds.{concat-append}
 use Rattle.ep_defs.specs.declared.event.FieldDef.{FieldDef}
 use Rattle.ep_defs.specs.Entry.{EventEntry, PointEntry}
+use Rattle.ep_defs.specs.Event.{is_same_text}
 use Rattle.nt_fields.specs.Values.{payload_at}
 use Rattle.pt_lines.specs.declared.form.Form.TheVariants as forms
 use Rattle.pt_lines.specs.declared.origin.Origin.{Origin}
@@ -15,7 +16,7 @@ use Rattle.pt_lines.specs.Texts.{quoted}
 use Rattle.pt_lines.specs.Json.{IsPayloadMember, behind_commas, integer, object}
 use Rattle.pt_lines.specs.Chromium.{event_phase, lost_counter, moment_text, next_object, phase_of, phase_text, point_instant}
 use Rattle.pt_lines.specs.Appends.{Appends}
-use Rattle.pt_lines.specs.state.Pieces.{named_pieces, placed_pieces}
+use Rattle.pt_lines.specs.state.Pieces.{instant_text, named_pieces, placed_pieces}
 
 -- ---- an object, member by member
 
@@ -102,6 +103,10 @@ entry-is origin event payload =
     (two-arguments (codes "\"number\":") number (codes ",") payload (codes "}"))
     ∙ concat-append (named_pieces event) (placed_pieces origin event ++ behind)
     ∙ ap (λ (xs : List ℕ). concat (named_pieces event) ++ xs) (concat-append (placed_pieces origin event) behind)
+
+-- An event of no activity is an instant of its name.
+pub plain-is : (event : EventEntry) → is_same_text event.activity (replicate 16 0) ≡ true → concat (named_pieces event) ≡ instant_text event.def
+plain-is event none = rw none refl
 
 pieces : (old named placed payload end : List ℕ) → (((old ++ named) ++ placed) ++ payload) ++ end ≡ old ++ (named ++ (placed ++ (payload ++ end)))
 pieces old named placed payload end = simp append_assoc

@@ -13,14 +13,6 @@ pub record Framing (width : ℕ) (stack old left : List ℕ) (first : Bool) (out
   pub put : out ≡ old ++ (codes "[" ++ text)
   pub goes : (rest : List (List ℕ)) → AreFrames width left rest → (all : List (List ℕ)) × AreFrames width stack all × (text ++ after first rest ≡ commas all)
 
-pub framing-none : (width : ℕ) (stack old out : List ℕ) → out ≡ old ++ codes "[" → Framing width stack old stack true out
-framing-none width stack old out put =
-    record {
-      text = [];
-      put = put;
-      goes = λ rest are. (rest, are, refl);
-    }
-
 pub framing-more : (width : ℕ) (stack old left : List ℕ) (first : Bool) (out now : List ℕ) → 0 < length left → Framing width stack old left first out
     → now ≡ out ++ comma first ++ address_text (take width left) → Framing width stack old (drop width left) false now
 framing-more width stack old left first out now some framing put =

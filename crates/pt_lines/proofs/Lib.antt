@@ -1,4 +1,6 @@
+pub mod Addresses
 pub mod Around
+pub mod Digits
 pub mod Floats
 pub mod Entries
 pub mod Frames
@@ -8,3 +10,4 @@ pub mod Members
 pub mod Nests
 pub mod Objects
 pub mod Steps
+pub mod Uuids

@@ -88,18 +88,6 @@ members-all fields payload old bytes nest out now going none put =
 
 -- ---- a payload
 
--- Its members were put between braces.
-pub payload-fits : (fields : List FieldDef) (payload : List ℕ) (answer : Result (List FieldValue) Misfit) (old mid now new : List ℕ) → PutsMembers fields answer true mid now → mid ≡ old ++ codes "\"fields\":{" → new ≡ now ++ codes "}"
-    → Appends (IsPayloadMember fields payload answer) old new
-payload-fits fields payload (Ok values) old mid now new (text, are, put) start end = (
-  codes "\"fields\":{" ++ text ++ codes "}",
-  (text, are, refl),
-  end
-      ∙ ap (λ (xs : List ℕ). xs ++ codes "}") (put ∙ ap (λ (xs : List ℕ). xs ++ text) start ∙ append_assoc old (codes "\"fields\":{") text)
-      ∙ append_assoc old (codes "\"fields\":{" ++ text) (codes "}"),
-)
-payload-fits fields payload (Err misfit) old mid now new puts start end = absurd puts
-
 -- It stands whole where they were to stand.
 pub payload-misfits : (fields : List FieldDef) (payload : List ℕ) (answer : Result (List FieldValue) Misfit) (old mid now word new : List ℕ) → PutsMembers fields answer false mid now → mid ≡ old ++ codes "\"fields\":{"
     → word ≡ take (length old) now ++ codes "\"payload\":" → new ≡ word ++ in_quotes (encode_lower payload)

@@ -7,9 +7,11 @@ ghost use Rattle.pt_lines.specs.Line.{Event, Lost, Point, lost_if};
 ghost use Rattle.pt_lines.specs.Texts.{event_start, lost_line, point_text};
 ghost use Rattle.pt_lines.specs.Forms.{AreLines, IsLine};
 ghost use Rattle.pt_lines.specs.Appends.{Appends, Tells};
+ghost use Rattle.pt_lines.specs.state.Pieces.{names_text};
 
 use crate::fields::put_payload;
 use crate::form::Form;
+use crate::named::NamedDef;
 use crate::origin::Origin;
 use crate::{chromium, json, page};
 use ep_defs::EventDef;
@@ -27,7 +29,7 @@ pub struct EventLine<'a> {
     /// The capture thread, whose number it has.
     pub thread: u64,
     pub number: u32,
-    pub def: &'a EventDef,
+    pub def: &'a NamedDef,
     pub activity: &'a [u8; 16],
     pub related: &'a [u8; 16],
     pub stack: &'a [u8],
@@ -128,7 +130,7 @@ fn put_event_line(out: &mut Vec<u8>, alloc: Global, event: &EventLine<'_>) -> Re
         → OnOk result (Appends (IsLine forms.Lines (Event origin processor thread entry)) out.old.items out.new.items) }
 {
     put_event_start(out, event)?;
-    put_payload(out, alloc, event.def.fields.as_slice(), event.payload)?;
+    put_payload(out, alloc, event.def.fields(), event.payload)?;
     put_end(out)
 }
 
@@ -140,6 +142,13 @@ fn put_event_start(out: &mut Vec<u8>, event: &EventLine<'_>) -> Result<(), Alloc
     put_number(out, event.stamp)?;
     put_number(out, event.thread)?;
     put_number(out, u64::from(event.number))?;
-    put_units(out, event.def.provider.as_slice())?;
-    put_units(out, event.def.name.as_slice())
+    out.extend_from_slice(event.def.names())
+}
+
+/// Appends the names of a definition, as they stand in the lines of its events.
+pub fn put_names(out: &mut Vec<u8>, def: &EventDef) -> Result<(), AllocError>
+    ensures { OnOk result (out.new.items ≡ out.old.items ++ names_text def.now) }
+{
+    put_units(out, def.provider.as_slice())?;
+    put_units(out, def.name.as_slice())
 }

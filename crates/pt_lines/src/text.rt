@@ -60,6 +60,7 @@ pub fn put_text(out: &mut Vec<u8>, bytes: &[u8]) -> Result<(), AllocError>
     Ok(out.push(b'"')?)
 }
 
+#[inline(always)]
 fn put_text_unit(out: &mut Vec<u8>, unit: u16) -> Result<(), AllocError>
     ensures { OnOk result (out.new.items ≡ out.old.items ++ text_unit unit) }
 {

@@ -1,10 +1,11 @@
 //! The value of a field.
-ghost use Rattle.std.specs.Prelude.{◌≡◌, ◌<◌, ◌^◌, ◌++◌, length, OnOk};
+ghost use Rattle.std.specs.Prelude.{◌≡◌, ◌<◌, ◌^◌, ◌++◌, length, replicate, OnOk};
 ghost use Rattle.std.specs.Fmt.{decimal, signed_decimal};
 ghost use Rattle.std.specs.Float.{binary32, binary64};
 ghost use Rattle.hex.specs.Hex.{encode_lower};
 ghost use Rattle.uuid.specs.Parts.{swap_fields};
 ghost use Rattle.uuid.specs.Text.{hyphenated_text, lower};
+ghost use Rattle.ep_defs.specs.Event.{is_same_text};
 ghost use Rattle.nt_fields.specs.Taking.{value_in, StandsIn};
 ghost use Rattle.pt_lines.specs.Texts.{IsShown, IsFloat, truth_text, digits_in, day_text, clock_text, date_text};
 ghost use Rattle.pt_lines.specs.Appends.{Appends};
@@ -54,16 +55,27 @@ pub fn put_truth(out: &mut Vec<u8>, truth: bool) -> Result<(), AllocError>
 pub fn put_signed(out: &mut Vec<u8>, number: i64) -> Result<(), AllocError>
     ensures { OnOk result (out.new.items ≡ out.old.items ++ signed_decimal number) }
 {
+    if number >= 0 {
+        return put_digits(out, number.unsigned_abs());
+    }
     let mut buffer = itoa::Buffer::new();
     out.extend_from_slice(buffer.format(number).as_bytes())
 }
+
+/// How many digits a number has at most: those of 2^64 - 1.
+pub const MOST_DIGITS: usize = 20;
 
 /// Appends a number.
 pub fn put_digits(out: &mut Vec<u8>, number: u64) -> Result<(), AllocError>
     ensures { OnOk result (out.new.items ≡ out.old.items ++ decimal number) }
 {
-    let mut buffer = itoa::Buffer::new();
-    out.extend_from_slice(buffer.format(number).as_bytes())
+    // Most of a definition's numbers have one digit.
+    if number < 10 {
+        return Ok(out.push(b'0' + number as u8)?);
+    }
+    let mut text = [0; MOST_DIGITS];
+    let start = itoa::write_digits(number, &mut text, MOST_DIGITS);
+    out.extend_from_slice(&text[start..])
 }
 
 /// The bits of the exponent, all of them set: above them, without the sign, stands no number.
@@ -103,11 +115,22 @@ pub fn put_hex(out: &mut Vec<u8>, alloc: Global, bytes: &[u8]) -> Result<(), All
 pub fn put_guid(out: &mut Vec<u8>, bytes: [u8; 16]) -> Result<(), AllocError>
     ensures { OnOk result (out.new.items ≡ out.old.items ++ hyphenated_text lower (swap_fields bytes)) }
 {
+    // Most events belong to no activity.
+    if bytes == [0; 16] {
+        return out.extend_from_slice(b"00000000-0000-0000-0000-000000000000");
+    }
     let mut buffer = Uuid::encode_buffer();
     let text = Uuid::from_bytes_le(bytes)
         .hyphenated()
         .encode_lower(&mut buffer);
     out.extend_from_slice(text.as_bytes())
+}
+
+/// Whether sixteen bytes are zeros, those of no activity.
+pub fn is_none(bytes: &[u8; 16]) -> bool
+    ensures { result ≡ is_same_text bytes.now (replicate 16 0) }
+{
+    *bytes == [0; 16]
 }
 
 /// Appends a date.

@@ -17,6 +17,9 @@ use std::alloc::AllocError;
 /// How many places a number fills at least.
 pub const PLACES: usize = 10;
 
+// How many it fills at most with the space before it: 2^64 - 1 has 20 digits.
+const WIDEST: usize = 21;
+
 /// Appends the word that begins a line.
 pub fn put_word(out: &mut Vec<u8>, word: &str) -> Result<(), AllocError>
     ensures ok { OnOk result (out.new.items ≡ out.old.items ++ word.now) }
@@ -30,11 +33,12 @@ pub fn put_number(out: &mut Vec<u8>, number: u64) -> Result<(), AllocError>
     ensures ok { OnOk result (out.new.items ≡ out.old.items ++ number_part number) }
     ensures err { OnErr result (take (length out.old.items) out.new.items ≡ out.old.items) }
 {
-    let mut buffer = itoa::Buffer::new();
-    let digits = buffer.format(number).as_bytes();
-    out.push(b' ')?;
-    out.resize(out.len() + PLACES.saturating_sub(digits.len()), b' ')?;
-    out.extend_from_slice(digits)
+    // The digits come behind blanks that stand there already, so that all goes in one piece.
+    let mut text = [b' '; WIDEST];
+    let start = itoa::write_digits(number, &mut text, WIDEST);
+    let digits = &text[start..];
+    let blanks = 1 + PLACES.saturating_sub(digits.len());
+    out.extend_from_slice(&text[start - blanks..])
 }
 
 /// Appends a text as it is, behind a space, or `-` where it is empty.

@@ -1,5 +1,8 @@
--- The pieces of an event in the form of trace events, up to its payload.
-use Rattle.std.specs.Prelude.{ℕ, List, [], ◌∷◌, codes}
+-- What is put of an event in one piece or some, up to its payload.
+use Rattle.std.specs.Prelude.{ℕ, List, [], ◌∷◌, ◌++◌, codes}
+use Rattle.pt_print.specs.Printed.{units_part}
+use Rattle.ep_defs.specs.declared.event.EventDef.{EventDef}
+use Rattle.std.specs.List.{concat}
 use Rattle.ep_defs.specs.Entry.{EventEntry}
 use Rattle.pt_lines.specs.declared.chromium.phase.Phase.{Phase}
 use Rattle.pt_lines.specs.declared.origin.Origin.{Origin}
@@ -20,3 +23,13 @@ named_pieces event = pieces_in (phase_of event.activity event.def.name) event
 abbrev pub placed_pieces : Origin → EventEntry → List (List ℕ)
 placed_pieces origin event =
     codes "," ∷ moment_text origin event.stamp ∷ codes ",\"tid\":" ∷ integer event.thread ∷ codes ",\"args\":{\"number\":" ∷ integer event.number ∷ codes "," ∷ []
+
+-- ---- what is the same for all events of a definition
+
+-- Its names, as they stand in a line.
+abbrev pub names_text : EventDef → List ℕ
+names_text def = units_part def.provider ++ units_part def.name
+
+-- What a trace event is that is an instant, up to its moment.
+abbrev pub instant_text : EventDef → List ℕ
+instant_text def = concat (codes ",\n{\"name\":" ∷ quoted def.name ∷ codes ",\"cat\":" ∷ quoted def.provider ∷ codes ",\"ph\":\"i\",\"s\":\"t\"" ∷ [])

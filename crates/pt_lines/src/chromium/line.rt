@@ -8,7 +8,7 @@ ghost use Rattle.pt_lines.specs.Line.{Event};
 ghost use Rattle.pt_lines.specs.Forms.{IsLine};
 ghost use Rattle.pt_lines.specs.Chromium.{error_tail, lost_counter, point_instant};
 ghost use Rattle.pt_lines.specs.Appends.{Appends, Tells};
-ghost use Rattle.pt_lines.specs.state.Pieces.{named_pieces, placed_pieces};
+ghost use Rattle.pt_lines.specs.state.Pieces.{instant_text, named_pieces, placed_pieces};
 
 use crate::chromium::moment::put_moment;
 use crate::chromium::phase::{phase_of, put_phase};
@@ -18,6 +18,8 @@ use crate::json::value::put_integer;
 use crate::line::EventLine;
 use crate::origin::Origin;
 use crate::text::put_quoted;
+use crate::value::is_none;
+use ep_defs::EventDef;
 use pt_print::put_word;
 use std::alloc::{AllocError, Global};
 
@@ -65,7 +67,7 @@ pub fn put_event(out: &mut Vec<u8>, alloc: Global, event: &EventLine<'_>) -> Res
 {
     put_named(out, event)?;
     put_place(out, event)?;
-    put_payload(out, alloc, event.def.fields.as_slice(), event.payload)?;
+    put_payload(out, alloc, event.def.fields(), event.payload)?;
     put_word(out, "}}")
 }
 
@@ -74,13 +76,35 @@ fn put_named(out: &mut Vec<u8>, event: &EventLine<'_>) -> Result<(), AllocError>
     ensures { (origin : Origin) (processor thread : ℕ) (entry : EventEntry) → Tells event.now origin processor thread entry
         → OnOk result (out.new.items ≡ out.old.items ++ concat (named_pieces entry)) }
 {
-    let (phase, name) = phase_of(event.activity, event.def.name.as_slice());
+    if is_none(event.activity) {
+        return out.extend_from_slice(event.def.instant());
+    }
+    put_phased(out, event)
+}
+
+// So it is with an event of any activity.
+fn put_phased(out: &mut Vec<u8>, event: &EventLine<'_>) -> Result<(), AllocError>
+    ensures { (origin : Origin) (processor thread : ℕ) (entry : EventEntry) → Tells event.now origin processor thread entry
+        → OnOk result (out.new.items ≡ out.old.items ++ concat (named_pieces entry)) }
+{
+    let (phase, shown) = phase_of(event.activity, event.def.name());
     put_word(out, ",\n{\"name\":")?;
-    put_quoted(out, name)?;
+    put_quoted(out, shown)?;
     put_word(out, ",\"cat\":")?;
-    put_quoted(out, event.def.provider.as_slice())?;
+    put_quoted(out, event.def.provider())?;
     out.push(b',')?;
     put_phase(out, event.activity, phase)
+}
+
+/// Appends what an instant of this definition is, up to its moment.
+pub fn put_instant(out: &mut Vec<u8>, def: &EventDef) -> Result<(), AllocError>
+    ensures { OnOk result (out.new.items ≡ out.old.items ++ instant_text def.now) }
+{
+    put_word(out, ",\n{\"name\":")?;
+    put_quoted(out, def.name.as_slice())?;
+    put_word(out, ",\"cat\":")?;
+    put_quoted(out, def.provider.as_slice())?;
+    put_word(out, ",\"ph\":\"i\",\"s\":\"t\"")
 }
 
 // Appends when and where an event was written, up to its payload.

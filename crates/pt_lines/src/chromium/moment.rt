@@ -6,7 +6,7 @@ ghost use Rattle.pt_lines.specs.Chromium.{microseconds, moment_text};
 use crate::json::value::put_integer;
 use crate::limits::NANOSECONDS;
 use crate::origin::Origin;
-use crate::value::put_places;
+use crate::value::{put_digits, put_places};
 use pt_print::put_word;
 use std::alloc::AllocError;
 
@@ -24,7 +24,7 @@ pub fn put_moment(out: &mut Vec<u8>, origin: Origin, stamp: u64) -> Result<(), A
 fn nanoseconds(frequency: u64, stamp: u64) -> u128
     ensures { result ≡ texts.nanoseconds frequency stamp }
 {
-    if frequency == 0 {
+    if frequency == 0 || frequency == NANOSECONDS {
         return u128::from(stamp);
     }
     u128::from(stamp) * u128::from(NANOSECONDS) / u128::from(frequency)
@@ -32,6 +32,18 @@ fn nanoseconds(frequency: u64, stamp: u64) -> u128
 
 // Appends nanoseconds as microseconds.
 fn put_microseconds(out: &mut Vec<u8>, nanos: u128) -> Result<(), AllocError>
+    ensures { OnOk result (out.new.items ≡ out.old.items ++ microseconds nanos) }
+{
+    let Ok(few) = u64::try_from(nanos) else {
+        return put_many(out, nanos);
+    };
+    put_digits(out, few / 1000)?;
+    out.push(b'.')?;
+    put_places(out, 3, (few % 1000) as u16)
+}
+
+// So it is with any count of them, in steps that take longer.
+fn put_many(out: &mut Vec<u8>, nanos: u128) -> Result<(), AllocError>
     ensures { OnOk result (out.new.items ≡ out.old.items ++ microseconds nanos) }
 {
     let mut buffer = itoa::Buffer::new();

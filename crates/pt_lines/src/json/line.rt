@@ -14,6 +14,7 @@ use crate::json::stack::{put_stack, width_of};
 use crate::json::value::{put_integer, put_plain, put_uuid};
 use crate::line::EventLine;
 use crate::text::put_quoted;
+use crate::value::is_none;
 use ep_defs::EventDef;
 use pt_print::put_word;
 use std::alloc::{AllocError, Global};
@@ -84,7 +85,7 @@ pub fn put_event(out: &mut Vec<u8>, alloc: Global, event: &EventLine<'_>) -> Res
     put_word(out, ",\"stack\":")?;
     put_stack(out, width_of(event.origin.address), event.stack)?;
     out.push(b',')?;
-    put_payload(out, alloc, event.def.fields.as_slice(), event.payload)?;
+    put_payload(out, alloc, event.def.fields(), event.payload)?;
     put_word(out, "}\n")
 }
 
@@ -95,7 +96,7 @@ fn put_head(out: &mut Vec<u8>, event: &EventLine<'_>) -> Result<(), AllocError>
         ++ definition_members entry.def ++ activity_members entry))) }
 {
     put_place(out, event)?;
-    put_definition(out, event.def)?;
+    out.extend_from_slice(event.def.members())?;
     put_activities(out, event)
 }
 
@@ -116,8 +117,8 @@ fn put_place(out: &mut Vec<u8>, event: &EventLine<'_>) -> Result<(), AllocError>
     put_integer(out, event.thread_id)
 }
 
-// Appends what a definition says of its events.
-fn put_definition(out: &mut Vec<u8>, def: &EventDef) -> Result<(), AllocError>
+/// Appends what a definition says of its events.
+pub fn put_definition(out: &mut Vec<u8>, def: &EventDef) -> Result<(), AllocError>
     ensures { OnOk result (out.new.items ≡ out.old.items ++ behind_commas (definition_members def.now)) }
 {
     put_word(out, ",\"provider\":")?;
@@ -139,6 +140,13 @@ fn put_activities(out: &mut Vec<u8>, event: &EventLine<'_>) -> Result<(), AllocE
     ensures { (origin : Origin) (processor thread : ℕ) (entry : EventEntry) → Tells event.now origin processor thread entry
         → OnOk result (out.new.items ≡ out.old.items ++ behind_commas (activity_members entry)) }
 {
+    if is_none(event.activity) && is_none(event.related) {
+        // Most events belong to no activity.
+        return put_word(
+            out,
+            ",\"activity\":\"00000000-0000-0000-0000-000000000000\",\"related\":\"00000000-0000-0000-0000-000000000000\"",
+        );
+    }
     put_word(out, ",\"activity\":")?;
     put_uuid(out, *event.activity)?;
     put_word(out, ",\"related\":")?;

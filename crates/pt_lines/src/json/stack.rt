@@ -1,5 +1,6 @@
 //! The stack of an event.
-ghost use Rattle.std.specs.Prelude.{◌≡◌, ◌<◌, ◌++◌, OnOk};
+ghost use Rattle.std.specs.Prelude.{◌≡◌, ◌<◌, ◌/◌, ◌%◌, ◌++◌, length, OnOk};
+ghost use Rattle.pt_print.specs.Printed.{hex_digit};
 ghost use Rattle.pt_lines.specs.Json.{IsStack, address_text, byte_text, width_of as address_width};
 ghost use Rattle.pt_lines.specs.Appends.{Appends};
 ghost use Rattle.pt_lines.specs.state.Nest.{comma};
@@ -43,6 +44,15 @@ fn put_frame(out: &mut Vec<u8>, is_first: bool, frame: &[u8]) -> Result<(), Allo
     if !is_first {
         out.push(b',')?;
     }
+    put_address(out, frame)
+}
+
+fn put_address(out: &mut Vec<u8>, frame: &[u8]) -> Result<(), AllocError>
+    ensures { OnOk result (out.new.items ≡ out.old.items ++ address_text frame.now) }
+{
+    if frame.len() == 8 {
+        return put_eight(out, frame);
+    }
     out.push(b'"')?;
     let mut left = frame;
     while let [rest @ .., last] = left {
@@ -52,11 +62,49 @@ fn put_frame(out: &mut Vec<u8>, is_first: bool, frame: &[u8]) -> Result<(), Allo
     Ok(out.push(b'"')?)
 }
 
+// Appends an address of eight bytes, as nearly all are, in one piece.
+fn put_eight(out: &mut Vec<u8>, frame: &[u8]) -> Result<(), AllocError>
+    requires { length frame.now ≡ 8 }
+    ensures { OnOk result (out.new.items ≡ out.old.items ++ address_text frame.now) }
+{
+    out.extend_from_slice(&[
+        b'"',
+        high_text(frame[7]),
+        low_text(frame[7]),
+        high_text(frame[6]),
+        low_text(frame[6]),
+        high_text(frame[5]),
+        low_text(frame[5]),
+        high_text(frame[4]),
+        low_text(frame[4]),
+        high_text(frame[3]),
+        low_text(frame[3]),
+        high_text(frame[2]),
+        low_text(frame[2]),
+        high_text(frame[1]),
+        low_text(frame[1]),
+        high_text(frame[0]),
+        low_text(frame[0]),
+        b'"',
+    ])
+}
+
 fn put_byte(out: &mut Vec<u8>, byte: u8) -> Result<(), AllocError>
     ensures { OnOk result (out.new.items ≡ out.old.items ++ byte_text byte) }
 {
-    out.extend_from_slice(&[
-        digit_text(u16::from(byte / 16)),
-        digit_text(u16::from(byte % 16)),
-    ])
+    out.extend_from_slice(&[high_text(byte), low_text(byte)])
+}
+
+// The digit of a byte's high half.
+fn high_text(byte: u8) -> u8
+    ensures { result ≡ hex_digit (byte / 16) }
+{
+    digit_text(u16::from(byte / 16))
+}
+
+// And that of its low half.
+fn low_text(byte: u8) -> u8
+    ensures { result ≡ hex_digit (byte % 16) }
+{
+    digit_text(u16::from(byte % 16))
 }

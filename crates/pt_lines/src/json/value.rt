@@ -1,5 +1,6 @@
 //! Numbers and values.
 ghost use Rattle.std.specs.Prelude.{◌≡◌, ◌≢◌, ◌^◌, ◌++◌, OnOk};
+ghost use Rattle.std.specs.Fmt.{decimal};
 ghost use Rattle.std.specs.Float.{binary32, binary64};
 ghost use Rattle.nt_fields.specs.Taking.{value_in, StandsIn};
 ghost use Rattle.nt_fields.specs.declared.value.Value.TheVariants as values;
@@ -11,8 +12,8 @@ ghost use Rattle.pt_lines.specs.Appends.{Appends};
 use crate::limits::MOST_EXACT;
 use crate::text::{put_text, put_unit};
 use crate::value::{
-    DOUBLE_INFINITE, SINGLE_INFINITE, put_date, put_digits, put_guid, put_hex, put_signed,
-    put_truth,
+    DOUBLE_INFINITE, MOST_DIGITS, SINGLE_INFINITE, put_date, put_digits, put_guid, put_hex,
+    put_signed, put_truth,
 };
 use nt_fields::Value;
 use std::alloc::{AllocError, Global};
@@ -50,9 +51,17 @@ pub fn put_integer(out: &mut Vec<u8>, number: u64) -> Result<(), AllocError>
     if number <= MOST_EXACT {
         return put_digits(out, number);
     }
-    out.push(b'"')?;
-    put_digits(out, number)?;
-    Ok(out.push(b'"')?)
+    put_great(out, number)
+}
+
+// Appends a number between quotes.
+fn put_great(out: &mut Vec<u8>, number: u64) -> Result<(), AllocError>
+    ensures { OnOk result (out.new.items ≡ out.old.items ++ in_quotes (decimal number)) }
+{
+    // The digits come between quotes that stand there already, so that all goes in one piece.
+    let mut text = [b'"'; MOST_DIGITS + 2];
+    let start = itoa::write_digits(number, &mut text, MOST_DIGITS + 1);
+    out.extend_from_slice(&text[start - 1..])
 }
 
 fn put_signed_integer(out: &mut Vec<u8>, number: i64) -> Result<(), AllocError>

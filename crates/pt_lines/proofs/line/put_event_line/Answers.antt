@@ -9,7 +9,7 @@ pub returns : goal.returns
 returns c = λ origin processor thread entry tells.
     on_ok_weaker c.put_end.result
     (λ e.
-    event-put origin processor thread entry c.as_slice.result.now c.args.event.now.payload.now c.args.out.now.items c.put_event_start.new.out.items c.put_payload.new.out.items _
-    (c.as_slice.ensures ∙ ap (λ (def : EventDef). def.fields) tells.def) tells.payload
+    event-put origin processor thread entry c.fields.result.now c.args.event.now.payload.now c.args.out.now.items c.put_event_start.new.out.items c.put_payload.new.out.items _
+    (c.fields.ensures ∙ ap (λ (def : EventDef). def.fields) tells.def) tells.payload
     (c.in_ok-put_event_start.ensures origin processor thread entry tells) c.in_ok-put_payload.ensures e)
     c.put_end.ensures.ok

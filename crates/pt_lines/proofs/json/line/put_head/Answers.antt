@@ -1,4 +1,4 @@
-use Rattle.std.proofs.Common.{◌∙◌, ap, ◌++◌}
+use Rattle.std.proofs.Common.{ℕ, List, ◌∙◌, ap, ◌++◌}
 use Rattle.std.proofs.lemmas.Result.{on_ok_weaker}
 use Rattle.ep_defs.specs.declared.event.EventDef.{EventDef}
 use Rattle.pt_lines.specs.Json.{behind_commas, definition_members}
@@ -10,7 +10,7 @@ returns c = λ origin processor thread entry tells.
     let first = c.put_place.new.out.items in
     on_ok_weaker c.put_activities.result
     (λ e.
-    head-put processor thread entry c.args.out.now.items first c.put_definition.new.out.items _
+    head-put processor thread entry c.args.out.now.items first c.extend_from_slice.new.self.items _
     (c.in_ok-put_place.ensures origin processor thread entry tells)
-    (c.in_ok-put_definition.ensures ∙ ap (λ (def : EventDef). first ++ behind_commas (definition_members def)) tells.def) e)
+    (c.in_ok-extend_from_slice.ensures.items ∙ ap (λ (xs : List ℕ). first ++ xs) (c.members.ensures ∙ ap (λ (def : EventDef). behind_commas (definition_members def)) tells.def)) e)
     (c.put_activities.ensures origin processor thread entry tells)

@@ -3,12 +3,11 @@ use Rattle.std.proofs.Common.{◌≡◌, ◌++◌, length}
 use Rattle.std.specs.Prelude.{codes, reverse}
 use Rattle.std.specs.List.{flat_map}
 use Rattle.pt_lines.specs.Json.{byte_text}
-use Rattle.pt_lines.specs.state.Nest.{comma}
-use Rattle.pt_lines.proofs.json.stack.put_frame.Given as goal
+use Rattle.pt_lines.proofs.json.stack.put_address.Given as goal
 
 abbrev pub invariant-loop-left : goal.invariant-loop-left
 invariant-loop-left l =
-    l.out.items ++ flat_map byte_text (reverse l.left) ≡ ((l.fn.out.items ++ comma l.fn.is_first) ++ codes "\"") ++ flat_map byte_text (reverse l.fn.frame)
+    l.out.items ++ flat_map byte_text (reverse l.left) ≡ (l.fn.out.items ++ codes "\"") ++ flat_map byte_text (reverse l.fn.frame)
 
 abbrev pub decreases-loop-left : goal.decreases-loop-left
 decreases-loop-left l = length l.left

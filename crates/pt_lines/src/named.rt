@@ -1,0 +1,99 @@
+//! A definition with what the lines of its events say of it.
+ghost use Rattle.std.specs.Prelude.{◌≡◌, IfOk};
+ghost use Rattle.pt_lines.specs.Json.{behind_commas, definition_members};
+ghost use Rattle.pt_lines.specs.state.Pieces.{instant_text, names_text};
+
+use crate::chromium::line::put_instant;
+use crate::json::line::put_definition;
+use crate::line::put_names;
+use ep_defs::{Duplicate, EventDef, FieldDef};
+use std::alloc::{AllocError, Global};
+use std::marker::Model;
+
+/// A definition. What each line of its events says of it is put once, and copied from here.
+#[derive(Drop)]
+pub struct NamedDef {
+    def: EventDef,
+    // Its provider and its name, as they stand in a line.
+    names: Vec<u8>,
+    // Its members of an object.
+    members: Vec<u8>,
+    // A trace event up to its moment, for an instant.
+    instant: Vec<u8>,
+}
+
+impl Model for NamedDef {
+    ghost use Rattle.std.specs.Prelude.{◌≡◌};
+    ghost use Rattle.ep_defs.specs.declared.event.EventDef.{EventDef};
+    ghost use Rattle.pt_lines.specs.Json.{behind_commas, definition_members};
+    ghost use Rattle.pt_lines.specs.state.Pieces.{instant_text, names_text};
+
+    ghost Value = { EventDef };
+
+    ghost view = { λ d. d.def };
+
+    ghost invariant = { λ d. (d.names.items ≡ names_text d.def) × (d.members.items ≡ behind_commas (definition_members d.def)) × (d.instant.items ≡ instant_text d.def) };
+}
+
+impl NamedDef {
+    /// A copy of a definition.
+    pub fn new(alloc: Global, def: &EventDef) -> Result<NamedDef, AllocError>
+        ensures { IfOk result (λ named. named ≡ def.now) }
+    {
+        let mut names = Vec::new(alloc);
+        put_names(&mut names, def)?;
+        let mut members = Vec::new(alloc);
+        put_definition(&mut members, def)?;
+        let mut instant = Vec::new(alloc);
+        put_instant(&mut instant, def)?;
+        let def = def.copy(alloc)?;
+        Ok(NamedDef {
+            def,
+            names,
+            members,
+            instant,
+        })
+    }
+
+    /// Its provider.
+    pub fn provider(&self) -> &[u16]
+        ensures { result.now ≡ self.now.provider }
+    {
+        self.def.provider.as_slice()
+    }
+
+    /// Its name.
+    pub fn name(&self) -> &[u16]
+        ensures { result.now ≡ self.now.name }
+    {
+        self.def.name.as_slice()
+    }
+
+    /// The fields of its events.
+    pub fn fields(&self) -> &[FieldDef]
+        ensures { result.now ≡ self.now.fields }
+    {
+        self.def.fields.as_slice()
+    }
+
+    /// What a line says of it.
+    pub fn names(&self) -> &[u8]
+        ensures { result.now ≡ names_text self.now }
+    {
+        self.names.as_slice()
+    }
+
+    /// What an object says of it, behind other members.
+    pub fn members(&self) -> &[u8]
+        ensures { result.now ≡ behind_commas (definition_members self.now) }
+    {
+        self.members.as_slice()
+    }
+
+    /// What a trace event says of it that is an instant, up to its moment.
+    pub fn instant(&self) -> &[u8]
+        ensures { result.now ≡ instant_text self.now }
+    {
+        self.instant.as_slice()
+    }
+}
