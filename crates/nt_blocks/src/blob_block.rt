@@ -12,7 +12,8 @@ ghost use Rattle.nt_blocks.specs.declared.limits.TheConstants.{HEADER_BYTES, WRI
 
 use crate::limits::{HEADER_BYTES, WRITTEN_BYTES};
 use ep_defs::ranges::bytes_fit;
-use nt_head::{HeadState, put_head};
+use nt_head::limits::HEAD_BYTES;
+use nt_head::{HeadState, push_next};
 use nt_object::BlockKind;
 use pt_num::{put_u16, put_u64};
 use std::alloc::{AllocError, Global};
@@ -121,6 +122,7 @@ impl BlobBlock {
     /// Adds a blob with this header, which says the payload's size, and this payload. In an event block the header
     /// names the event's definition; in a metadata block it has the metadata id 0 and no sequence, and the payload
     /// defines an event. Out of memory, the blobs stay as they were.
+    #[inline(always)]
     pub fn add(&mut self, head: &HeadState, payload: &[u8]) -> Result<(), AllocError>
         requires room { HEADER_BYTES + length self.old.bytes + HEAD_BYTES + length payload.now ≤ WRITTEN_BYTES }
         requires size { head.now.size ≡ length payload.now }
@@ -131,8 +133,7 @@ impl BlobBlock {
         ensures kind { self.new.kind ≡ self.old.kind }
     {
         let is_first = self.bytes.is_empty();
-        put_blob(&mut self.bytes, &self.last, head, payload)?;
-        self.last = *head;
+        put_blob(&mut self.bytes, &mut self.last, head, payload)?;
         if is_first {
             self.least = head.stamp;
             self.greatest = head.stamp;
@@ -144,23 +145,24 @@ impl BlobBlock {
     }
 }
 
+// Appends a blob, whose header is the last one then. Out of memory, nothing changes.
+#[inline(always)]
 fn put_blob(
     out: &mut Vec<u8>,
-    previous: &HeadState,
+    last: &mut HeadState,
     head: &HeadState,
     payload: &[u8],
 ) -> Result<(), AllocError>
-    requires { head.now.metadata ≡ 0 → KeepsSequence previous.now head.now }
-    ensures ok { OnOk result (out.new.items ≡ out.old.items ++ head_bytes previous.now head.now ++ payload.now) }
-    ensures form { IsHead previous.now head.now (head_bytes previous.now head.now) }
+    requires keeps { head.now.metadata ≡ 0 → KeepsSequence last.old head.now }
+    requires size { length payload.now ≤ WRITTEN_BYTES }
+    ensures ok { OnOk result (out.new.items ≡ out.old.items ++ head_bytes last.old head.now ++ payload.now) }
+    ensures form { OnOk result (IsHead last.old head.now (head_bytes last.old head.now)) }
     ensures few { OnOk result (length out.new.items ≤ length out.old.items + HEAD_BYTES + length payload.now) }
+    ensures last { OnOk result (last.new ≡ head.now) }
     ensures err { OnErr result (out.new.items ≡ out.old.items) }
+    ensures stays { OnErr result (last.new ≡ last.old) }
 {
-    let start = out.len();
-    put_head(out, previous, head)?;
-    let put = out.extend_from_slice(payload);
-    if put.is_err() {
-        out.truncate(start);
-    }
-    put
+    out.reserve(HEAD_BYTES + payload.len())?;
+    push_next(out, last, head);
+    out.extend_from_slice(payload)
 }

@@ -1,12 +1,12 @@
 -- The fields of a header, one after another.
-use Rattle.std.proofs.Common.{◌≡◌, ℕ, ◌+◌, ◌-◌, ◌%◌, ◌^◌, Bool, true, false, eqb, nat_eq, is_some, List, [], ◌∷◌, ◌++◌, refl, ap, ◌∙◌, append_assoc}
+use Rattle.std.proofs.Common.{◌≡◌, ℕ, ◌+◌, ◌-◌, ◌%◌, ◌^◌, Bool, true, false, eqb, nat_eq, is_some, List, [], ◌∷◌, ◌++◌, refl, ap, sym, ◌∙◌, append_assoc}
 use Rattle.std.proofs.lemmas.List.{append-nil}
 use Rattle.std.specs.Bool.{then_some}
 use Rattle.std.specs.List.{concat}
-use Rattle.std.specs.Prelude.{not}
+use Rattle.std.specs.Prelude.{not, ◌||◌}
 use Rattle.std.specs.Int.{w32, w64}
-use Rattle.std.specs.Cmp.Lexicographic.{pointwise}
-use Rattle.std.proofs.lemmas.Bool.{and_parts, not_from_true, not-true}
+use Rattle.std.specs.Cmp.Lexicographic.{pointwise, bytes_decides}
+use Rattle.std.proofs.lemmas.Bool.{and_parts, eqb-true, not_from_true, not-true, true≢false}
 use Rattle.pt_num.specs.Numbers.{short_var}
 use Rattle.nt_head.specs.declared.head.HeadState.{HeadState}
 use Rattle.nt_head.specs.Head.{HeadFields, flag_byte}
@@ -63,3 +63,42 @@ nothing_new before now keeps =
     two_left (flag_byte fields ∷ []) (if_there (short_var w32) fields.metadata) (if_there sequence_bytes fields.sequence) (if_there (short_var w64) fields.thread) (if_there (short_var w32) fields.stack) (short_var w64 fields.stamp_increment) (if_there (λ id. id) fields.activity) (if_there (λ id. id) fields.related) (if_there (short_var w32) fields.size)
     (none_there (short_var w32) _ now.metadata metadata) (none_there sequence_bytes _ (sequence_of before now) sequence) (none_there (short_var w64) _ now.thread thread) (none_there (short_var w32) _ now.stack stack) (none_there (λ id. id) _ now.activity activity) (none_there (λ id. id) _ now.related related) (none_there (short_var w32) _ now.size size)
     ∙ ap (λ (b : ℕ). b ∷ short_var w64 fields.stamp_increment) byte
+
+-- ---- where no field is new
+
+-- Where neither of two tests holds.
+or-none : (a b : Bool) → (a || b) ≡ false → (a ≡ false) × (b ≡ false)
+or-none true b e = absurd (true≢false e)
+or-none false b e = (refl, e)
+
+-- A test holds where it is not so that it fails.
+not-none : (b : Bool) → not b ≡ false → b ≡ true
+not-none true e = refl
+not-none false e = absurd (true≢false e)
+
+-- States that differ at most in the number, the stamp and the sorting.
+same_but : (before now : HeadState) → before.metadata ≡ now.metadata → before.capture ≡ now.capture → before.processor ≡ now.processor → before.thread ≡ now.thread → before.stack ≡ now.stack → before.activity ≡ now.activity → before.related ≡ now.related → before.size ≡ now.size → record before { number = now.number; stamp = now.stamp; sorted = now.sorted } ≡ now
+same_but before now metadata capture processor thread stack activity related size =
+    rw (metadata, capture, processor, thread, stack, activity, related, size) refl
+
+-- Where no field is new, the state is the one before with the new number, stamp and sorting.
+pub nothing_else : (before now : HeadState) → keeps_fields before now ≡ true → record before { number = now.number; stamp = now.stamp; sorted = now.sorted } ≡ now
+nothing_else before now keeps =
+    let sizes = and_parts _ (eqb before.size now.size) keeps in
+    let relateds = and_parts _ (pointwise nat_eq before.related now.related) sizes.0 in
+    let activities = and_parts _ (pointwise nat_eq before.activity now.activity) relateds.0 in
+    let stacks = and_parts _ (eqb before.stack now.stack) activities.0 in
+    let threads = and_parts _ (eqb before.thread now.thread) stacks.0 in
+    let parts = and_parts (eqb before.metadata now.metadata) (not (has_sequence before now)) threads.0 in
+    let sequence = not-true (has_sequence before now) parts.1 in
+    let processors = or-none _ (not (eqb now.processor before.processor)) sequence in
+    let captures = or-none _ (not (eqb now.capture before.capture)) processors.0 in
+    same_but before now
+    (eqb-true before.metadata now.metadata parts.0)
+    (sym (eqb-true now.capture before.capture (not-none _ captures.1)))
+    (sym (eqb-true now.processor before.processor (not-none _ processors.1)))
+    (eqb-true before.thread now.thread threads.1)
+    (eqb-true before.stack now.stack stacks.1)
+    ((bytes_decides before.activity now.activity).0 activities.1)
+    ((bytes_decides before.related now.related).0 relateds.1)
+    (eqb-true before.size now.size sizes.1)

@@ -1,5 +1,5 @@
 //! Writing a header.
-ghost use Rattle.std.specs.Prelude.{◌≡◌, ◌+◌, ◌-◌, ◌%◌, ◌^◌, ◌≤◌, ◌++◌, length, nat_eq, IsOk, IfOk, OnOk, OnErr, vec_len, vec_capacity};
+ghost use Rattle.std.specs.Prelude.{◌≡◌, ◌+◌, ◌-◌, ◌%◌, ◌^◌, ◌≤◌, ◌++◌, length, nat_eq, IsTrue, IsOk, IfOk, OnOk, OnErr, vec_len, vec_capacity};
 ghost use Rattle.std.specs.Int.{w32, w64};
 ghost use Rattle.std.specs.Bool.{then_some};
 ghost use Rattle.std.specs.Cmp.Lexicographic.{pointwise};
@@ -51,13 +51,52 @@ pub fn push_head(out: &mut Vec<u8>, previous: &HeadState, now: &HeadState)
     ensures len { vec_len out.new ≤ vec_len out.old + HEAD_BYTES }
     ensures capacity { vec_capacity out.new ≡ vec_capacity out.old }
 {
-    // The usual blob follows an event of the same thread: it has a flag byte and the stamp's increment.
     if says_nothing_new(previous, now) {
-        out.push_reserved(flag(SORTED, now.sorted));
-        push_stamp(out, previous, now);
+        push_usual(out, previous, now);
     } else {
         push_fields(out, previous, now);
     }
+}
+
+/// Appends the header that says `now` after `last`, as [`put_head`] does, where there is room for it, and makes `now`
+/// the last one. It takes no memory.
+#[inline(always)]
+pub fn push_next(out: &mut Vec<u8>, last: &mut HeadState, now: &HeadState)
+    requires room { vec_len out.old + HEAD_BYTES ≤ vec_capacity out.old }
+    requires keeps { now.now.metadata ≡ 0 → KeepsSequence last.old now.now }
+    ensures items { out.new.items ≡ out.old.items ++ head_bytes last.old now.now }
+    ensures few { length (head_bytes last.old now.now) ≤ HEAD_BYTES }
+    ensures form { IsHead last.old now.now (head_bytes last.old now.now) }
+    ensures last { last.new ≡ now.now }
+    ensures len { vec_len out.new ≤ vec_len out.old + HEAD_BYTES }
+    ensures capacity { vec_capacity out.new ≡ vec_capacity out.old }
+{
+    state_fits(last);
+    state_fits(now);
+    if says_nothing_new(last, now) {
+        push_usual(out, last, now);
+        last.number = now.number;
+        last.stamp = now.stamp;
+        last.sorted = now.sorted;
+    } else {
+        // A copy, so that the state is put together in memory on this way alone.
+        let now = *now;
+        push_fields(out, last, &now);
+        *last = now;
+    }
+}
+
+// Appends the usual header, of an event that follows one of the same thread: a flag byte and the stamp's increment.
+#[inline(always)]
+fn push_usual(out: &mut Vec<u8>, previous: &HeadState, now: &HeadState)
+    requires room { vec_len out.old + HEAD_BYTES ≤ vec_capacity out.old }
+    requires usual { IsTrue (keeps_fields previous.now now.now) }
+    ensures items { out.new.items ≡ out.old.items ++ head_bytes previous.now now.now }
+    ensures len { vec_len out.new ≤ vec_len out.old + HEAD_BYTES }
+    ensures capacity { vec_capacity out.new ≡ vec_capacity out.old }
+{
+    out.push_reserved(flag(SORTED, now.sorted));
+    push_stamp(out, previous, now);
 }
 
 // Appends the flag byte and the fields that are new.

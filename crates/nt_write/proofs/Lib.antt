@@ -10,6 +10,7 @@ pub mod Flushing
 pub mod IdTables
 pub mod InWords
 pub mod Items
+pub mod Known
 pub mod Laid
 pub mod Names
 pub mod Placing

@@ -1,22 +1,21 @@
 -- The definitions of a stream are those that its entries use, and a writer has no id for any other.
-use Rattle.std.proofs.Common.{◌≡◌, ℕ, suc, ◌+◌, ◌<◌, Bool, true, false, not, ◌⊎◌, inl, inr, List, [], ◌∷◌, ◌++◌, length, Option, Some, None, map, refl, ap, sym, ◌∙◌, subst, arith, append_assoc}
-use Rattle.std.specs.Prelude.{◌&&◌, ◌||◌, ◌==◌, filter, unwrap_or, Contains}
+use Rattle.std.proofs.Common.{◌≡◌, ℕ, suc, ◌+◌, ◌<◌, Bool, true, false, not, ◌⊎◌, inl, inr, List, [], ◌∷◌, ◌++◌, Option, Some, None, map, refl, ap, sym, ◌∙◌, subst, arith, append_assoc}
+use Rattle.std.specs.Prelude.{◌&&◌, ◌==◌, filter, unwrap_or, Contains}
 use Rattle.std.specs.List.{list_any, position_from}
-use Rattle.std.proofs.lemmas.Bool.{cases_Bool, ne_eqb, true≢false}
+use Rattle.std.proofs.lemmas.Bool.{cases_Bool, ne_eqb}
 use Rattle.std.proofs.lemmas.List.{append-nil}
 use Rattle.std.proofs.lemmas.List.Elements.{filter_agree}
 use Rattle.ep_defs.specs.declared.event.EventDef.{EventDef}
 use Rattle.ep_defs.specs.declared.session.TraceInfo.{TraceInfo}
 use Rattle.ep_defs.specs.Event.{is_same_event}
 use Rattle.ep_defs.specs.Entry.{Entry, Event, Point}
-use Rattle.ep_defs.proofs.Sameness.{event-means, event-itself}
+use Rattle.ep_defs.proofs.Sameness.{event-means}
 use Rattle.ep_rundown.specs.Rundown.{used}
 use Rattle.nt_write.specs.declared.ids.IdTable.{IdTable}
 use Rattle.nt_write.specs.declared.writer.TraceWriter.{TraceWriter}
 use Rattle.nt_write.specs.Layout.{Layout, empty_layout, id_in, with_member, needs_flush, with_entry, with_entries, with_point}
 use Rattle.nt_write.specs.Writing.{AreIds, id_at, numbers_in}
 use Rattle.nt_write.specs.Writer.{Extends, IsWriting}
-use Rattle.nt_write.proofs.IdTables.{with_new}
 use Rattle.nt_write.proofs.Flushing.{flushed_if-definitions}
 
 -- ---- lists

@@ -111,6 +111,7 @@ impl Pending {
     }
 
     /// Adds an event, for which there is room. Out of memory, nothing changes.
+    #[inline(always)]
     pub fn add_event(&mut self, head: &HeadState, payload: &[u8]) -> Result<(), AllocError>
         requires room { HasRoomFor (length payload.now) self.old.events }
         requires size { head.now.size ≡ length payload.now }

@@ -302,8 +302,70 @@ impl<S: Sink> TraceWriter<S> {
         self.add_event(alloc, def, out)
     }
 
-    // Gives the event's stack its id, makes room, and adds the event.
+    // Adds an event, with its definition and its stack where they are new.
     fn add_event(&mut self, alloc: Global, def: &EventDef, out: &EventOut) -> Result<(), Fault>
+        requires valid { IsTrue (is_valid_event def.now) }
+        requires event { out.now.event ≤ LAST_EVENT }
+        requires frames { length out.now.frames.now ≤ STACK_BYTES }
+        requires payload { length out.now.payload.now ≤ PAYLOAD_BYTES }
+        requires not_spent { (out.now.frames.now ≡ [])
+            ⊎ ((pending_of self.old).stacks.framed < FRAMED_EVENTS) }
+
+        ensures ok { (start : List ℕ) (defs : ℕ → Option EventDef) (layout : Layout)
+            → IsAt S.tells_taken S.taken start defs layout self.old → AreDistinct defs
+            → defs out.now.event ≡ Some def.now
+            → OnOk result (IsAt S.tells_taken S.taken start defs (with_event (roomy layout (entry_of def.now out.now)) (entry_of def.now out.now)) self.new) }
+        ensures framed { OnOk result ((pending_of self.new).stacks.framed
+            ≡ framed_with (pending_of self.old).stacks.framed out.now.frames.now) }
+        ensures part { (start : List ℕ) (defs : ℕ → Option EventDef) (layout : Layout)
+            → IsAt S.tells_taken S.taken start defs layout self.old → AreDistinct defs
+            → defs out.now.event ≡ Some def.now
+            → OnErr result (TookSome S.tells_taken S.taken start (blocks_bytes (roomy layout (entry_of def.now out.now)).blocks) (sink_of self.new)) }
+        ensures counted { IsCounted S.write_faults (sink_of self.old) (sink_of self.new) result }
+        ensures other_side { S.read_side (sink_of self.new) ≡ S.read_side (sink_of self.old) }
+    {
+        let id = self.ids.get(out.event);
+        if id != 0 && out.frames.is_empty() {
+            return self.add_known(alloc, id, out);
+        }
+        // A copy, so that the event is put together in memory on this way alone.
+        let out = *out;
+        self.add_new(alloc, def, &out)
+    }
+
+    // Makes room, and adds an event without frames, whose definition has this id.
+    fn add_known(&mut self, alloc: Global, id: u32, out: &EventOut) -> Result<(), Fault>
+        requires given { (0 < id) × (id ≡ id_at (ids_of self.old) out.now.event) }
+        requires frames { out.now.frames.now ≡ [] }
+        requires payload { length out.now.payload.now ≤ PAYLOAD_BYTES }
+
+        ensures ok { (start : List ℕ) (defs : ℕ → Option EventDef) (layout : Layout) (def : EventDef)
+            → IsAt S.tells_taken S.taken start defs layout self.old → AreDistinct defs
+            → defs out.now.event ≡ Some def
+            → OnOk result (IsAt S.tells_taken S.taken start defs (with_event (roomy layout (entry_of def out.now)) (entry_of def out.now)) self.new) }
+        ensures framed { OnOk result ((pending_of self.new).stacks.framed
+            ≡ framed_with (pending_of self.old).stacks.framed out.now.frames.now) }
+        ensures part { (start : List ℕ) (defs : ℕ → Option EventDef) (layout : Layout) (def : EventDef)
+            → IsAt S.tells_taken S.taken start defs layout self.old → AreDistinct defs
+            → defs out.now.event ≡ Some def
+            → OnErr result (TookSome S.tells_taken S.taken start (blocks_bytes (roomy layout (entry_of def out.now)).blocks) (sink_of self.new)) }
+        ensures counted { IsCounted S.write_faults (sink_of self.old) (sink_of self.new) result }
+        ensures other_side { S.read_side (sink_of self.new) ≡ S.read_side (sink_of self.old) }
+    {
+        let arrival = Arrival {
+            payload: out.payload.len(),
+            meta: None,
+            stack: None,
+        };
+        self.output.make_room(alloc, &mut self.pending, &arrival)?;
+        self.pending
+            .add_event(&event_head(id, 0, out), out.payload)?;
+        Ok(())
+    }
+
+    // Gives the event's stack its id, makes room, and adds the event.
+    #[inline(never)]
+    fn add_new(&mut self, alloc: Global, def: &EventDef, out: &EventOut) -> Result<(), Fault>
         requires valid { IsTrue (is_valid_event def.now) }
         requires event { out.now.event ≤ LAST_EVENT }
         requires frames { length out.now.frames.now ≤ STACK_BYTES }

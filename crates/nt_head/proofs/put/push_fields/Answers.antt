@@ -1,4 +1,4 @@
-use Rattle.std.proofs.Common.{◌≡◌, ◌+◌, ◌-◌, ◌^◌, nat_eq, ◌∙◌, arith}
+use Rattle.std.proofs.Common.{◌≡◌, ◌+◌, nat_eq, ◌∙◌}
 use Rattle.std.specs.Int.{w32}
 use Rattle.pt_num.specs.Numbers.{short_var}
 use Rattle.nt_head.specs.Head.{flag_byte}

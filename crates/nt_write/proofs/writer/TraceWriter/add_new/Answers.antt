@@ -13,7 +13,7 @@ use Rattle.nt_write.proofs.Prefixes.{some-all}
 use Rattle.nt_write.proofs.Flushing.{flushed_if-definitions, flushed_if-stacks, flushed_if-flushes}
 use Rattle.nt_write.proofs.Defining.{needs-is, small-arrival, interned-by, interned-pending, new-after, interned-after}
 use Rattle.nt_write.proofs.Entries.{nothing-more}
-use Rattle.nt_write.proofs.writer.TraceWriter.add_event.Goals as goal
+use Rattle.nt_write.proofs.writer.TraceWriter.add_new.Goals as goal
 
 pub returns-in_err-stack-clause-part : goal.returns-in_err-stack-clause-part
 returns-in_err-stack-clause-part g c start defs layout h distinct at =
