@@ -188,6 +188,7 @@ impl Machine {
 }
 
 // Makes a step that can be made.
+#[inline(always)]
 fn make(
     work: &mut Work,
     ended: &mut BTreeMap<u32, Ended>,

@@ -1,13 +1,12 @@
 -- The lines of a text.
-use Rattle.std.proofs.Common.{◌≡◌, ℕ, Bool, true, false, not, List, [], ◌∷◌, ◌++◌, refl, ap}
+use Rattle.std.proofs.Common.{◌≡◌, ℕ, ◌+◌, ◌-◌, ◌<◌, ◌≤◌, Some, drop, sym, length-append, Bool, true, false, not, List, [], ◌∷◌, ◌++◌, length, take, get_or, refl, ap, ◌∙◌, arith, length-take}
 use Rattle.std.specs.Prelude.{IsTrue, ◌==◌, ◌≢◌}
-use Rattle.std.specs.List.{list_all}
-use Rattle.std.proofs.lemmas.Bool.{and_parts, not-true}
+use Rattle.std.proofs.lemmas.Bool.{and_parts, not-true, eqb-true}
+use Rattle.std.proofs.lemmas.List.{get_or-take, get_or_default, take_more, take_rest, take-append-drop}
+use Rattle.std.proofs.lemmas.List.Sums.{list_all-from_AllPass}
+use Rattle.memchr.specs.Find.{IsFirstByte, Nowhere, Passes, is_byte}
 use Rattle.pt_replay.specs.Text.{lines_of, with_byte}
-
--- No byte is a line feed.
-abbrev pub is_line : List ℕ → Bool
-is_line line = list_all (λ byte. not (byte == 10)) line
+use Rattle.pt_replay.specs.Reading.{is_line}
 
 -- A line is split off at its line feed.
 pub lines_of-feed : (line rest : List ℕ) → IsTrue (is_line line) → lines_of (line ++ 10 ∷ rest) ≡ line ∷ lines_of rest
@@ -48,3 +47,35 @@ lines_of-last b (c ∷ line) h =
 pub lines_of-one : (line : List ℕ) → IsTrue (is_line line) → line ≢ [] → lines_of line ≡ line ∷ []
 lines_of-one [] h some = absurd (some refl)
 lines_of-one (b ∷ line) h some = lines_of-last b line h
+
+-- Before the first line feed there is none.
+none-found : (b : Bool) → ¬ (b ≡ true) → not b ≡ true
+none-found true found = absurd (found refl)
+none-found false found = refl
+
+pub line-before : (text : List ℕ) (k : ℕ) → k ≤ length text → Nowhere (Passes (is_byte 10) text) 0 k → IsTrue (is_line (take k text))
+line-before text k within none =
+    list_all-from_AllPass (λ byte. not (byte == 10)) (take k text)
+    (λ j d below.
+    let short : j < k = omega (arith, length-take k text) in
+    let same : get_or (take k text) j d ≡ get_or text j 0 = get_or-take k text j d short ∙ get_or_default text j d 0 (omega arith) in
+    ap (λ b. not (b == 10)) same ∙ none-found (get_or text j 0 == 10) (none j (omega arith) short))
+
+-- What stands before the first line feed, the line feed and what stands behind it are the whole.
+pub rest-behind : (rest : List ℕ) (end : ℕ) → IsFirstByte (is_byte 10) rest (Some end) → (take end rest ++ 10 ∷ []) ++ take (length rest - (end + 1)) (drop (end + 1) rest) ≡ rest
+rest-behind rest end found =
+    let feed : get_or rest end 0 ≡ 10 = eqb-true (get_or rest end 0) 10 found.1 in
+    let first : take end rest ++ 10 ∷ [] ≡ take (end + 1) rest =
+    sym (take_more rest end 0 found.0.high ∙ ap (λ (b : ℕ). take end rest ++ b ∷ []) feed) in
+    ap (λ (t : List ℕ). t ++ take (length rest - (end + 1)) (drop (end + 1) rest)) first
+    ∙ ap (λ (r : List ℕ). take (end + 1) rest ++ r) (take_rest rest (end + 1))
+    ∙ take-append-drop (end + 1) rest
+
+pub counted-behind : (rest : List ℕ) (end : ℕ) → IsFirstByte (is_byte 10) rest (Some end) → (before after most : ℕ) → before + length rest ≤ most → after ≤ before + length (take end rest) + 1
+    → after + length (take (length rest - (end + 1)) (drop (end + 1) rest)) ≤ most
+counted-behind rest end found before after most within counted =
+    let first : List ℕ = take end rest in
+    let behind : List ℕ = take (length rest - (end + 1)) (drop (end + 1) rest) in
+    let sizes : length first + 1 + length behind ≡ length rest =
+    sym (length-append (first ++ 10 ∷ []) behind ∙ ap (λ n. n + length behind) (length-append first (10 ∷ []))) ∙ ap length (rest-behind rest end found) in
+    omega (arith, sizes, within, counted)

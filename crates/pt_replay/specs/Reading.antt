@@ -1,5 +1,5 @@
 -- What the program has read of a schedule.
-use Rattle.std.specs.Prelude.{◌≡◌, ℕ, ◌+◌, ◌≤◌, not, ◌==◌, List, ◌++◌, length, Option, Some, None, IsTrue}
+use Rattle.std.specs.Prelude.{◌≡◌, ℕ, ◌+◌, ◌≤◌, Bool, not, ◌==◌, List, ◌∷◌, ◌++◌, length, Option, Some, None, IsTrue}
 use Rattle.std.specs.List.{list_all}
 use Rattle.ep_defs.specs.Event.{is_valid_event}
 use Rattle.ep_rundown.specs.Rundown.{lacks_rundown}
@@ -14,7 +14,7 @@ use Rattle.pt_replay.specs.declared.schedule.Schedule.{Schedule}
 use Rattle.pt_replay.specs.declared.text.Reader.{Reader}
 use Rattle.pt_replay.specs.Text.{lines_of}
 use Rattle.pt_replay.specs.Machines.{IsMachineOf}
-use Rattle.pt_replay.specs.Schedule.{definitions_of, past_of, AreGood, HaveRefused, IsSchedule, IsRefused}
+use Rattle.pt_replay.specs.Schedule.{definitions_of, past_of, Takes, Refuses, AreGood, HaveRefused, IsSchedule, IsRefused}
 
 -- The schedule stands for these lines, the newest first.
 pub record HasTaken (lines : List Line) (schedule : Schedule) : Type 0 where
@@ -31,6 +31,15 @@ pub record HasTaken (lines : List Line) (schedule : Schedule) : Type 0 where
 -- How many lines came.
 abbrev pub lines_in : Schedule → ℕ
 lines_in schedule = schedule.lines
+
+-- The text is a good line behind these, for which the schedule stands then, or is refused.
+abbrev pub IsLineJudged : List Line → List ℕ → Schedule → Option Refusal → Type 0
+IsLineJudged lines text schedule None = (line : Line) × Takes lines text line × HasTaken (line ∷ lines) schedule
+IsLineJudged lines text schedule (Some refusal) = Refuses lines text refusal
+
+-- No byte is a line feed.
+abbrev pub is_line : List ℕ → Bool
+is_line text = list_all (λ byte. not (byte == 10)) text
 
 -- The bytes are good lines, for which the schedule stands, and a part of a line.
 pub record AreGoodSoFar (bytes : List ℕ) (schedule : Schedule) (part : List ℕ) : Type 0 where

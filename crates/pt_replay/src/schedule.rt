@@ -179,8 +179,30 @@ fn make(
     if let Some(machine) = machine {
         return make_on(alloc, machine, step, lines + 1);
     }
+    make_first(alloc, machine, events, step, lines + 1)
+}
+
+// Makes the first step, that of the line with this number, on a new machine.
+#[inline(never)]
+fn make_first(
+    alloc: Global,
+    machine: &mut Option<Machine>,
+    events: &[EventDef],
+    step: Step,
+    number: u64,
+) -> Result<(), Fault>
+    requires count { 0 < number }
+    requires few { length events.now ≤ EVENTS }
+    requires valid { IsTrue (list_all is_valid_event events.now) }
+    requires distinct { AreDistinct (event_at events.now) }
+    requires lacks { IsTrue (lacks_rundown events.now) }
+    ensures made { OnOk result ((objection_to events.now [] step ≡ None)
+        × IsMachineOf events.now (step ∷ []) number machine.new) }
+    ensures refused { (refusal : Refusal) → result ≡ Err (Refused refusal)
+        → IsUnlawful events.now [] step number refusal }
+{
     let mut fresh = new_machine(alloc, events)?;
-    make_on(alloc, &mut fresh, step, lines + 1)?;
+    make_on(alloc, &mut fresh, step, number)?;
     *machine = Some(fresh);
     Ok(())
 }

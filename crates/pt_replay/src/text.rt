@@ -1,10 +1,13 @@
 //! Reading the lines of a schedule from pieces of its text.
-ghost use Rattle.std.specs.Prelude.{◌≡◌, ◌≤◌, ◌<◌, ◌+◌, ◌^◌, ◌++◌, ◌≢◌, ℕ, List, [], ◌∷◌, length, IfSome, IfNone, OnOk};
+ghost use Rattle.std.specs.Prelude.{◌≡◌, ◌≤◌, ◌<◌, ◌+◌, ◌^◌, ◌++◌, ◌≢◌, ℕ, List, [], ◌∷◌, length, IfOk, IfSome, IfNone, IsTrue, OnOk};
+ghost use Rattle.ep_plan.specs.declared.line.Line.{Line};
+ghost use Rattle.pt_replay.specs.Reading.{HasTaken, IsLineJudged, lines_in};
 
 use crate::errors::{Reason, Refusal};
 use crate::schedule::{Fault, Schedule};
 use ep_plan::LineKind;
 use ep_plan::limits::LINE_BYTES;
+use memchr::memchr;
 use pt_command::Reads;
 use pt_report::laws::a_stream_of_a_session_is_reported;
 use std::alloc::{AllocError, Global};
@@ -33,7 +36,7 @@ pub(crate) enum Outcome<'a> {
 impl Reader {
     ghost use Rattle.ep_plan.specs.declared.line.Line.{Line};
     ghost use Rattle.pt_replay.specs.Outcomes.{IsOutcome};
-    ghost use Rattle.pt_replay.specs.Reading.{HasRead, IsJudged, HasTaken, used};
+    ghost use Rattle.pt_replay.specs.Reading.{HasRead, IsJudged, is_line, used};
 
     /// A reader that has read nothing.
     pub(crate) fn new(alloc: Global) -> Reader
@@ -48,20 +51,39 @@ impl Reader {
         }
     }
 
-    fn take_byte(&mut self, byte: u8) -> Result<(), AllocError>
+    // Takes what stands before a line feed, and the line feed.
+    fn take_line(&mut self, text: &[u8]) -> Result<(), AllocError>
         requires read { (bytes : List ℕ) × HasRead bytes self.old }
-        requires few { used self.old < 2 ^ 63 }
+        requires few { used self.old + length text.now < 2 ^ 63 }
+        requires no_feed { IsTrue (is_line text.now) }
         ensures read { (bytes : List ℕ) → HasRead bytes self.old
-            → OnOk result (HasRead (bytes ++ byte ∷ []) self.new) }
-        ensures counted { OnOk result (used self.new ≤ used self.old + 1) }
+            → OnOk result (HasRead (bytes ++ text.now ++ 10 ∷ []) self.new) }
+        ensures counted { OnOk result (used self.new ≤ used self.old + length text.now + 1) }
+    {
+        if self.refusal.is_none() && self.part.is_empty() && text.len() <= LINE_BYTES {
+            self.refusal = judged(self.alloc, &mut self.schedule, text)?;
+            return Ok(());
+        }
+        self.take_part(text)?;
+        if self.refusal.is_some() {
+            return Ok(());
+        }
+        self.end_line()
+    }
+
+    // Takes what has no line feed.
+    fn take_part(&mut self, text: &[u8]) -> Result<(), AllocError>
+        requires read { (bytes : List ℕ) × HasRead bytes self.old }
+        requires few { used self.old + length text.now < 2 ^ 63 }
+        requires no_feed { IsTrue (is_line text.now) }
+        ensures read { (bytes : List ℕ) → HasRead bytes self.old
+            → OnOk result (HasRead (bytes ++ text.now) self.new) }
+        ensures counted { OnOk result (used self.new ≤ used self.old + length text.now) }
     {
         if self.refusal.is_some() {
             return Ok(());
         }
-        if byte == b'\n' {
-            return self.end_line();
-        }
-        if self.part.len() >= LINE_BYTES {
+        if text.len() > LINE_BYTES - self.part.len() {
             self.refusal = Some(Refusal {
                 line: self.schedule.lines() + 1,
                 column: 1,
@@ -69,11 +91,10 @@ impl Reader {
             });
             return Ok(());
         }
-        self.part.push(byte)?;
-        Ok(())
+        self.part.extend_from_slice(text)
     }
 
-    // Takes the line that a line feed ended.
+    // Takes the line that is ended.
     fn end_line(&mut self) -> Result<(), AllocError>
         requires read { (bytes : List ℕ) × HasRead bytes self.old }
         requires good { self.old.refusal ≡ None }
@@ -84,17 +105,9 @@ impl Reader {
             → OnOk result (IsJudged bytes self.new) }
         ensures counted { OnOk result (used self.new ≤ used self.old + 1) }
     {
-        match self.schedule.take_line(self.alloc, &self.part) {
-            Ok(()) => {
-                self.part.clear();
-                Ok(())
-            }
-            Err(Fault::Refused(refusal)) => {
-                self.refusal = Some(refusal);
-                Ok(())
-            }
-            Err(Fault::OutOfMemory) => Err(AllocError),
-        }
+        self.refusal = judged(self.alloc, &mut self.schedule, &self.part)?;
+        self.part.clear();
+        Ok(())
     }
 
     /// Reads the end of the text, where the last line needs no line feed.
@@ -133,9 +146,30 @@ impl Reads for Reader {
 
     /// Reads the next bytes.
     fn take(&mut self, piece: &[u8]) -> Result<(), AllocError> {
-        for byte in piece {
-            self.take_byte(*byte)?;
+        let mut rest = piece;
+        'lines: while let Some(end) = memchr(b'\n', rest) {
+            self.take_line(&rest[..end])?;
+            rest = &rest[end + 1..];
         }
-        Ok(())
+        self.take_part(rest)
+    }
+}
+
+// Why the line that comes next is refused, if it is. A good one is taken.
+fn judged(
+    alloc: Global,
+    schedule: &mut Schedule,
+    text: &[u8],
+) -> Result<Option<Refusal>, AllocError>
+    requires stands { (lines : List Line) × HasTaken lines schedule.old }
+    requires few { lines_in schedule.old < 2 ^ 63 }
+    ensures judged { (lines : List Line) → HasTaken lines schedule.old
+        → IfOk result (IsLineJudged lines text.now schedule.new) }
+    ensures counted { lines_in schedule.new ≤ lines_in schedule.old + 1 }
+{
+    match schedule.take_line(alloc, text) {
+        Ok(()) => Ok(None),
+        Err(Fault::Refused(refusal)) => Ok(Some(refusal)),
+        Err(Fault::OutOfMemory) => Err(AllocError),
     }
 }

@@ -251,6 +251,7 @@ fn both(session: u32, place: usize, thread: u32, row: u32) -> OnBoth
 }
 
 // The step, unless one of these is there: then its kind, the first one's.
+#[inline(always)]
 fn unless(objections: &[(bool, Kind)], judged: Judged) -> Result<Judged, Kind>
     ensures kind_is { kind_in result ≡ first_kind (map objection_of objections.now) }
     ensures same { IfOk result (λ found. found ≡ judged) }
@@ -262,6 +263,7 @@ fn unless(objections: &[(bool, Kind)], judged: Judged) -> Result<Judged, Kind>
 }
 
 // The first kind of those that are there.
+#[inline(always)]
 fn first(objections: &[(bool, Kind)]) -> Option<Kind>
     ensures { result ≡ first_kind (map objection_of objections.now) }
 {
