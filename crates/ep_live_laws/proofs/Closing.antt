@@ -1,7 +1,7 @@
 -- What a session keeps of its threads, once it was closed on one.
 use Rattle.std.proofs.Common.{◌≡◌, ℕ, ◌+◌, ◌-◌, true, false, inl, inr, List, map, filter, Option, None, refl, ap, sym, ◌∙◌, subst, arith}
 use Rattle.std.specs.Prelude.{Bool, not, ◌&&◌, ◌==◌, if◌then◌else◌}
-use Rattle.std.proofs.lemmas.Bool.{cases_Bool, cases_eq, eq-eqb, ne_eqb, eqb-false}
+use Rattle.std.proofs.lemmas.Bool.{cases_Bool, cases_eq, eq-eqb, ne_eqb, eqb-false, not-true}
 use Rattle.ep_defs.specs.declared.session.Marks.{Marks}
 use Rattle.ep_slot.specs.Hand.{HandState}
 use Rattle.ep_guarded.specs.Tied.{AreCounted}
@@ -10,7 +10,7 @@ use Rattle.ep_stream.specs.declared.opened.Named.{Named}
 use Rattle.ep_stream.specs.Named.{insert_by, with_number, with_marks}
 use Rattle.ep_live_laws.specs.Tracing.{Account, IsHandBy, IsHeld, IsOneOf, Keeps, Watch, marks_by, name_by}
 use Rattle.ep_live_laws.proofs.Accounts.{ascending-same, with_taken, with_closed}
-use Rattle.ep_live_laws.proofs.Keeping.{held-same, home-apart, marks-same, name-same, not-true, shut-apart}
+use Rattle.ep_live_laws.proofs.Keeping.{held-same, home-apart, marks-same, name-same, shut-apart}
 
 -- The account of a thread from which the last batch was taken.
 abbrev pub with_last : (ℕ → Account) → ℕ → ℕ → ℕ → ℕ → ℕ → Account

@@ -1,7 +1,7 @@
 -- What a session keeps of its threads, once it was opened on one more, or took from one.
 use Rattle.std.proofs.Common.{◌≡◌, ℕ, ◌+◌, ◌-◌, Bool, true, false, inl, inr, List, map, filter, Option, Some, None, refl, ap, sym, ◌∙◌, subst, arith}
 use Rattle.std.specs.Prelude.{not, ◌&&◌, ◌==◌, if◌then◌else◌}
-use Rattle.std.proofs.lemmas.Bool.{cases_eq, eq-eqb, ne_eqb, eqb-false, true≢false}
+use Rattle.std.proofs.lemmas.Bool.{cases_eq, eq-eqb, ne_eqb, eqb-false, not-true, true≢false}
 use Rattle.ep_defs.specs.declared.session.Marks.{Marks}
 use Rattle.ep_model.specs.History.{insert_ascending}
 use Rattle.ep_model.proofs.Lists.{has}
@@ -166,10 +166,6 @@ taken-other accounts thread count last t off = rw off refl
 -- A thread on which the session is closed is not the one from which it takes.
 pub shut-apart : (accounts : ℕ → Account) (thread t : ℕ) → (accounts thread).is_open ≡ true → (accounts t).is_open ≡ false → (t == thread) ≡ false
 shut-apart accounts thread t open_there shut = ne_eqb t thread (λ same. true≢false (sym open_there ∙ ap (λ n. (accounts n).is_open) (sym same) ∙ shut))
-
-pub not-true : (b : Bool) → not b ≡ true → b ≡ false
-not-true true h = cc
-not-true false h = refl
 
 -- The hand of a row from which a batch was taken.
 hand-taken : (home : ℕ → ℕ) (opened : List ℕ) (accounts : ℕ → Account) (count last chunks row : ℕ) (hand : HandState) → IsHandBy home opened accounts row hand

@@ -1,4 +1,4 @@
-mod Accounts
+pub mod Accounts
 mod All
 mod Batches
 mod Calls

@@ -1,8 +1,8 @@
 -- What threads write is a program's own: none is thread 0, and none of its events is of the definition of a rundown.
 use Rattle.std.proofs.Common.{◌≡◌, ℕ, zero, suc, ◌+◌, Bool, true, false, inl, inr, List, [], ◌∷◌, ◌++◌, take, Option, Some, None, IsTrue, refl, ap, sym, ◌∙◌, subst, arith}
 use Rattle.std.specs.Prelude.{not, filter, ◌==◌, if◌then◌else◌}
-use Rattle.std.specs.List.{list_all, AllByRecursion}
-use Rattle.std.proofs.lemmas.Bool.{and_from, and_parts, eq-eqb, eqb-true, ne_eqb, or_cases, true≢false}
+use Rattle.std.specs.List.{AllByRecursion}
+use Rattle.std.proofs.lemmas.Bool.{and_from, eq-eqb, eqb-true, ne_eqb, or_cases, true≢false}
 use Rattle.ep_defs.specs.declared.event.EventDef.{EventDef}
 use Rattle.ep_defs.specs.declared.session.Config.{Config}
 use Rattle.ep_defs.specs.declared.session.Marks.{Marks}
@@ -12,6 +12,7 @@ use Rattle.ep_defs.specs.Entry.{Entry, Event, Point}
 use Rattle.ep_defs.specs.Event.{is_same_event}
 use Rattle.ep_rundown.specs.Rundown.{lacks_rundown, rundown_def}
 use Rattle.ep_told.specs.Told.{AreOfProgram}
+use Rattle.ep_told.proofs.Program.{found-passes}
 use Rattle.ep_model.specs.Faithful.{AreFaithful, Contents, Share, contents_if, contents_of, events_in, events_of, is_among, is_kept, is_of, kept, numbered}
 use Rattle.ep_model.specs.History.{admitted_from}
 use Rattle.ep_model.proofs.Lists.{all_more}
@@ -38,15 +39,6 @@ is_other def = not (is_same_event def rundown_def)
 
 abbrev IsOther : Contents → Type 0
 IsOther c = is_other c.def ≡ true
-
--- A definition that is found passes what all of them pass.
-found-passes : (test : EventDef → Bool) (events : List EventDef) (n : ℕ) (def : EventDef) → list_all test events ≡ true → definition_at events n ≡ Some def → test def ≡ true
-found-passes test events zero def all at-n = cc
-found-passes test [] (suc n) def all at-n = cc
-found-passes test (first ∷ events) (suc zero) def all at-n =
-    let same : first ≡ def = cc in
-    ap test (sym same) ∙ (and_parts (test first) (list_all test events) all).0
-found-passes test (first ∷ events) (suc (suc n)) def all at-n = found-passes test events (suc n) def (and_parts (test first) (list_all test events) all).1 at-n
 
 other-if : (stacks : Bool) (number : ℕ) (write : Write) (def : Option EventDef) → ((d : EventDef) → def ≡ Some d → is_other d ≡ true) → AllByRecursion IsOther (contents_if stacks number write def)
 other-if stacks number write None other = tt

@@ -1,2 +1,2 @@
-mod Program
-mod WithRundown
+pub mod Program
+pub mod WithRundown

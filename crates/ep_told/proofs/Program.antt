@@ -1,9 +1,9 @@
 -- What the program itself has told: of threads above 0, and of its own definitions.
 use Rattle.std.proofs.Common.{◌≡◌, ℕ, zero, suc, ◌+◌, Bool, true, false, cond, inl, inr, List, [], ◌∷◌, ◌++◌, map, Option, Some, None, eqb, refl, ap, sym, ◌∙◌, arith, IsTrue}
 use Rattle.std.specs.Prelude.{not, ◌&&◌, ◌||◌}
-use Rattle.std.specs.List.{list_any, list_all, AllByRecursion}
+use Rattle.std.specs.List.{list_all, AllByRecursion}
 use Rattle.std.specs.Option.{option_map_or}
-use Rattle.std.proofs.lemmas.Bool.{and_parts, and_from, or_cases, not-false, ne_eqb, cases_Bool, cases_eq, false_from_ne_true, true≢false}
+use Rattle.std.proofs.lemmas.Bool.{and_parts, and_from, not-false, ne_eqb, cases_Bool, true≢false}
 use Rattle.ep_defs.specs.declared.event.EventDef.{EventDef}
 use Rattle.ep_defs.specs.declared.session.Config.{Config}
 use Rattle.ep_defs.specs.Definitions.{definition_at}
@@ -18,7 +18,7 @@ use Rattle.ep_model.specs.Faithful.{Share, AreFaithful, is_among, is_of, share_o
 use Rattle.ep_model.specs.History.{Past, Begun, config_of, entered, was_there, is_there, opened, insert_ascending, last_begun, shows, has_left}
 use Rattle.ep_model.specs.Lawful.{IsLawful, objections, is_next_thread}
 use Rattle.ep_model.specs.Only.{concerns, only}
-use Rattle.ep_told.specs.Told.{has_rundown, told_entries, is_of_program, AreOfProgram}
+use Rattle.ep_told.specs.Told.{has_rundown, told_entries, AreOfProgram}
 use Rattle.ep_model.proofs.Finished.{is_one_of}
 use Rattle.ep_model.proofs.Lists.{has, any_inserted, all_more}
 use Rattle.ep_model.proofs.Objections.{none_there}
@@ -92,7 +92,7 @@ shares-not_0 events session past lawful = share_any events session 0 past (opene
 -- ---- definitions
 
 -- A definition that is found passes what all of them pass.
-found-passes : (test : EventDef → Bool) (events : List EventDef) (n : ℕ) (def : EventDef) → list_all test events ≡ true → definition_at events n ≡ Some def → test def ≡ true
+pub found-passes : (test : EventDef → Bool) (events : List EventDef) (n : ℕ) (def : EventDef) → list_all test events ≡ true → definition_at events n ≡ Some def → test def ≡ true
 found-passes test events zero def all at-n = cc
 found-passes test [] (suc n) def all at-n = cc
 found-passes test (first ∷ events) (suc zero) def all at-n =

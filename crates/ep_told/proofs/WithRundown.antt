@@ -1,15 +1,14 @@
 -- What faithful entries tell with the section of a rundown.
-use Rattle.std.proofs.Common.{◌≡◌, ℕ, zero, suc, ◌+◌, ◌-◌, ◌*◌, ◌/◌, ◌%◌, ◌^◌, ◌<◌, Bool, true, false, inl, inr, List, [], ◌∷◌, ◌++◌, length, map, filter, Option, Some, None, eqb, refl, ap, sym, ◌∙◌, subst, arith, zero-add}
-use Rattle.std.specs.Prelude.{not, ◌&&◌, ◌||◌}
-use Rattle.std.specs.List.{list_any, list_all, last_or, flat_map, AllByRecursion}
+use Rattle.std.proofs.Common.{◌≡◌, ℕ, zero, suc, ◌+◌, ◌-◌, ◌*◌, ◌/◌, ◌%◌, ◌^◌, true, false, List, [], ◌∷◌, ◌++◌, length, map, filter, Some, None, eqb, refl, ap, sym, ◌∙◌, subst, arith, zero-add}
+use Rattle.std.specs.List.{list_all, last_or, flat_map, AllByRecursion}
 use Rattle.std.proofs.lemmas.Bool.{and_parts, or_parts, or_left, or_right, eq-eqb, ne_eqb, true≢false}
 use Rattle.std.proofs.lemmas.List.{append-nil}
 use Rattle.std.proofs.lemmas.Grind.{flat_map-append}
 use Rattle.std.proofs.Math.Nat.{add-mod_right, mul-mod_left}
 use Rattle.std.proofs.lemmas.Nat.{div-add-mod'}
 use Rattle.ep_defs.specs.declared.event.EventDef.{EventDef}
-use Rattle.ep_defs.specs.Entry.{EventEntry, PointEntry, Entry, Event, Point}
-use Rattle.ep_defs.specs.Gaps.{Sighting, Seen, Known, sightings_in, sightings, distance, missing, gaps}
+use Rattle.ep_defs.specs.Entry.{Entry, Event, Point}
+use Rattle.ep_defs.specs.Gaps.{Sighting, Known, sightings_in, sightings, distance, missing, gaps}
 use Rattle.ep_rundown.specs.Rundown.{used, section, describing, describing_from, naming, describing_at_end, with_section}
 use Rattle.ep_rundown.proofs.Section.{at-end}
 use Rattle.ep_model.specs.Faithful.{Share, Contents, AreFaithful, kept, is_kept, is_of, is_among, contents_of, events_in, events_of, last_sighting}
@@ -35,7 +34,7 @@ section-stamps stamp other id (def ∷ defs) =
     ap (λ (contents : List Contents). contents_of (describing other id def) ∷ contents) (section-stamps stamp other (id + 1) defs)
 
 -- Each definition has one event.
-section-long : (stamp id : ℕ) (defs : List EventDef) → length (events_of 0 (describing_from stamp id defs)) ≡ length defs
+pub section-long : (stamp id : ℕ) (defs : List EventDef) → length (events_of 0 (describing_from stamp id defs)) ≡ length defs
 section-long stamp id [] = refl
 section-long stamp id (def ∷ defs) = ap suc (section-long stamp (id + 1) defs)
 
@@ -130,7 +129,7 @@ section-among shares first stamp id [] zeroth = tt
 section-among shares first stamp id (def ∷ defs) zeroth =
     (or_left (eqb first.thread 0) _ (eq-eqb first.thread 0 zeroth), section-among shares first stamp (id + 1) defs zeroth)
 
-kept-all : (contents : List Contents) → filter (is_kept []) contents ≡ contents
+pub kept-all : (contents : List Contents) → filter (is_kept []) contents ≡ contents
 kept-all [] = refl
 kept-all (one ∷ contents) = ap (λ (more : List Contents). one ∷ more) (kept-all contents)
 

@@ -1,6 +1,7 @@
 -- The message is read back, whatever follows it; and what a link took of it is its first bytes.
-use Rattle.std.proofs.Common.{◌≡◌, ℕ, ◌+◌, ◌^◌, ◌<◌, Bool, true, false, ◌&&◌, List, [], ◌∷◌, ◌++◌, length, nat_lt, if◌then◌else◌, refl, ap, ap₂, ◌∙◌, arith, append_assoc, length-append, sym, take}
+use Rattle.std.proofs.Common.{◌≡◌, ℕ, ◌^◌, ◌<◌, Bool, false, List, [], ◌∷◌, ◌++◌, length, nat_lt, if◌then◌else◌, refl, ap, ap₂, ◌∙◌, arith, append_assoc, length-append, sym, take}
 use Rattle.std.specs.Int.{w64}
+use Rattle.std.proofs.Math.Bool.{and-false}
 use Rattle.std.proofs.lemmas.List.{take_at, drop_at}
 use Rattle.byteorder.specs.Endian.{little_number}
 use Rattle.byteorder.specs.Numbers.{little_number-reads_back}
@@ -16,10 +17,6 @@ use Rattle.ipc_reverse.specs.Advert.{message_of, advert_in}
 last-of : (a b : Bool) (x y z : TakenAdvert) → a ≡ false → b ≡ false → (if a then x else if b then y else z) ≡ z
 last-of a b x y z first second = rw (first, second) refl
 
-and-not : (a : Bool) → (a && false) ≡ false
-and-not true = refl
-and-not false = refl
-
 -- The parts of a message, the cookie of 16 bytes among them.
 parts : (cookie : List ℕ) (process : ℕ) (after : List ℕ) → length cookie ≡ 16 → process < 2 ^ 64
     → advert_in (MAGIC ++ (cookie ++ (fixed w64 process ++ 0 ∷ 0 ∷ after))) ≡ Advert cookie process
@@ -27,7 +24,7 @@ unfolding fixed
 parts cookie process after size fits =
     let rest : List ℕ = fixed w64 process ++ 0 ∷ 0 ∷ after in
     let long : nat_lt (length (MAGIC ++ (cookie ++ rest))) 34 ≡ false = grind (arith, length-append cookie rest) in
-    last-of _ _ _ _ _ (and-not _) long
+    last-of _ _ _ _ _ (and-false _) long
     ∙ ap₂ (λ c p. Advert c p) (take_at cookie rest 16 size) (ap (little_number 8) (drop_at cookie rest 16 size) ∙ little_number-reads_back 8 process (0 ∷ 0 ∷ after) fits)
 
 pub read_back : (cookie : List ℕ) (process : ℕ) (after : List ℕ) → length cookie ≡ 16 → process < 2 ^ 64

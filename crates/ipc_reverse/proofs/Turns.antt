@@ -1,5 +1,6 @@
 -- What is fixed of calls stays so in each turn of their dock.
-use Rattle.std.proofs.Common.{◌≡◌, ℕ, ◌+◌, ◌<◌, ◌≤◌, Bool, true, false, ◌||◌, nat_le, Option, Some, None, Result, Ok, Err, subst, sym, ap, refl, ◌∙◌, arith, inl, inr, List}
+use Rattle.std.proofs.Common.{◌≡◌, ℕ, ◌+◌, ◌≤◌, Bool, true, false, ◌||◌, nat_le, Option, Some, None, Result, Ok, Err, subst, sym, ap, refl, ◌∙◌, arith, inl, inr, List}
+use Rattle.std.proofs.lemmas.Option.{none-some, same_Some}
 use Rattle.pt_io.specs.declared.caller.Caller.{Ghosts as Caller}
 use Rattle.pt_io.specs.declared.dock.Arrival.{Arrival}
 use Rattle.pt_io.specs.declared.dock.Arrival.TheVariants as arrival
@@ -7,7 +8,7 @@ use Rattle.pt_io.specs.declared.sink.Sink.{Ghosts as Sink}
 use Rattle.pt_io.specs.declared.source.Failed.{Failed}
 use Rattle.pt_io.specs.Sides.{ReadSide}
 use Rattle.ipc_reverse.specs.declared.dock.ReverseDock.{ReverseDock}
-use Rattle.ipc_reverse.specs.Calls.{CallsState, TurnsTo, Gives, Keeps, Misses, IsCut, is_over, is_kept, kept_count}
+use Rattle.ipc_reverse.specs.Calls.{CallsState, TurnsTo, IsCut, is_kept, kept_count}
 use Rattle.ipc_reverse.specs.Dock.{calls_of}
 use Rattle.ipc_reverse.specs.Named.{Fixed, Makes}
 
@@ -19,12 +20,6 @@ going-by true kept going = cc
 
 few-by : (most given : ℕ) → nat_le most given ≡ false → given + 1 ≤ most
 few-by most given few = grind arith
-
-none-some : {L : Type 0} {link : L} → None ≡ Some link → ⊥
-none-some is = cc
-
-some-some : {L : Type 0} {one other : L} → Some one ≡ Some other → one ≡ other
-some-some is = cc
 
 -- What is fixed, by what changes.
 record Counts {K L : Type 0} (caller : Caller K L) (sink : Sink L) (calls : Fixed) (now : CallsState K L) : Type 0 where
@@ -41,7 +36,7 @@ counts-on caller sink gave target calls old new (Ok (arrival.Link link)) is turn
       links = turn.1.called.links ∙ (let n : caller.links old.caller + 1 ≡ calls.links + (old.given + 1) + 0 = omega (arith, before) in n)
           ∙ ap (λ n. calls.links + n + 0) (sym turn.1.given) ∙ ap (λ k. calls.links + new.given + kept_count k) (sym turn.1.none);
       few = subst (λ n. n ≤ calls.most) (sym turn.1.given) (few-by calls.most old.given going.0);
-      kept = λ link is. absurd (none-some (sym turn.1.none ∙ is));
+      kept = λ link is. absurd (none-some link (sym turn.1.none ∙ is));
     }
 counts-on caller sink gave target calls old new (Ok arrival.Quiet) is turn = absurd turn
 counts-on caller sink gave target calls old new (Ok arrival.Closed) is turn = subst (Counts caller sink calls) (sym turn.1) is
@@ -50,7 +45,7 @@ counts-on caller sink gave target calls old new (Err failed) is (going, inl miss
     record {
       links = misses.failed.links ∙ is.links ∙ ap (λ k. calls.links + old.given + kept_count k) (none ∙ sym misses.none) ∙ ap (λ n. calls.links + n + kept_count new.kept) (sym misses.given);
       few = subst (λ n. n ≤ calls.most) (sym misses.given) is.few;
-      kept = λ link is. absurd (none-some (sym misses.none ∙ is));
+      kept = λ link is. absurd (none-some link (sym misses.none ∙ is));
     }
 counts-on caller sink gave target calls old new (Err failed) is (going, inr keeps) =
     let none = (going-by (nat_le calls.most old.given) old.kept going).1 in
@@ -59,7 +54,7 @@ counts-on caller sink gave target calls old new (Err failed) is (going, inr keep
       links = keeps.called.links ∙ (let n : caller.links old.caller + 1 ≡ calls.links + old.given + 1 = omega (arith, before) in n)
           ∙ ap (λ n. calls.links + n + 1) (sym keeps.given) ∙ ap (λ k. calls.links + new.given + kept_count k) (sym keeps.kept);
       few = subst (λ n. n ≤ calls.most) (sym keeps.given) is.few;
-      kept = λ link is. subst (IsCut sink calls.advert) (some-some (sym keeps.kept ∙ is)) keeps.cut;
+      kept = λ link is. subst (IsCut sink calls.advert) (same_Some _ link (sym keeps.kept ∙ is)) keeps.cut;
     }
 
 pub makes_on : {K L : Type 0} (caller : Caller K L) (sink : Sink L) (gave : L → ReadSide) (calls : Fixed) (old new : ReverseDock K L) (result : Result (Arrival L) Failed)

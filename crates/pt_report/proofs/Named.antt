@@ -1,6 +1,6 @@
 -- A thread that the items tell something of is named by one of them.
 use Rattle.std.proofs.Common.{◌≡◌, ℕ, Bool, true, false, ◌||◌, cond, eqb, inl, inr, List, [], ◌∷◌, ◌++◌, map, filter, is_some, refl, sym, ap, ◌∙◌}
-use Rattle.std.proofs.lemmas.Bool.{cases_Bool, eqb-true}
+use Rattle.std.proofs.lemmas.Bool.{cases_Bool, eqb-true, or_left, or_right}
 use Rattle.std.proofs.lemmas.Map.Steps.{list_any_congr}
 use Rattle.std.specs.declared.cmp.Ordering.{Ordering}
 use Rattle.std.specs.declared.cmp.Ordering.TheVariants.{Less, Equal, Greater}
@@ -21,38 +21,30 @@ use Rattle.pt_report.proofs.Tallies.{name-known}
 
 -- ---- keys in order
 
-or-right : (a b : Bool) → b ≡ true → (a || b) ≡ true
-or-right true b e = refl
-or-right false b e = e
-
-or-left : (a b : Bool) → a ≡ true → (a || b) ≡ true
-or-left true b e = refl
-or-left false b e = absurd (cc)
-
 module _ {K : Type 0} (cmp : K → K → Ordering) (total : IsTotalOrder cmp) where
   laws : IsEquivalence (eq_by_cmp cmp)
   laws = eq_by_cmp_equiv total
 
   -- A key that is put is there, and those that were there stay.
   insert-has : (key name : K) (keys : List K) → eq_by_cmp cmp key name ≡ true → list_any (eq_by_cmp cmp key) (insert_key cmp keys name) ≡ true
-  insert-has key name [] e = or-left (eq_by_cmp cmp key name) false e
+  insert-has key name [] e = or_left (eq_by_cmp cmp key name) false e
   insert-has key name (first ∷ keys) e = by (insert-has key name keys e) (cmp name first) refl
     where
       by : list_any (eq_by_cmp cmp key) (insert_key cmp keys name) ≡ true → (o : Ordering) → cmp name first ≡ o → list_any (eq_by_cmp cmp key) (match_ordering o (name ∷ first ∷ keys) (first ∷ keys) (first ∷ insert_key cmp keys name)) ≡ true
-      by later Less is = or-left (eq_by_cmp cmp key name) (list_any (eq_by_cmp cmp key) (first ∷ keys)) e
-      by later Equal is = or-left (eq_by_cmp cmp key first) (list_any (eq_by_cmp cmp key) keys) (laws.congr key name first e ∙ ap is_eq is)
-      by later Greater is = or-right (eq_by_cmp cmp key first) (list_any (eq_by_cmp cmp key) (insert_key cmp keys name)) later
+      by later Less is = or_left (eq_by_cmp cmp key name) (list_any (eq_by_cmp cmp key) (first ∷ keys)) e
+      by later Equal is = or_left (eq_by_cmp cmp key first) (list_any (eq_by_cmp cmp key) keys) (laws.congr key name first e ∙ ap is_eq is)
+      by later Greater is = or_right (eq_by_cmp cmp key first) (list_any (eq_by_cmp cmp key) (insert_key cmp keys name)) later
 
   insert-keeps : (key name : K) (keys : List K) → list_any (eq_by_cmp cmp key) keys ≡ true → list_any (eq_by_cmp cmp key) (insert_key cmp keys name) ≡ true
   insert-keeps key name [] e = absurd (cc)
   insert-keeps key name (first ∷ keys) e = by (later (insert-keeps key name keys) (eq_by_cmp cmp key first) refl) (cmp name first)
     where
       later : (list_any (eq_by_cmp cmp key) keys ≡ true → list_any (eq_by_cmp cmp key) (insert_key cmp keys name) ≡ true) → (b : Bool) → eq_by_cmp cmp key first ≡ b → list_any (eq_by_cmp cmp key) (first ∷ insert_key cmp keys name) ≡ true
-      later keeps true is = or-left (eq_by_cmp cmp key first) (list_any (eq_by_cmp cmp key) (insert_key cmp keys name)) is
-      later keeps false is = or-right (eq_by_cmp cmp key first) (list_any (eq_by_cmp cmp key) (insert_key cmp keys name)) (keeps (sym (ap (λ b. b || list_any (eq_by_cmp cmp key) keys) is) ∙ e))
+      later keeps true is = or_left (eq_by_cmp cmp key first) (list_any (eq_by_cmp cmp key) (insert_key cmp keys name)) is
+      later keeps false is = or_right (eq_by_cmp cmp key first) (list_any (eq_by_cmp cmp key) (insert_key cmp keys name)) (keeps (sym (ap (λ b. b || list_any (eq_by_cmp cmp key) keys) is) ∙ e))
 
       by : list_any (eq_by_cmp cmp key) (first ∷ insert_key cmp keys name) ≡ true → (o : Ordering) → list_any (eq_by_cmp cmp key) (match_ordering o (name ∷ first ∷ keys) (first ∷ keys) (first ∷ insert_key cmp keys name)) ≡ true
-      by kept Less = or-right (eq_by_cmp cmp key name) (list_any (eq_by_cmp cmp key) (first ∷ keys)) e
+      by kept Less = or_right (eq_by_cmp cmp key name) (list_any (eq_by_cmp cmp key) (first ∷ keys)) e
       by kept Equal = e
       by kept Greater = kept
 
@@ -91,15 +83,15 @@ module _ {K : Type 0} (cmp : K → K → Ordering) (total : IsTotalOrder cmp) wh
 
 any-append : (p : ℕ → Bool) (a b : List ℕ) → list_any p b ≡ true → list_any p (a ++ b) ≡ true
 any-append p [] b e = e
-any-append p (first ∷ a) b e = or-right (p first) (list_any p (a ++ b)) (any-append p a b e)
+any-append p (first ∷ a) b e = or_right (p first) (list_any p (a ++ b)) (any-append p a b e)
 
 any-front : (p : ℕ → Bool) (a b : List ℕ) → list_any p a ≡ true → list_any p (a ++ b) ≡ true
 any-front p [] b e = absurd (cc)
 any-front p (first ∷ a) b e = either (any-front p a b) (p first) refl
   where
     either : (list_any p a ≡ true → list_any p (a ++ b) ≡ true) → (c : Bool) → p first ≡ c → (p first || list_any p (a ++ b)) ≡ true
-    either later true is = or-left (p first) (list_any p (a ++ b)) is
-    either later false is = or-right (p first) (list_any p (a ++ b)) (later (sym (ap (λ c. c || list_any p a) is) ∙ e))
+    either later true is = or_left (p first) (list_any p (a ++ b)) is
+    either later false is = or_right (p first) (list_any p (a ++ b)) (later (sym (ap (λ c. c || list_any p a) is) ∙ e))
 
 tied : (thread other : ℕ) → eqb other thread ≡ true → eq_by_cmp nat_cmp thread other ≡ true
 tied thread other e = rw (eqb-true other thread e) (laws-refl thread)
@@ -112,8 +104,8 @@ point-named : (thread : ℕ) (pairs : List (ℕ × ℕ)) (more : List Sighting) 
 point-named thread [] more there not_more = absurd (not_more there)
 point-named thread (pair ∷ pairs) more there not_more =
     elim (cases_Bool (eqb pair.0 thread)) [
-      | inl own ↦ or-left (eq_by_cmp nat_cmp thread pair.0) (list_any (eq_by_cmp nat_cmp thread) (map (λ (t : ℕ × ℕ). t.0) pairs)) (tied thread pair.0 own)
-      | inr other ↦ or-right (eq_by_cmp nat_cmp thread pair.0) (list_any (eq_by_cmp nat_cmp thread) (map (λ (t : ℕ × ℕ). t.0) pairs)) (point-named thread pairs more (rw other at there) not_more)
+      | inl own ↦ or_left (eq_by_cmp nat_cmp thread pair.0) (list_any (eq_by_cmp nat_cmp thread) (map (λ (t : ℕ × ℕ). t.0) pairs)) (tied thread pair.0 own)
+      | inr other ↦ or_right (eq_by_cmp nat_cmp thread pair.0) (list_any (eq_by_cmp nat_cmp thread) (map (λ (t : ℕ × ℕ). t.0) pairs)) (point-named thread pairs more (rw other at there) not_more)
     ]
 
 seen-named : (thread : ℕ) (kinds : List ItemKind) → is_some (told (flat_map (seen_in thread) kinds)) ≡ true → list_any (eq_by_cmp nat_cmp thread) (flat_map threads_in kinds) ≡ true
@@ -123,8 +115,8 @@ seen-named thread (item.Meta id def ∷ kinds) there = seen-named thread kinds t
 seen-named thread (item.Stack id bytes ∷ kinds) there = seen-named thread kinds there
 seen-named thread (item.Event metadata number capture processor other stack stamp activity related payload ∷ kinds) there =
     elim (cases_Bool (eqb capture thread)) [
-      | inl own ↦ or-left (eq_by_cmp nat_cmp thread capture) (list_any (eq_by_cmp nat_cmp thread) (flat_map threads_in kinds)) (tied thread capture own)
-      | inr apart ↦ or-right (eq_by_cmp nat_cmp thread capture) (list_any (eq_by_cmp nat_cmp thread) (flat_map threads_in kinds)) (seen-named thread kinds (rw apart at there))
+      | inl own ↦ or_left (eq_by_cmp nat_cmp thread capture) (list_any (eq_by_cmp nat_cmp thread) (flat_map threads_in kinds)) (tied thread capture own)
+      | inr apart ↦ or_right (eq_by_cmp nat_cmp thread capture) (list_any (eq_by_cmp nat_cmp thread) (flat_map threads_in kinds)) (seen-named thread kinds (rw apart at there))
     ]
 seen-named thread (item.Point stamp pairs ∷ kinds) there =
     elim (cases_Bool (is_some (told (flat_map (seen_in thread) kinds)))) [

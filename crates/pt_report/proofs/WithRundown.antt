@@ -1,36 +1,28 @@
 -- What a finished session's stream tells of its threads, with a rundown or without, in numbers.
-use Rattle.std.proofs.Common.{◌≡◌, ℕ, zero, suc, ◌+◌, ◌<◌, ◌≤◌, Bool, true, false, cond, eqb, inl, inr, List, [], ◌∷◌, length, filter, Option, Some, None, refl, ap, sym, ◌∙◌, subst, arith}
+use Rattle.std.proofs.Common.{◌≡◌, ℕ, zero, suc, ◌+◌, ◌≤◌, Bool, true, false, eqb, List, [], ◌∷◌, length, Some, None, refl, ap, sym, ◌∙◌, arith}
 use Rattle.std.specs.Prelude.{◌||◌, ◌==◌, if◌then◌else◌}
 use Rattle.std.specs.List.{AllByRecursion}
-use Rattle.std.proofs.lemmas.Bool.{or_parts, eqb-true, eq-eqb, ne_eqb, cases_Bool, true≢false}
+use Rattle.std.proofs.lemmas.Bool.{or_parts, eq-eqb, ne_eqb, true≢false}
 use Rattle.ep_defs.specs.declared.limits.TheConstants.{SCHEDULE_WRITES}
 use Rattle.ep_defs.specs.declared.event.EventDef.{EventDef}
 use Rattle.ep_defs.specs.declared.item.Item.{Item}
 use Rattle.ep_defs.specs.Entry.{Entry}
-use Rattle.ep_rundown.specs.Rundown.{used, describing, describing_from, section, with_section}
+use Rattle.ep_rundown.specs.Rundown.{used, section, with_section}
 use Rattle.ep_model.specs.Chunks.{refused, written}
 use Rattle.ep_model.specs.Entries.{entries}
-use Rattle.ep_model.specs.Faithful.{Share, Contents, AreFaithful, contents_of, events_of, is_kept, kept, is_of, shares_of}
+use Rattle.ep_model.specs.Faithful.{Share, Contents, AreFaithful, events_of, is_of, shares_of}
 use Rattle.ep_model.specs.History.{Past, opened, admitted}
 use Rattle.ep_model.specs.Lawful.{begins, was_opened}
 use Rattle.ep_model.proofs.Ascending.{AreAbove, IsAscending}
 use Rattle.ep_model.proofs.Lists.{has}
 use Rattle.ep_told.specs.Told.{has_rundown, told_entries, rundown_share}
+use Rattle.ep_told.proofs.WithRundown.{kept-all, section-long}
 use Rattle.nt_blocks.specs.Ordered.{Tell, kinds_of}
-use Rattle.nt_check.specs.declared.threads.Numbers.{Numbers}
 use Rattle.nt_check.specs.Numbers.{held, numbers_of}
 use Rattle.pt_report.specs.Shares.{share_numbers, session_numbers, rundown_numbers, told_threads, told_numbers}
 use Rattle.pt_report.proofs.Sessions.{session_told, is_of-shares}
 
 -- ---- the share of thread 0
-
-kept-all : (contents : List Contents) → filter (is_kept []) contents ≡ contents
-kept-all [] = refl
-kept-all (one ∷ contents) = ap (λ (more : List Contents). one ∷ more) (kept-all contents)
-
-section-long : (stamp id : ℕ) (defs : List EventDef) → length (events_of 0 (describing_from stamp id defs)) ≡ length defs
-section-long stamp id [] = refl
-section-long stamp id (def ∷ defs) = ap suc (section-long stamp (id + 1) defs)
 
 -- It has an event for each definition that was used.
 rundown-is : (lines : List Entry) → share_numbers (rundown_share lines) ≡ rundown_numbers lines

@@ -1,8 +1,8 @@
 -- What a session over a run's rows comes to.
-use Rattle.std.proofs.Common.{◌≡◌, ◌≢◌, ◌∙◌, ℕ, zero, suc, ◌-◌, ◌<◌, ◌≤◌, ⊎_elim, true, false, List, Option, None, refl, sym, ap, subst, arith}
-use Rattle.std.specs.Prelude.{Bool, ◌==◌, map}
+use Rattle.std.proofs.Common.{◌≡◌, ◌≢◌, ◌∙◌, ℕ, zero, suc, ◌-◌, ◌<◌, ◌≤◌, ⊎_elim, false, List, Option, None, refl, sym, ap, subst, arith}
+use Rattle.std.specs.Prelude.{Bool, map}
 use Rattle.std.specs.List.{AllByRecursion}
-use Rattle.std.proofs.lemmas.Bool.{cases_lt, eqb-true, eqb-false}
+use Rattle.std.proofs.lemmas.Bool.{cases_eq, cases_lt}
 use Rattle.std.proofs.lemmas.List.{get_or_past}
 use Rattle.ep_defs.specs.declared.event.EventDef.{EventDef}
 use Rattle.ep_defs.specs.declared.session.Marks.{Marks}
@@ -35,26 +35,20 @@ no-hands rows lives places session shut a (suc place) =
     (λ (within : suc place ≤ rows). shut (suc place) (omega arith) within)
     (cases_lt rows (suc place)))
 
-by-slot : (P : Type 0) (slot own : ℕ) → (slot ≡ own → P) → (slot ≢ own → P) → P
-by-slot P slot own here other =
-    elim (slot == own) as (λ v. (slot == own) ≡ v → P) [
-      | true ↦ λ e. here (eqb-true slot own e)
-      | false ↦ λ e. other (eqb-false slot own e)
-    ]
-    refl
-
 -- Its rows expect none, and nothing is out.
 pub none-expected : {S : Type 0} (rows : ℕ) (set : LiveRowsState) (session : Session S) → AreItsRows rows set session → ((row : ℕ) → hand_on session row ≡ None) → (row slot : ℕ) → expected_in set row slot ≡ None
 none-expected rows set session its none row slot =
-    by-slot (expected_in set row slot ≡ None) slot (rest_of session).seat.slot
-    (λ is. ap (λ (s : ℕ). expected_in set row s) is ∙ its.own.hands row ∙ none row)
-    (λ not. its.no_hands row slot not)
+    ⊎_elim
+    (λ (is : slot ≡ (rest_of session).seat.slot). ap (λ (s : ℕ). expected_in set row s) is ∙ its.own.hands row ∙ none row)
+    (λ (not : slot ≢ (rest_of session).seat.slot). its.no_hands row slot not)
+    (cases_eq slot (rest_of session).seat.slot)
 
 pub none-out : {S : Type 0} (rows : ℕ) (set : LiveRowsState) (session : Session S) → AreItsRows rows set session → (rest_of session).in_hand ≡ 0 → (slot : ℕ) → out_in set slot ≡ 0
 none-out rows set session its empty slot =
-    by-slot (out_in set slot ≡ 0) slot (rest_of session).seat.slot
-    (λ is. ap (λ (s : ℕ). out_in set s) is ∙ its.own.chunks ∙ empty)
-    (λ not. its.none_out slot not)
+    ⊎_elim
+    (λ (is : slot ≡ (rest_of session).seat.slot). ap (λ (s : ℕ). out_in set s) is ∙ its.own.chunks ∙ empty)
+    (λ (not : slot ≢ (rest_of session).seat.slot). its.none_out slot not)
+    (cases_eq slot (rest_of session).seat.slot)
 
 -- The threads of its marks are those on which it was opened.
 pub served-threads : (rows : ℕ) (places : List Place) (opened threads : List ℕ) → threads ≡ opened → AreServed rows places opened → AreServed rows places threads

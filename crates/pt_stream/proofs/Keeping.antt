@@ -25,7 +25,7 @@ use Rattle.ep_stream.specs.Telling.{IsFaulty}
 use Rattle.ep_live.specs.RowSet.{LiveRowsState, configured_in, expected_in, life_at, out_in, tests_hand_in}
 use Rattle.ep_live_laws.specs.Calls.{OpensOn, TellsMore, TellsSame}
 use Rattle.ep_live_laws.specs.Tracing.{IsOneOf, Watch}
-use Rattle.pt_stream.proofs.Threads.{one-here, one-more}
+use Rattle.ep_live_laws.proofs.Accounts.{one-here, one-more}
 use Rattle.pt_stream.specs.declared.place.Place.{Place}
 use Rattle.pt_stream.specs.Setting.{Setting, watch_of}
 use Rattle.pt_stream.specs.State.{place_at, stays_early, with_place}

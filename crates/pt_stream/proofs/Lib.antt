@@ -1,6 +1,5 @@
 pub mod Lives
 pub mod Places
-pub mod Threads
 pub mod Served
 pub mod Hands
 pub mod Told

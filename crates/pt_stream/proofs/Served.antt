@@ -5,7 +5,7 @@ use Rattle.std.proofs.lemmas.Bool.{eqb-true}
 use Rattle.ep_model.specs.History.{insert_ascending}
 use Rattle.ep_guarded.specs.Tied.{thread_of}
 use Rattle.ep_live_laws.specs.Tracing.{AreAscending, IsOneOf}
-use Rattle.pt_stream.proofs.Threads.{one-here, one-more, one-before}
+use Rattle.ep_live_laws.proofs.Accounts.{one-here, one-more, one-before}
 use Rattle.pt_stream.specs.declared.place.Place.{Place}
 use Rattle.pt_stream.specs.State.{place_at, with_place}
 use Rattle.pt_stream.specs.End.{AreServed, HasOne, IsServed}

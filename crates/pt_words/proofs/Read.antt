@@ -1,10 +1,9 @@
--- What each command makes of words that are no options.
-use Rattle.std.proofs.Common.{◌≡◌, ◌∙◌, cond, ◌≤◌, ◌||◌, ℕ, Bool, true, false, List, [], ◌∷◌, length, map, Option, Some, None, is_some, option_map, refl, sym, subst, ap, ap₂, codes, nat_eq, nat_lt, le-ltb, suc, arith}
+-- What the command of three positions, of which the last takes all words that are left, makes of words that are no options.
+use Rattle.std.proofs.Common.{◌≡◌, ◌∙◌, ◌≤◌, ◌||◌, ℕ, true, false, List, [], ◌∷◌, length, map, Option, Some, None, is_some, option_map, refl, sym, subst, ap, ap₂, codes, nat_eq, nat_lt, le-ltb, suc, arith}
 use Rattle.std.proofs.lemmas.Bool.{ne_eqb}
 use Rattle.std.specs.List.{list_any, fold}
-use Rattle.std.specs.Option.{option_zip}
 use Rattle.clap.specs.Lexer.{usize_max}
-use Rattle.clap.specs.Walk.{Text, Rule, Row, Walk, walk, walked, nothing_held, finished, settled, used, first_of, all_of, rows_of}
+use Rattle.clap.specs.Walk.{Text, Rule, Row, Walk, walked, finished, settled, used, first_of, all_of, rows_of}
 use Rattle.clap.specs.Simple.{App, Shape, built, entered, matches_of}
 use Rattle.clap.specs.Faults.{walk_fault, entered_fault, settle_fault, use_fault, values_fault, defaults_fault, check_fault, fault_of, is_simple_and_free}
 use Rattle.clap.specs.Kinds.{Kinds, or_else, range_kinds}
@@ -13,10 +12,10 @@ use Rattle.clap.specs.declared.error.kind.ErrorKind.TheVariants as kind
 use Rattle.clap.specs.declared.parser.matches.ArgMatches.{ArgMatches}
 use Rattle.clap.proofs.OnLiterals.{clap_on_literals}
 use Rattle.clap.proofs.WalkLemmas.{first_value-rows, raw_values-rows}
-use Rattle.pt_words.specs.Words.{is_option, has_option, SeveralTexts, one_in, two_in, several_in, several_from}
-use Rattle.pt_words.specs.Commands.{one_app, two_app, several_app}
+use Rattle.pt_words.specs.Words.{is_option, has_option, SeveralTexts, several_in, several_from}
+use Rattle.pt_words.specs.Commands.{several_app}
 use Rattle.pt_words.specs.Matches.{IsRead}
-use Rattle.pt_words.proofs.Walks.{one_rule, two_rule, rest_rule, shape_with, start, after_one, after_two, after_rest, walked-one, walked-two, walked-rest, taken-one, taken-two, taken-rest, over-one, over-two, faults-on, faults-here, no-first, no-later, walked-all, taken-all}
+use Rattle.pt_words.proofs.Walks.{one_rule, two_rule, rest_rule, shape_with, start, after_one, after_two, after_rest, walked-one, walked-two, walked-rest, taken-one, taken-two, taken-rest, faults-on, no-first, no-later, walked-all, taken-all}
 
 -- The faults of a whole parse, by those of the walk and where it ends.
 abbrev pub faults : App → Kinds → Walk → Kinds
@@ -27,181 +26,11 @@ faults app walking end =
     (or_else (defaults_fault (settled app.top.rules end.held).rows app.top.rules)
     (check_fault app.top (finished app.top.rules end.held) (is_some (entered app end.stopped))))))
 
--- A word over is a fault.
-over : (app : App) (walking : Kinds) (end : Walk) → walking ≡ kind.UnknownArgument ∷ [] → faults app walking end ≡ [] → ⊥
-over app walking end is taken =
-    let same : faults app (kind.UnknownArgument ∷ []) end ≡ [] = ap (λ ks. faults app ks end) (sym is) ∙ taken in
-    cc
-
-abbrev two_rules : List Rule
-two_rules = one_rule ∷ two_rule ∷ []
-
-abbrev two_shape : Shape
-two_shape = shape_with two_rules
-
 abbrev several_rules : List Rule
 several_rules = one_rule ∷ two_rule ∷ rest_rule ∷ []
 
 abbrev several_shape : Shape
 several_shape = shape_with several_rules
-
--- ---- one word
-
-one-taken : (one : Text) → has_option (one ∷ []) ≡ false → fault_of one_app (one ∷ []) ≡ []
-unfolding clap_on_literals
-one-taken one other =
-    let plain : is_option one ≡ false = no-first (is_option one) false other in
-    ap₂ (faults (built one_app)) (faults-on (shape_with (one_rule ∷ [])) start (after_one one) one [] (taken-one [] one plain) (walked-one [] one plain)) (walked-one [] one plain)
-
-one-found : (one : Text) → has_option (one ∷ []) ≡ false → first_of (codes "one") (matches_of one_app (one ∷ [])) ≡ Some one
-unfolding clap_on_literals
-one-found one other = ap (λ (w : Walk). first_of (codes "one") (finished (one_rule ∷ []) w.held)) (walked-one [] one (no-first (is_option one) false other))
-
-one-none : fault_of one_app [] ≡ [] → ⊥
-unfolding clap_on_literals
-one-none taken = cc
-
-one-over : (one two : Text) (more : List Text) → has_option (one ∷ two ∷ more) ≡ false → fault_of one_app (one ∷ two ∷ more) ≡ [] → ⊥
-one-over one two more other taken =
-    let first : is_option one ≡ false = no-first (is_option one) (has_option (two ∷ more)) other in
-    let second : is_option two ≡ false = no-first (is_option two) (has_option more) (no-later (is_option one) (has_option (two ∷ more)) other) in
-    let s = shape_with (one_rule ∷ []) in
-    let refused : walk_fault s [] start (one ∷ two ∷ more) ≡ kind.UnknownArgument ∷ [] =
-    faults-on s start (after_one one) one (two ∷ more) (taken-one [] one first) (walked-one [] one first) ∙ faults-here s (after_one one) two more (over-one one two second) in
-    over (built one_app) (walk_fault s [] start (one ∷ two ∷ more)) (walk (one_rule ∷ []) [] nothing_held (one ∷ two ∷ more)) refused taken
-
-one-is : (one : Text) → has_option (one ∷ []) ≡ false → Some one ≡ one_in (one ∷ [])
-one-is one other = rw (no-first (is_option one) false other) refl
-
-one-simple : is_simple_and_free one_app ≡ true
-unfolding clap_on_literals
-one-simple = refl
-
-one-read : (words : List Text) → has_option words ≡ false → fault_of one_app words ≡ [] → first_of (codes "one") (matches_of one_app words) ≡ one_in words
-one-read [] other taken = absurd (one-none taken)
-one-read (one ∷ []) other taken = one-found one other ∙ one-is one other
-one-read (one ∷ two ∷ more) other taken = absurd (one-over one two more other taken)
-
-one-refused : (words : List Text) → has_option words ≡ false → (fault_of one_app words ≡ [] → ⊥) → None ≡ one_in words
-one-refused [] other refused = refl
-one-refused (one ∷ []) other refused = absurd (refused (one-taken one other))
-one-refused (one ∷ two ∷ more) other refused = refl
-
--- The matches tell the text.
-pub one-some : (app : App) (words : List Text) (m : ArgMatches) → app ≡ one_app → has_option words ≡ false
-    → (is_simple_and_free app ≡ true → IsRead app words (Some m)) → first_value (found_of m) (codes "one") ≡ one_in words
-one-some app words m is other read =
-    let parsed : IsRead one_app words (Some m) = subst (λ a. IsRead a words (Some m)) is (read (ap is_simple_and_free is ∙ one-simple)) in
-    first_value-rows (found_of m) (codes "one") ∙ ap (first_of (codes "one")) parsed.1 ∙ one-read words other parsed.0
-
-pub one-no : (app : App) (words : List Text) → app ≡ one_app → has_option words ≡ false
-    → (is_simple_and_free app ≡ true → IsRead app words None) → None ≡ one_in words
-one-no app words is other read =
-    one-refused words other (subst (λ a. IsRead a words None) is (read (ap is_simple_and_free is ∙ one-simple)))
-
-pub one-option : (words : List Text) → has_option words ≡ true → None ≡ one_in words
-one-option [] other = refl
-one-option (one ∷ []) other = go (is_option one) other
-  where
-    go : (b : Bool) → (b || false) ≡ true → None ≡ cond b None (Some one)
-    go true e = refl
-    go false e = cc
-one-option (one ∷ two ∷ more) other = refl
-
--- ---- two words
-
-two-first : (one : Text) (more : List Text) → is_option one ≡ false → walk_fault two_shape [] start (one ∷ more) ≡ walk_fault two_shape [] (after_one one) more
-two-first one more plain = faults-on two_shape start (after_one one) one more (taken-one (two_rule ∷ []) one plain) (walked-one (two_rule ∷ []) one plain)
-
-two-both : (one two : Text) (more : List Text) → is_option one ≡ false → is_option two ≡ false
-    → walk_fault two_shape [] start (one ∷ two ∷ more) ≡ walk_fault two_shape [] (after_two one two) more
-two-both one two more first second =
-    two-first one (two ∷ more) first
-    ∙ faults-on two_shape (after_one one) (after_two one two) two more (taken-two [] one two second) (walked-two [] one two second)
-
-two-walk : (one two : Text) (more : List Text) → is_option one ≡ false → is_option two ≡ false
-    → fold (walked two_rules []) start (one ∷ two ∷ more) ≡ fold (walked two_rules []) (after_two one two) more
-two-walk one two more first second =
-    ap (λ w. fold (walked two_rules []) (walked two_rules [] w two) more) (walked-one (two_rule ∷ []) one first)
-    ∙ ap (λ w. fold (walked two_rules []) w more) (walked-two [] one two second)
-
-two-taken : (one two : Text) → is_option one ≡ false → is_option two ≡ false → fault_of two_app (one ∷ two ∷ []) ≡ []
-unfolding clap_on_literals
-two-taken one two first second = ap₂ (faults (built two_app)) (two-both one two [] first second) (two-walk one two [] first second)
-
-two-none : fault_of two_app [] ≡ [] → ⊥
-unfolding clap_on_literals
-two-none taken = cc
-
-two-one : (one : Text) → is_option one ≡ false → fault_of two_app (one ∷ []) ≡ [] → ⊥
-unfolding clap_on_literals
-two-one one first taken =
-    let missing : kind.MissingRequiredArgument ∷ [] ≡ fault_of two_app (one ∷ []) =
-    sym (ap₂ (faults (built two_app)) (two-first one [] first) (walked-one (two_rule ∷ []) one first)) in
-    let bad : kind.MissingRequiredArgument ∷ [] ≡ [] = missing ∙ taken in
-    cc
-
-two-over : (one two three : Text) (more : List Text) → is_option one ≡ false → is_option two ≡ false → is_option three ≡ false → fault_of two_app (one ∷ two ∷ three ∷ more) ≡ [] → ⊥
-two-over one two three more first second third taken =
-    over (built two_app) (walk_fault two_shape [] start (one ∷ two ∷ three ∷ more)) (walk two_rules [] nothing_held (one ∷ two ∷ three ∷ more))
-    (two-both one two (three ∷ more) first second ∙ faults-here two_shape (after_two one two) three more (over-two one two three third)) taken
-
-two-simple : is_simple_and_free two_app ≡ true
-unfolding clap_on_literals
-two-simple = refl
-
--- What a parse tells of the two.
-abbrev pub pair_in : List Row → Option (List ℕ × List ℕ)
-pair_in rows = option_zip (first_of (codes "one") rows) (first_of (codes "two") rows)
-
-two-found : (one two : Text) → is_option one ≡ false → is_option two ≡ false → pair_in (matches_of two_app (one ∷ two ∷ [])) ≡ Some (one, two)
-unfolding clap_on_literals
-two-found one two first second = ap (λ (w : Walk). pair_in (finished two_rules w.held)) (two-walk one two [] first second)
-
-two-is : (one two : Text) → is_option one ≡ false → is_option two ≡ false → Some (one, two) ≡ two_in (one ∷ two ∷ [])
-two-is one two first second = rw (first, second) refl
-
-two-read : (words : List Text) → has_option words ≡ false → fault_of two_app words ≡ [] → pair_in (matches_of two_app words) ≡ two_in words
-two-read [] other taken = absurd (two-none taken)
-two-read (one ∷ []) other taken = absurd (two-one one (no-first (is_option one) false other) taken)
-two-read (one ∷ two ∷ []) other taken =
-    let first : is_option one ≡ false = no-first (is_option one) (has_option (two ∷ [])) other in
-    let second : is_option two ≡ false = no-first (is_option two) false (no-later (is_option one) (has_option (two ∷ [])) other) in
-    two-found one two first second ∙ two-is one two first second
-two-read (one ∷ two ∷ three ∷ more) other taken =
-    let first : is_option one ≡ false = no-first (is_option one) (has_option (two ∷ three ∷ more)) other in
-    let later : has_option (two ∷ three ∷ more) ≡ false = no-later (is_option one) (has_option (two ∷ three ∷ more)) other in
-    let second : is_option two ≡ false = no-first (is_option two) (has_option (three ∷ more)) later in
-    let third : is_option three ≡ false = no-first (is_option three) (has_option more) (no-later (is_option two) (has_option (three ∷ more)) later) in
-    absurd (two-over one two three more first second third taken)
-
-two-refused : (words : List Text) → has_option words ≡ false → (fault_of two_app words ≡ [] → ⊥) → None ≡ two_in words
-two-refused [] other refused = refl
-two-refused (one ∷ []) other refused = refl
-two-refused (one ∷ two ∷ []) other refused =
-    let first : is_option one ≡ false = no-first (is_option one) (has_option (two ∷ [])) other in
-    let second : is_option two ≡ false = no-first (is_option two) false (no-later (is_option one) (has_option (two ∷ [])) other) in
-    absurd (refused (two-taken one two first second))
-two-refused (one ∷ two ∷ three ∷ more) other refused = refl
-
-pub two-some : (app : App) (words : List Text) (m : ArgMatches) → app ≡ two_app → has_option words ≡ false
-    → (is_simple_and_free app ≡ true → IsRead app words (Some m))
-    → option_zip (first_value (found_of m) (codes "one")) (first_value (found_of m) (codes "two")) ≡ two_in words
-two-some app words m is other read =
-    let parsed : IsRead two_app words (Some m) = subst (λ a. IsRead a words (Some m)) is (read (ap is_simple_and_free is ∙ two-simple)) in
-    ap₂ option_zip (first_value-rows (found_of m) (codes "one")) (first_value-rows (found_of m) (codes "two"))
-    ∙ ap pair_in parsed.1 ∙ two-read words other parsed.0
-
-pub two-no : (app : App) (words : List Text) → app ≡ two_app → has_option words ≡ false
-    → (is_simple_and_free app ≡ true → IsRead app words None) → None ≡ two_in words
-two-no app words is other read =
-    two-refused words other (subst (λ a. IsRead a words None) is (read (ap is_simple_and_free is ∙ two-simple)))
-
-pub two-option : (words : List Text) → has_option words ≡ true → None ≡ two_in words
-two-option [] other = refl
-two-option (one ∷ []) other = refl
-two-option (one ∷ two ∷ []) other = rw other refl
-two-option (one ∷ two ∷ three ∷ more) other = refl
 
 -- ---- three words or more
 

@@ -7,7 +7,6 @@ use Rattle.clap.specs.Simple.{Shape, new_shape, filled, with_index}
 use Rattle.clap.specs.Faults.{turn_fault, walk_fault}
 use Rattle.clap.specs.Kinds.{or_else}
 use Rattle.clap.specs.declared.error.kind.ErrorKind.{ErrorKind}
-use Rattle.clap.specs.declared.error.kind.ErrorKind.TheVariants as kind
 use Rattle.clap.proofs.OnLiterals.{clap_on_literals}
 use Rattle.pt_words.specs.Words.{is_option, has_option}
 use Rattle.pt_words.specs.Commands.{position_rule, several_rule}
@@ -108,16 +107,6 @@ pub taken-more : (one two : Text) (rest : List Text) (word : Text) → is_option
 unfolding clap_on_literals
 taken-more one two rest [] other = refl
 taken-more one two rest (x ∷ xs) other = rw (other, other) refl
-
-pub over-one : (one two : Text) → is_option two ≡ false → turn_fault (shape_with (one_rule ∷ [])) [] (after_one one) two ≡ kind.UnknownArgument ∷ []
-unfolding clap_on_literals
-over-one one [] other = refl
-over-one one (x ∷ xs) other = rw (other, other) refl
-
-pub over-two : (one two word : Text) → is_option word ≡ false → turn_fault (shape_with (one_rule ∷ two_rule ∷ [])) [] (after_two one two) word ≡ kind.UnknownArgument ∷ []
-unfolding clap_on_literals
-over-two one two [] other = refl
-over-two one two (x ∷ xs) other = rw (other, other) refl
 
 -- ---- all words
 

@@ -1,5 +1,5 @@
 -- A piece more was read, or the link has ended, or the buffer is full.
-use Rattle.std.proofs.Common.{◌≡◌, ◌∙◌, IsTrue, rules, subst, sym, arith, inl, inr}
+use Rattle.std.proofs.Common.{◌∙◌, IsTrue, rules, subst, sym, arith, inl, inr}
 use Rattle.std.proofs.lemmas.Slice.{take-put_mid_below}
 use borrow.Rule.Slice.PartMut.{same_len_mid}
 use Rattle.ipc_reverse.proofs.Filling.{read_more, none_more, whole_on, filled_gave, filled_front}

@@ -1,4 +1,4 @@
-use Rattle.std.proofs.Common.{◌≡◌, ℕ, ◌-◌, ◌≤◌, ◌++◌, List, length, take, IsTrue}
+use Rattle.std.proofs.Common.{◌≡◌, ◌-◌, ◌≤◌, ◌++◌, length, take, IsTrue}
 use Rattle.ipc_reverse.proofs.Filling.{HasRead}
 use Rattle.ipc_reverse.proofs.receive.fill.Given as goal
 

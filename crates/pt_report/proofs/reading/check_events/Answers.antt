@@ -1,4 +1,4 @@
-use Rattle.std.proofs.Common.{◌≡◌, suc, ◌+◌, List, [], ◌∷◌, ◌++◌, get_or, take, sym, ap, ◌∙◌, subst, add-one, append_assoc, arith}
+use Rattle.std.proofs.Common.{◌≡◌, ◌+◌, List, [], ◌∷◌, ◌++◌, get_or, take, sym, ap, ◌∙◌, subst, add-one, append_assoc, arith}
 use Rattle.std.proofs.lemmas.List.{take_all}
 use Rattle.ep_defs.specs.declared.item.Item.{Item}
 use Rattle.nt_names.specs.declared.take.EventAt.{EventAt}

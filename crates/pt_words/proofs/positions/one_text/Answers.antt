@@ -5,7 +5,8 @@ use Rattle.clap.specs.Simple.{app_of}
 use Rattle.clap.specs.Faults.{is_simple_and_free}
 use Rattle.pt_words.specs.Words.{has_option}
 use Rattle.pt_words.specs.Matches.{IsRead}
-use Rattle.pt_words.proofs.Read.{one-some, one-no, one-option, has-option_map}
+use Rattle.pt_words.proofs.PositionWords.{one-some, one-no, one-option}
+use Rattle.pt_words.proofs.Read.{has-option_map}
 use Rattle.pt_words.proofs.positions.one_text.Goals as goal
 
 pub returns-then-has_option : goal.returns-then-has_option

@@ -6,7 +6,8 @@ use Rattle.clap.specs.Simple.{app_of}
 use Rattle.clap.specs.Faults.{is_simple_and_free}
 use Rattle.pt_words.specs.Words.{has_option, pair_of}
 use Rattle.pt_words.specs.Matches.{IsRead}
-use Rattle.pt_words.proofs.Read.{two-some, two-no, two-option, has-option_map}
+use Rattle.pt_words.proofs.PositionWords.{two-some, two-no, two-option}
+use Rattle.pt_words.proofs.Read.{has-option_map}
 use Rattle.pt_words.proofs.positions.two_texts.Goals as goal
 
 zip-texts : (a b : Option (Bor (List ℕ))) → option_map pair_of (option_zip a b) ≡ option_zip (option_map (λ t. t.now) a) (option_map (λ t. t.now) b)
