@@ -1,3 +1,4 @@
 pub mod Counting
 pub mod Ids
+pub mod Scattered
 pub mod Took

@@ -1,18 +1,18 @@
 //! Values under ids.
-ghost use Rattle.std.specs.Prelude.{◌≡◌, ℕ, ◌-◌, ◌<◌, ◌≤◌, ◌==◌, IsTrue, false, Some, None, IsSome, is_some, OnOk, OnErr, MatchOption, length, if◌then◌else◌};
-ghost use Rattle.std.specs.BTreeMap.{get};
-ghost use Rattle.std.specs.Ordering.{nat_cmp};
+ghost use Rattle.std.specs.Prelude.{◌≡◌, ℕ, ◌-◌, ◌<◌, ◌≤◌, ◌==◌, IsTrue, false, Some, None, IsSome, is_some, IfSome, IfOk, OnOk, OnErr, MatchOption, length, if◌then◌else◌};
 ghost use Rattle.nt_check.specs.state.Ids.{in_row, value_at};
+ghost use Rattle.nt_check.specs.state.Scattered.{under, IsAt};
 
+use crate::scattered::Scattered;
 use std::alloc::{AllocError, Global};
-use std::collections::BTreeMap;
+use std::mem;
 
 // How far beyond twice the number of ids that stand in the row an id may lie to get its place there.
 const FAR: u64 = 16;
 
-/// Values under ids. Ids that lie close together stand in a row, where a value is found by its place; others stand in
-/// an ordered map. So the row is never longer than some places for each value, and whoever chooses the ids gets no more
-/// than a look-up in order for each.
+/// Values under ids. Ids that lie close together stand in a row, where a value is found by its place; the others are
+/// found by a guess that holds for most, or else in an ordered map. So the row is never longer than some places for each
+/// value, and whoever chooses the ids gets no more than a look-up in order for each.
 #[derive(Drop)]
 pub struct ById<V> {
     // The id of the first place.
@@ -20,7 +20,7 @@ pub struct ById<V> {
     row: Vec<Option<V>>,
     // How many values were put into the row.
     count: u64,
-    others: BTreeMap<u64, V>,
+    others: Scattered<V>,
 }
 
 impl<V: Drop> ById<V> {
@@ -32,7 +32,7 @@ impl<V: Drop> ById<V> {
             first: 0,
             row: Vec::new(alloc),
             count: 0,
-            others: BTreeMap::new(alloc),
+            others: Scattered::new(alloc),
         }
     }
 
@@ -49,7 +49,7 @@ impl<V: Drop> ById<V> {
                 }
             }
         }
-        self.others.get(&id)
+        self.others.get(id)
     }
 
     /// Puts a value under an id, in the place of the one that stands there, if one does. Out of memory, all stays as it
@@ -120,15 +120,72 @@ impl<V: Drop> ById<V> {
         self.row[place] = Some(value);
     }
 
+    /// The place of an id among the others, where it is found at once.
+    #[inline(always)]
+    pub fn other_at_once(&self, id: u64) -> Option<usize>
+        ensures { IfSome result (λ place. IsAt id place self.now.others) }
+    {
+        self.others.place_at_once(id)
+    }
+
+    /// The place of an id among the others, which is found at once from here on.
+    pub fn find_other(&mut self, id: u64) -> Option<usize>
+        ensures same { self.new ≡ self.old }
+        ensures place { MatchOption result (under id self.old.others ≡ None) (λ place. IsAt id place self.old.others) }
+    {
+        self.others.find(id)
+    }
+
+    /// The value at a place among the others.
+    #[inline(always)]
+    pub fn other(&self, place: usize) -> &V
+        requires { place < length self.now.others }
+        ensures { (id : ℕ) → IsAt id place self.now.others → under id self.now.others ≡ Some result.now }
+    {
+        self.others.at(place)
+    }
+
+    /// Puts a value at a place among the others, and answers the one that stood there.
+    #[inline(always)]
+    pub fn replace_other(&mut self, place: usize, value: V) -> V
+        requires { place < length self.old.others }
+        ensures put { (id : ℕ) → IsAt id place self.old.others
+            → in_row self.old.first self.old.row.items id ≡ None → (other : ℕ)
+            → value_at self.new other ≡ (if id == other then Some value else value_at self.old other) }
+        ensures before { (id : ℕ) → IsAt id place self.old.others → under id self.old.others ≡ Some result }
+    {
+        self.others.replace(place, value)
+    }
+
+    /// Puts a value under an id, and answers the one that stood there. Out of memory, all stays as it was.
+    pub fn replace(&mut self, id: u64, value: V) -> Result<Option<V>, AllocError>
+        ensures ok { OnOk result ((other : ℕ) → value_at self.new other
+            ≡ (if id == other then Some value else value_at self.old other)) }
+        ensures before { IfOk result (λ before. before ≡ value_at self.old id) }
+        ensures err { OnErr result ((other : ℕ) → value_at self.new other ≡ value_at self.old other) }
+    {
+        if self.is_in_row(id) {
+            let place = (id - self.first) as usize;
+            return Ok(mem::replace(&mut self.row[place], Some(value)));
+        }
+        if let Some(place) = self.find_other(id) {
+            return Ok(Some(self.replace_other(place, value)));
+        }
+        self.insert(id, value)?;
+        Ok(None)
+    }
+
     fn set_other(&mut self, id: u64, value: V)
-        requires { IsSome (get nat_cmp self.old.others id) }
-        ensures others { (other : ℕ) → get nat_cmp self.new.others other
-            ≡ (if id == other then Some value else get nat_cmp self.old.others other) }
+        requires { IsSome (under id self.old.others) }
+        ensures others { (other : ℕ) → under other self.new.others
+            ≡ (if id == other then Some value else under other self.old.others) }
         ensures first { self.new.first ≡ self.old.first }
         ensures row { self.new.row ≡ self.old.row }
     {
-        match self.others.get_mut(&id) {
-            Some(held) => *held = value,
+        match self.others.find(id) {
+            Some(place) => {
+                let _ = self.others.replace(place, value);
+            }
             None => unreachable!(),
         }
     }

@@ -97,6 +97,13 @@ impl Threads {
                     .set_in_row(thread, Some(one_more(before, number)));
                 return Ok(false);
             }
+        } else if let Some(place) = self.numbers.other_at_once(thread) {
+            if let Some(before) = *self.numbers.other(place) {
+                let _ = self
+                    .numbers
+                    .replace_other(place, Some(one_more(before, number)));
+                return Ok(false);
+            }
         }
         self.count_elsewhere(thread, number)
     }
@@ -109,15 +116,22 @@ impl Threads {
         ensures first { IfOk result (λ first. first ≡ not (is_some (numbers_in self.old thread))) }
         ensures err { OnErr result ((other : ℕ) → numbers_in self.new other ≡ numbers_in self.old other) }
     {
-        let Some(numbers) = self.numbers.get(thread) else {
-            let numbers = after_event(None, number);
-            self.numbers.insert(thread, Some(numbers))?;
-            return Ok(true);
-        };
-        let before = *numbers;
-        let numbers = after_event(before, number);
-        self.numbers.set(thread, Some(numbers));
-        Ok(before.is_none())
+        if self.numbers.is_in_row(thread) {
+            let before = *self.numbers.in_row(thread);
+            self.numbers
+                .set_in_row(thread, Some(after_event(before, number)));
+            return Ok(before.is_none());
+        }
+        if let Some(place) = self.numbers.find_other(thread) {
+            let before = *self.numbers.other(place);
+            let _ = self
+                .numbers
+                .replace_other(place, Some(after_event(before, number)));
+            return Ok(before.is_none());
+        }
+        self.numbers
+            .insert(thread, Some(after_event(None, number)))?;
+        Ok(true)
     }
 
     /// Counts what an item says of its threads, for which there is room. It takes no memory.

@@ -40,13 +40,6 @@ tells-items told events = record {
   all = sym (append-nil told.items.items);
 }
 
-pub tells-events : (told : Told) (named : List Item) → told.items.items ≡ [] → AreEvents told.events.items named → Tells told named
-tells-events told named items are = record {
-  named = named;
-  are = are;
-  all = sym (ap (λ (l : List Item). l ++ named) items);
-}
-
 -- Whatever is told, some items are.
 some-events : (events : List EventAt) → (items : List Item) × AreEvents events items
 some-events [] = ([], tt)
@@ -150,9 +143,6 @@ turns-few stage.Close = omega arith
 turns-few stage.Ended = omega arith
 
 -- ---- part of a piece
-
-pub comes-start : (reader : NamesReader) (held : List Item) (bytes : List ℕ) → Tells reader.pending held → Comes reader held bytes 0 reader
-comes-start reader held bytes tells = record { items = held; tells = tells; goes = λ told more. refl }
 
 left-same : (here : Stage) (items : List Item) → here ≢ stage.Close → left here items ≡ items
 left-same stage.Head items apart = refl

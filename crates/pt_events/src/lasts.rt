@@ -1,6 +1,7 @@
 //! How far each thread has come.
-ghost use Rattle.std.specs.Prelude.{◌≡◌, ◌+◌, ℕ, List, [], ◌∷◌, ◌++◌, IfOk, OnOk};
+ghost use Rattle.std.specs.Prelude.{◌≡◌, ◌+◌, ◌==◌, ℕ, List, [], ◌∷◌, ◌++◌, Some, IfOk, OnOk, if◌then◌else◌};
 ghost use Rattle.ep_defs.specs.Gaps.{Sighting, Seen, Known, distance};
+ghost use Rattle.nt_check.specs.state.Ids.{value_at};
 ghost use Rattle.pt_events.specs.Lines.{last_of, left_out};
 ghost use Rattle.pt_events.specs.state.Known.{HasSeen};
 
@@ -30,8 +31,7 @@ impl Lasts {
         ensures seen { (past : List (ℕ × Sighting)) → HasSeen past self.old
             → OnOk result (HasSeen (past ++ (thread, Seen number) ∷ []) self.new) }
     {
-        let last = self.last(thread);
-        self.numbers.insert(thread, number)?;
+        let last = self.put(thread, number)?;
         Ok(left_out_before(last, number))
     }
 
@@ -42,17 +42,20 @@ impl Lasts {
         ensures seen { (past : List (ℕ × Sighting)) → HasSeen past self.old
             → OnOk result (HasSeen (past ++ (thread, Known number) ∷ []) self.new) }
     {
-        let last = self.last(thread);
-        self.numbers.insert(thread, number)?;
+        let last = self.put(thread, number)?;
         Ok(left_out_up_to(last, number))
     }
 
-    fn last(&self, thread: u64) -> u32
-        ensures { (past : List (ℕ × Sighting)) → HasSeen past self.now → result ≡ last_of thread past }
+    // Puts the last number of a thread, and answers the one that was told before, or 0.
+    fn put(&mut self, thread: u64, number: u32) -> Result<u32, AllocError>
+        ensures last { (past : List (ℕ × Sighting)) → HasSeen past self.old
+            → IfOk result (λ last. last ≡ last_of thread past) }
+        ensures put { OnOk result ((other : ℕ) → value_at self.new.numbers other
+            ≡ (if thread == other then Some number else value_at self.old.numbers other)) }
     {
-        match self.numbers.get(thread) {
-            Some(number) => *number,
-            None => 0,
+        match self.numbers.replace(thread, number)? {
+            Some(last) => Ok(last),
+            None => Ok(0),
         }
     }
 }
