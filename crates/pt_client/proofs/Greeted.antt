@@ -1,11 +1,8 @@
 -- What is answered to a program that calls.
-use Rattle.std.proofs.Common.{◌≡◌, ℕ, List, take, drop, refl, sym, ap₂, subst, ◌∙◌, inl, inr}
+use Rattle.std.proofs.Common.{◌≡◌, ℕ, refl, sym, subst, ◌∙◌, inl, inr}
 use Rattle.std.specs.Prelude.{◌≢◌}
 use Rattle.ipc_call.specs.declared.fault.CallFault.{CallFault}
 use Rattle.ipc_call.specs.declared.fault.CallFault.TheVariants as faults
-use Rattle.ipc_reverse.specs.declared.limits.TheConstants.{ADVERT_BYTES}
-use Rattle.ipc_reverse.specs.declared.message.TakenAdvert.{TakenAdvert}
-use Rattle.ipc_reverse.specs.Advert.{advert_in}
 use Rattle.pt_io.specs.declared.sink.Sink.{Ghosts as Sink}
 use Rattle.pt_io.specs.Taken.{TookPart}
 use Rattle.pt_command.specs.declared.end.End.{End}
@@ -13,11 +10,7 @@ use Rattle.pt_command.specs.declared.end.End.TheVariants as ends
 use Rattle.pt_command.specs.Says.{SaysLine}
 use Rattle.pt_client.specs.Lines.{peer_error, reply_error}
 use Rattle.pt_client.specs.Answers.{Answer, to_bad_reply, to_peer_error}
-use Rattle.pt_client.specs.Greeting.{IsAnsweredBy, answer_behind, greeted}
-
--- By the message and by what stands behind it.
-pub by_message : (bytes rest : List ℕ) (taken : TakenAdvert) → taken ≡ advert_in (take ADVERT_BYTES bytes) → rest ≡ drop ADVERT_BYTES bytes → answer_behind taken rest ≡ greeted bytes
-by_message bytes rest taken message behind = ap₂ answer_behind message behind
+use Rattle.pt_client.specs.Greeting.{IsAnsweredBy}
 
 -- The answer was said.
 said-by : {O : Type 0} (sink : Sink O) (old new : O) (answer : Answer) (end : End) → SaysLine sink old new answer.text answer.end end → IsAnsweredBy sink old new answer end

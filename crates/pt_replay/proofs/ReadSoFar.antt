@@ -21,11 +21,6 @@ pub so_far-good : (bytes : List ℕ) (schedule : Schedule) (part : List ℕ) (re
 so_far-good bytes schedule part None none so_far = so_far
 so_far-good bytes schedule part (Some refusal) none so_far = cc
 
--- And back.
-pub good-so_far : (bytes : List ℕ) (schedule : Schedule) (part : List ℕ) (refusal : Option Refusal) → refusal ≡ None → AreGoodSoFar bytes schedule part → IsSoFar bytes schedule part refusal
-good-so_far bytes schedule part None none good = good
-good-so_far bytes schedule part (Some refusal) none good = cc
-
 -- Where no line is refused the bytes are a schedule.
 pub good-judged : (bytes : List ℕ) (schedule : Schedule) (refusal : Option Refusal) → refusal ≡ None → (lines : List Line) → IsSchedule bytes lines → HasTaken lines schedule → IsJudgedAs bytes schedule refusal
 good-judged bytes schedule None none lines is stands = (lines, is, stands)
