@@ -5,6 +5,7 @@ use Rattle.std.proofs.lemmas.Grind.{common_steps}
 use Rattle.std.proofs.lemmas.List.{drop_all, length-take-le, drop-drop}
 use Rattle.pt_num.specs.Fields.{Field, Fault, fixed_at, text_c_at}
 use Rattle.pt_num.specs.Steps.{◌>>=◌}
+use Rattle.pt_num.proofs.Joined.{rest_is}
 use Rattle.ep_defs.specs.Text.{units_in}
 use Rattle.ep_defs.specs.declared.session.Rule.{Rule}
 use Rattle.ipc_body.specs.declared.request.RequestFault.{RequestFault}
@@ -44,6 +45,21 @@ pub record HasParts (bytes from_level from_name from_filter name : List ℕ) (ke
   pub keywords_read : fixed_at w64 bytes ≡ Ok (keywords, drop 8 bytes)
   pub level_read : fixed_at w32 from_level ≡ Ok (level, drop 4 from_level)
   pub name_read : name_at from_name ≡ Ok (name, drop used from_name)
+
+-- The parts of a provider as they are read, each from the bytes that are left.
+pub parts-there : (bytes name : List ℕ) (keywords level used : ℕ) → fixed_at w64 bytes ≡ Ok (keywords, drop 8 bytes) →
+    fixed_at w32 (take (length bytes - 8) (drop 8 bytes)) ≡ Ok (level, drop 4 (take (length bytes - 8) (drop 8 bytes))) →
+    name_at (take (length bytes - 12) (drop 12 bytes)) ≡ Ok (name, drop used (take (length bytes - 12) (drop 12 bytes))) →
+    HasParts bytes (take (length bytes - 8) (drop 8 bytes)) (take (length bytes - 12) (drop 12 bytes)) (take (length bytes - (12 + used)) (drop (12 + used) bytes)) name keywords level used
+parts-there bytes name keywords level used keywords_read level_read name_read =
+    record {
+      level_there = rest_is 8 bytes;
+      name_there = rest_is 12 bytes;
+      filter_there = rest_is (12 + used) bytes;
+      keywords_read = keywords_read;
+      level_read = level_read;
+      name_read = name_read;
+    }
 
 -- A provider of which all parts are there.
 pub provider-is : (bytes from_level from_name from_filter name filter : List ℕ) (keywords level used more : ℕ) →

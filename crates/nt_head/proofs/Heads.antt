@@ -234,50 +234,25 @@ total-len (most ∷ mosts) (piece ∷ pieces) h = omega (arith, length-append pi
 sequence-len : (s : Sequence) → length (sequence_bytes s) ≤ 20
 sequence-len s = total-len (5 ∷ 10 ∷ 5 ∷ []) (short_var w32 s.increment ∷ short_var w64 s.capture ∷ short_var w32 s.processor ∷ []) (short_len 5 s.increment, (short_len 10 s.capture, (short_len 5 s.processor, tt)))
 
+-- The nine pieces of a header, each within its length.
+nine-len : (p0 p1 p2 p3 p4 p5 p6 p7 p8 : List ℕ) → length p0 ≤ 1 → length p1 ≤ 5 → length p2 ≤ 20 → length p3 ≤ 10 → length p4 ≤ 5 → length p5 ≤ 10 → length p6 ≤ 16 → length p7 ≤ 16 → length p8 ≤ 5 → length (concat (p0 ∷ p1 ∷ p2 ∷ p3 ∷ p4 ∷ p5 ∷ p6 ∷ p7 ∷ p8 ∷ [])) ≤ 88
+nine-len p0 p1 p2 p3 p4 p5 p6 p7 p8 h0 h1 h2 h3 h4 h5 h6 h7 h8 =
+    total-len (1 ∷ 5 ∷ 20 ∷ 10 ∷ 5 ∷ 10 ∷ 16 ∷ 16 ∷ 5 ∷ []) (p0 ∷ p1 ∷ p2 ∷ p3 ∷ p4 ∷ p5 ∷ p6 ∷ p7 ∷ p8 ∷ []) (h0, (h1, (h2, (h3, (h4, (h5, (h6, (h7, (h8, tt)))))))))
+
 -- A header has at most 88 bytes.
 pub head-len : (before now : HeadState) → IsState now → length (head_bytes before now) ≤ 88
 head-len before now h =
     let fields : HeadFields = fewest_fields before now in
     let sequence : Sequence = sequence_of before now in
-    total-len
-    (1 ∷ 5 ∷ 20 ∷ 10 ∷ 5 ∷ 10 ∷ 16 ∷ 16 ∷ 5 ∷ [])
-    ((flag_byte fields ∷ [])
-    ∷ if_there (short_var w32) fields.metadata
-    ∷ if_there sequence_bytes fields.sequence
-    ∷ if_there (short_var w64) fields.thread
-    ∷ if_there (short_var w32) fields.stack
-    ∷ short_var w64 fields.stamp_increment
-    ∷ if_there (λ id. id) fields.activity
-    ∷ if_there (λ id. id) fields.related
-    ∷ if_there (short_var w32) fields.size
-    ∷ []) (
-      omega arith,
-      (
-        there-len (short_var w32) (not (eqb before.metadata now.metadata)) now.metadata 5 (short_len 5 now.metadata),
-        (
-          there-len sequence_bytes (has_sequence before now) sequence 20 (sequence-len sequence),
-          (
-            there-len (short_var w64) (not (eqb before.thread now.thread)) now.thread 10 (short_len 10 now.thread),
-            (
-              there-len (short_var w32) (not (eqb before.stack now.stack)) now.stack 5 (short_len 5 now.stack),
-              (
-                short_len 10 fields.stamp_increment,
-                (
-                  there-len (λ id. id) (not (pointwise nat_eq before.activity now.activity)) now.activity 16 (omega (arith, h.activity)),
-                  (
-                    there-len (λ id. id) (not (pointwise nat_eq before.related now.related)) now.related 16 (omega (arith, h.related)),
-                    (
-                      there-len (short_var w32) (not (eqb before.size now.size)) now.size 5 (short_len 5 now.size),
-                      tt,
-                    ),
-                  ),
-                ),
-              ),
-            ),
-          ),
-        ),
-      ),
-    )
+    nine-len (flag_byte fields ∷ []) _ _ _ _ _ _ _ _ (omega arith)
+    (there-len (short_var w32) (not (eqb before.metadata now.metadata)) now.metadata 5 (short_len 5 now.metadata))
+    (there-len sequence_bytes (has_sequence before now) sequence 20 (sequence-len sequence))
+    (there-len (short_var w64) (not (eqb before.thread now.thread)) now.thread 10 (short_len 10 now.thread))
+    (there-len (short_var w32) (not (eqb before.stack now.stack)) now.stack 5 (short_len 5 now.stack))
+    (short_len 10 fields.stamp_increment)
+    (there-len (λ id. id) (not (pointwise nat_eq before.activity now.activity)) now.activity 16 (omega (arith, h.activity)))
+    (there-len (λ id. id) (not (pointwise nat_eq before.related now.related)) now.related 16 (omega (arith, h.related)))
+    (there-len (short_var w32) (not (eqb before.size now.size)) now.size 5 (short_len 5 now.size))
 
 -- What is written is a header, where both states fit their types.
 pub written-is : (before now : HeadState) → IsState before → IsState now → (now.metadata ≡ 0 → KeepsSequence before now) → IsHead before now (head_bytes before now)

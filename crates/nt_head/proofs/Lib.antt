@@ -1,4 +1,5 @@
 pub mod Fronts
 pub mod Heads
 pub mod PutHeads
+pub mod ReadTo
 pub mod Steps

@@ -6,7 +6,7 @@ use Rattle.std.specs.List.{concat}
 use Rattle.std.specs.Prelude.{not, ◌||◌}
 use Rattle.std.specs.Int.{w32, w64}
 use Rattle.std.specs.Cmp.Lexicographic.{pointwise, bytes_decides}
-use Rattle.std.proofs.lemmas.Bool.{and_parts, eqb-true, not_from_true, not-true, true≢false}
+use Rattle.std.proofs.lemmas.Bool.{and_parts, eqb-true, not_from_true, not-false, not-true, true≢false}
 use Rattle.pt_num.specs.Numbers.{short_var}
 use Rattle.nt_head.specs.declared.head.HeadState.{HeadState}
 use Rattle.nt_head.specs.Head.{HeadFields, flag_byte}
@@ -40,28 +40,50 @@ one_flag : (a b c d e f h g : Bool) → a ≡ false → b ≡ false → c ≡ fa
 one_flag a b c d e f h true ea eb ec ed ee ef eh = rw (ea, eb, ec, ed, ee, ef, eh) refl
 one_flag a b c d e f h false ea eb ec ed ee ef eh = rw (ea, eb, ec, ed, ee, ef, eh) refl
 
--- Where no field is new the header is the flag byte and the stamp's increment.
-pub nothing_new : (before now : HeadState) → keeps_fields before now ≡ true → head_bytes before now ≡ worth_of 64 now.sorted ∷ short_var w64 ((now.stamp + 2 ^ 64 - before.stamp) % 2 ^ 64)
-nothing_new before now keeps =
-    let fields : HeadFields = fewest_fields before now in
+-- Where no field is new, each is as before.
+record KeptParts (before now : HeadState) : Type 0 where
+  pub metadata : eqb before.metadata now.metadata ≡ true
+  pub sequence : has_sequence before now ≡ false
+  pub thread : eqb before.thread now.thread ≡ true
+  pub stack : eqb before.stack now.stack ≡ true
+  pub activity : pointwise nat_eq before.activity now.activity ≡ true
+  pub related : pointwise nat_eq before.related now.related ≡ true
+  pub size : eqb before.size now.size ≡ true
+
+kept_parts : (before now : HeadState) → keeps_fields before now ≡ true → KeptParts before now
+kept_parts before now keeps =
     let sizes = and_parts _ (eqb before.size now.size) keeps in
     let relateds = and_parts _ (pointwise nat_eq before.related now.related) sizes.0 in
     let activities = and_parts _ (pointwise nat_eq before.activity now.activity) relateds.0 in
     let stacks = and_parts _ (eqb before.stack now.stack) activities.0 in
     let threads = and_parts _ (eqb before.thread now.thread) stacks.0 in
-    let parts = and_parts (eqb before.metadata now.metadata) (not (has_sequence before now)) threads.0 in
-    let metadata = not_from_true (eqb before.metadata now.metadata) parts.0 in
-    let sequence = not-true (has_sequence before now) parts.1 in
-    let thread = not_from_true (eqb before.thread now.thread) threads.1 in
-    let stack = not_from_true (eqb before.stack now.stack) stacks.1 in
-    let activity = not_from_true (pointwise nat_eq before.activity now.activity) activities.1 in
-    let related = not_from_true (pointwise nat_eq before.related now.related) relateds.1 in
-    let size = not_from_true (eqb before.size now.size) sizes.1 in
+    let firsts = and_parts (eqb before.metadata now.metadata) (not (has_sequence before now)) threads.0 in
+    record {
+      metadata = firsts.0;
+      sequence = not-true (has_sequence before now) firsts.1;
+      thread = threads.1;
+      stack = stacks.1;
+      activity = activities.1;
+      related = relateds.1;
+      size = sizes.1;
+    }
+
+-- Where no field is new the header is the flag byte and the stamp's increment.
+pub nothing_new : (before now : HeadState) → keeps_fields before now ≡ true → head_bytes before now ≡ worth_of 64 now.sorted ∷ short_var w64 ((now.stamp + 2 ^ 64 - before.stamp) % 2 ^ 64)
+nothing_new before now keeps =
+    let fields : HeadFields = fewest_fields before now in
+    let parts = kept_parts before now keeps in
+    let metadata = not_from_true (eqb before.metadata now.metadata) parts.metadata in
+    let thread = not_from_true (eqb before.thread now.thread) parts.thread in
+    let stack = not_from_true (eqb before.stack now.stack) parts.stack in
+    let activity = not_from_true (pointwise nat_eq before.activity now.activity) parts.activity in
+    let related = not_from_true (pointwise nat_eq before.related now.related) parts.related in
+    let size = not_from_true (eqb before.size now.size) parts.size in
     let byte : flag_byte fields ≡ worth_of 64 now.sorted =
     one_flag _ _ _ _ _ _ _ now.sorted
-    (is_some-then_some _ now.metadata ∙ metadata) (is_some-then_some _ (sequence_of before now) ∙ sequence) (is_some-then_some _ now.thread ∙ thread) (is_some-then_some _ now.stack ∙ stack) (is_some-then_some _ now.activity ∙ activity) (is_some-then_some _ now.related ∙ related) (is_some-then_some _ now.size ∙ size) in
+    (is_some-then_some _ now.metadata ∙ metadata) (is_some-then_some _ (sequence_of before now) ∙ parts.sequence) (is_some-then_some _ now.thread ∙ thread) (is_some-then_some _ now.stack ∙ stack) (is_some-then_some _ now.activity ∙ activity) (is_some-then_some _ now.related ∙ related) (is_some-then_some _ now.size ∙ size) in
     two_left (flag_byte fields ∷ []) (if_there (short_var w32) fields.metadata) (if_there sequence_bytes fields.sequence) (if_there (short_var w64) fields.thread) (if_there (short_var w32) fields.stack) (short_var w64 fields.stamp_increment) (if_there (λ id. id) fields.activity) (if_there (λ id. id) fields.related) (if_there (short_var w32) fields.size)
-    (none_there (short_var w32) _ now.metadata metadata) (none_there sequence_bytes _ (sequence_of before now) sequence) (none_there (short_var w64) _ now.thread thread) (none_there (short_var w32) _ now.stack stack) (none_there (λ id. id) _ now.activity activity) (none_there (λ id. id) _ now.related related) (none_there (short_var w32) _ now.size size)
+    (none_there (short_var w32) _ now.metadata metadata) (none_there sequence_bytes _ (sequence_of before now) parts.sequence) (none_there (short_var w64) _ now.thread thread) (none_there (short_var w32) _ now.stack stack) (none_there (λ id. id) _ now.activity activity) (none_there (λ id. id) _ now.related related) (none_there (short_var w32) _ now.size size)
     ∙ ap (λ (b : ℕ). b ∷ short_var w64 fields.stamp_increment) byte
 
 -- ---- where no field is new
@@ -71,11 +93,6 @@ or-none : (a b : Bool) → (a || b) ≡ false → (a ≡ false) × (b ≡ false)
 or-none true b e = absurd (true≢false e)
 or-none false b e = (refl, e)
 
--- A test holds where it is not so that it fails.
-not-none : (b : Bool) → not b ≡ false → b ≡ true
-not-none true e = refl
-not-none false e = absurd (true≢false e)
-
 -- States that differ at most in the number, the stamp and the sorting.
 same_but : (before now : HeadState) → before.metadata ≡ now.metadata → before.capture ≡ now.capture → before.processor ≡ now.processor → before.thread ≡ now.thread → before.stack ≡ now.stack → before.activity ≡ now.activity → before.related ≡ now.related → before.size ≡ now.size → record before { number = now.number; stamp = now.stamp; sorted = now.sorted } ≡ now
 same_but before now metadata capture processor thread stack activity related size =
@@ -84,21 +101,15 @@ same_but before now metadata capture processor thread stack activity related siz
 -- Where no field is new, the state is the one before with the new number, stamp and sorting.
 pub nothing_else : (before now : HeadState) → keeps_fields before now ≡ true → record before { number = now.number; stamp = now.stamp; sorted = now.sorted } ≡ now
 nothing_else before now keeps =
-    let sizes = and_parts _ (eqb before.size now.size) keeps in
-    let relateds = and_parts _ (pointwise nat_eq before.related now.related) sizes.0 in
-    let activities = and_parts _ (pointwise nat_eq before.activity now.activity) relateds.0 in
-    let stacks = and_parts _ (eqb before.stack now.stack) activities.0 in
-    let threads = and_parts _ (eqb before.thread now.thread) stacks.0 in
-    let parts = and_parts (eqb before.metadata now.metadata) (not (has_sequence before now)) threads.0 in
-    let sequence = not-true (has_sequence before now) parts.1 in
-    let processors = or-none _ (not (eqb now.processor before.processor)) sequence in
+    let parts = kept_parts before now keeps in
+    let processors = or-none _ (not (eqb now.processor before.processor)) parts.sequence in
     let captures = or-none _ (not (eqb now.capture before.capture)) processors.0 in
     same_but before now
-    (eqb-true before.metadata now.metadata parts.0)
-    (sym (eqb-true now.capture before.capture (not-none _ captures.1)))
-    (sym (eqb-true now.processor before.processor (not-none _ processors.1)))
-    (eqb-true before.thread now.thread threads.1)
-    (eqb-true before.stack now.stack stacks.1)
-    ((bytes_decides before.activity now.activity).0 activities.1)
-    ((bytes_decides before.related now.related).0 relateds.1)
-    (eqb-true before.size now.size sizes.1)
+    (eqb-true before.metadata now.metadata parts.metadata)
+    (sym (eqb-true now.capture before.capture (not-false _ captures.1)))
+    (sym (eqb-true now.processor before.processor (not-false _ processors.1)))
+    (eqb-true before.thread now.thread parts.thread)
+    (eqb-true before.stack now.stack parts.stack)
+    ((bytes_decides before.activity now.activity).0 parts.activity)
+    ((bytes_decides before.related now.related).0 parts.related)
+    (eqb-true before.size now.size parts.size)

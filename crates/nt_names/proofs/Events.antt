@@ -1,15 +1,14 @@
 -- Events one after another.
-use Rattle.std.proofs.Common.{◌≡◌, ℕ, ◌+◌, ◌-◌, ◌<◌, ◌≤◌, false, true, Ok, Err, List, [], ◌∷◌, ◌++◌, length, take, drop, refl, sym, ap, ◌∙◌, subst, append_assoc, eqb, arith}
+use Rattle.std.proofs.Common.{◌≡◌, ℕ, ◌+◌, ◌-◌, ◌<◌, ◌≤◌, Ok, List, [], ◌∷◌, ◌++◌, length, take, drop, refl, sym, ap, ◌∙◌, subst, append_assoc, arith}
 use Rattle.std.proofs.lemmas.List.{append-nil}
+use Rattle.pt_num.proofs.Joined.{rest_is}
 use Rattle.ep_defs.specs.declared.item.Item.{Item}
-use Rattle.ep_defs.specs.declared.item.ItemKind.{ItemKind}
 use Rattle.nt_object.specs.declared.object.BlockKind.TheVariants as block
 use Rattle.nt_head.specs.declared.head.HeadState.{HeadState}
 use Rattle.nt_head.specs.Head.{zero_state}
 use Rattle.nt_blocks.specs.declared.take.BodyFault.{BodyFault}
 use Rattle.nt_blocks.specs.Refusals.{blob_at, blob_body_at, header_at}
 use Rattle.nt_blocks.specs.Taking.{IsFault}
-use Rattle.nt_blocks.specs.state.Taken.{ReadsHead}
 use Rattle.nt_blocks.proofs.TakeBlobs.{Going, blob_found, going_end, going_start, going_step, going_stop}
 use Rattle.nt_check.specs.Events.{EventRest}
 use Rattle.nt_names.specs.declared.head.Head.{Head}
@@ -78,11 +77,17 @@ pub record Within (rest : List ℕ) (now : Head) (used : ℕ) : Type 0 where
   pub some : 0 < used
   pub most : used + now.size ≤ length rest
 
-pub skims_within : (at here used : ℕ) (body : List ℕ) (old events : List EventAt) (previous now : Head) (rest : List ℕ) → Skimmed at body old here previous rest events → SkimsBlob previous rest now used → Within rest now used
+skims_within : (at here used : ℕ) (body : List ℕ) (old events : List EventAt) (previous now : Head) (rest : List ℕ) → Skimmed at body old here previous rest events → SkimsBlob previous rest now used → Within rest now used
 skims_within at here used body old events previous now rest skimmed skims =
     let one = skims skimmed.before skimmed.same in
     let size : one.state.size ≡ now.size = ap (λ (h : Head). h.size) one.kept in
     record { some = one.reads.some; most = omega (arith, one.reads.within, size) }
+
+-- The same of the bytes from a place on.
+pub skims_here : (at here used : ℕ) (body : List ℕ) (old events : List EventAt) (previous now : Head) → Skimmed at body old here previous (drop here body) events → SkimsBlob previous (take (length body - here) (drop here body)) now used → Within (drop here body) now used
+skims_here at here used body old events previous now skimmed skims =
+    let here_on : SkimsBlob previous (drop here body) now used = rw (rest_is here body) at skims in
+    skims_within at here used body old events previous now (drop here body) skimmed here_on
 
 pub skimmed_end : (at here : ℕ) (body : List ℕ) (old events : List EventAt) (previous : Head) (rest : List ℕ) → Skimmed at body old here previous rest events → length rest ≡ 0 → AppendsEvents (blob_body_at block.Event at body) old events
 skimmed_end at here body old events previous rest skimmed none =

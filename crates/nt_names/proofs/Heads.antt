@@ -1,5 +1,5 @@
 -- What is read of a header, field by field.
-use Rattle.std.proofs.Common.{◌≡◌, ℕ, suc, ◌+◌, ◌-◌, ◌<◌, ◌≤◌, Bool, true, false, List, ◌∷◌, length, get_or, take, drop, None, Ok, Err, refl, ap, sym, ◌∙◌, subst, arith, drop-cons}
+use Rattle.std.proofs.Common.{◌≡◌, ℕ, suc, ◌+◌, ◌-◌, ◌<◌, ◌≤◌, Bool, true, false, List, ◌∷◌, length, get_or, take, drop, None, Ok, refl, ap, sym, ◌∙◌, arith, drop-cons}
 use Rattle.std.specs.Prelude.{unwrap_or}
 use Rattle.std.proofs.Math.Nat.{div-eq_of_lt}
 use Rattle.std.specs.Option.{option_map_or}
@@ -11,8 +11,8 @@ use Rattle.pt_num.proofs.Reading.{group_ends}
 use Rattle.nt_head.specs.declared.limits.TheConstants.{ID_BYTES}
 use Rattle.nt_head.specs.declared.head.HeadState.{HeadState}
 use Rattle.nt_head.specs.Head.{HeadFields, number_after, state_after}
-use Rattle.nt_head.specs.Places.{Reads, ReadsNew}
-use Rattle.nt_head.specs.Reading.{has_flag, if_set, head_at}
+use Rattle.nt_head.specs.Places.{Reads}
+use Rattle.nt_head.specs.Reading.{has_flag, if_set}
 use Rattle.nt_head.proofs.Steps.{Carries, id_read, new_read, stop_flags}
 use Rattle.nt_names.specs.declared.head.Head.{Head}
 use Rattle.nt_names.specs.state.Heads.{Cuts, CutsHead, Passes, head_of}

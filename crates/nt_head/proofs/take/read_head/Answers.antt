@@ -1,8 +1,9 @@
-use Rattle.std.proofs.Common.{◌<◌, get_or, length, sym, refl, arith}
-use Rattle.std.proofs.lemmas.Bool.{eqb-true, eqb-false}
+use Rattle.std.proofs.Common.{get_or, length, sym, refl}
+use Rattle.std.proofs.lemmas.Bool.{eqb-true}
 use Rattle.nt_head.specs.declared.flags.TheConstants.{SORTED}
 use Rattle.nt_head.specs.Reading.{has_flag}
-use Rattle.nt_head.proofs.Steps.{head_stops, stops_answer, stop_flags, flags_read, carry_metadata, carry_numbers, carry_thread, carry_stack, carry_increment, carry_activity, carry_related, carry_size, fields_made, state_read, head_read}
+use Rattle.nt_head.proofs.Steps.{head_stops, stops_answer, stop_flags, carry_metadata, carry_numbers, carry_thread, carry_stack, carry_increment, carry_activity, carry_related, carry_size, fields_made, state_read, head_read}
+use Rattle.nt_head.proofs.ReadTo.{to_flags, to_thread, to_related}
 use Rattle.nt_head.proofs.take.read_head.Goals as goal
 
 pub returns-then-is_empty-clause-stop : goal.returns-then-is_empty-clause-stop
@@ -11,93 +12,57 @@ returns-then-is_empty-clause-stop c =
 
 pub returns-in_err-metadata-clause-stop : goal.returns-in_err-metadata-clause-stop
 returns-in_err-metadata-clause-stop c =
-    let filled = eqb-false (length c.args.bytes.now) 0 (sym c.if-is_empty.ensures) in
-    let some : 0 < length c.args.bytes.now = omega (arith, filled) in
-    let flags = flags_read c.args.bytes.now some in
+    let flags = to_flags c.args.bytes.now c.if-is_empty.ensures in
     stops_answer _ _ _ c.from_residual.ensures.1 (head_stops _ c.args.previous.now c.args.bytes.now _ c.in_err-metadata.field-0.0 (carry_metadata c.args.bytes.now _ flags) (rw c.has_flag.ensures at c.in_err-metadata.ensures.stop))
 
 pub returns-in_err-numbers-clause-stop : goal.returns-in_err-numbers-clause-stop
 returns-in_err-numbers-clause-stop c =
-    let filled = eqb-false (length c.args.bytes.now) 0 (sym c.if-is_empty.ensures) in
-    let some : 0 < length c.args.bytes.now = omega (arith, filled) in
-    let flags = flags_read c.args.bytes.now some in
+    let flags = to_flags c.args.bytes.now c.if-is_empty.ensures in
     let e1 = (rw c.has_flag.ensures at c.in_ok-metadata.ensures.ok.read) in
     stops_answer _ _ _ c.from_residual-in_err-numbers.ensures.1 (head_stops _ c.args.previous.now c.args.bytes.now _ c.in_err-numbers.field-0.0 (carry_numbers c.args.bytes.now _ _ _ flags e1) (rw c.has_flag-2.ensures at c.in_err-numbers.ensures.stop))
 
 pub returns-in_err-thread-clause-stop : goal.returns-in_err-thread-clause-stop
 returns-in_err-thread-clause-stop c =
-    let filled = eqb-false (length c.args.bytes.now) 0 (sym c.if-is_empty.ensures) in
-    let some : 0 < length c.args.bytes.now = omega (arith, filled) in
-    let flags = flags_read c.args.bytes.now some in
+    let flags = to_flags c.args.bytes.now c.if-is_empty.ensures in
     let e1 = (rw c.has_flag.ensures at c.in_ok-metadata.ensures.ok.read) in
     let e2 = (rw c.has_flag-2.ensures at c.in_ok-numbers.ensures.ok.read) in
     stops_answer _ _ _ c.from_residual-in_err-thread.ensures.1 (head_stops _ c.args.previous.now c.args.bytes.now _ c.in_err-thread.field-0.0 (carry_thread c.args.bytes.now _ _ _ _ _ flags e1 e2) (rw c.has_flag-3.ensures at c.in_err-thread.ensures.stop))
 
 pub returns-in_err-stack-clause-stop : goal.returns-in_err-stack-clause-stop
 returns-in_err-stack-clause-stop c =
-    let filled = eqb-false (length c.args.bytes.now) 0 (sym c.if-is_empty.ensures) in
-    let some : 0 < length c.args.bytes.now = omega (arith, filled) in
-    let flags = flags_read c.args.bytes.now some in
-    let e1 = (rw c.has_flag.ensures at c.in_ok-metadata.ensures.ok.read) in
-    let e2 = (rw c.has_flag-2.ensures at c.in_ok-numbers.ensures.ok.read) in
-    let e3 = (rw c.has_flag-3.ensures at c.in_ok-thread.ensures.ok.read) in
-    stops_answer _ _ _ c.from_residual-in_err-stack.ensures.1 (head_stops _ c.args.previous.now c.args.bytes.now _ c.in_err-stack.field-0.0 (carry_stack c.args.bytes.now _ _ _ _ _ _ _ flags e1 e2 e3) (rw c.has_flag-4.ensures at c.in_err-stack.ensures.stop))
+    let front = to_thread _ _ c.if-is_empty.ensures c.has_flag.ensures c.in_ok-metadata.ensures.ok.read c.has_flag-2.ensures c.in_ok-numbers.ensures.ok.read c.has_flag-3.ensures c.in_ok-thread.ensures.ok.read in
+    stops_answer _ _ _ c.from_residual-in_err-stack.ensures.1 (head_stops _ c.args.previous.now c.args.bytes.now _ c.in_err-stack.field-0.0 (carry_stack c.args.bytes.now _ _ _ _ _ _ _ front.first front.metadata front.sequence front.thread) (rw c.has_flag-4.ensures at c.in_err-stack.ensures.stop))
 
 pub returns-in_err-increment-clause-stop : goal.returns-in_err-increment-clause-stop
 returns-in_err-increment-clause-stop c =
-    let filled = eqb-false (length c.args.bytes.now) 0 (sym c.if-is_empty.ensures) in
-    let some : 0 < length c.args.bytes.now = omega (arith, filled) in
-    let flags = flags_read c.args.bytes.now some in
-    let e1 = (rw c.has_flag.ensures at c.in_ok-metadata.ensures.ok.read) in
-    let e2 = (rw c.has_flag-2.ensures at c.in_ok-numbers.ensures.ok.read) in
-    let e3 = (rw c.has_flag-3.ensures at c.in_ok-thread.ensures.ok.read) in
+    let front = to_thread _ _ c.if-is_empty.ensures c.has_flag.ensures c.in_ok-metadata.ensures.ok.read c.has_flag-2.ensures c.in_ok-numbers.ensures.ok.read c.has_flag-3.ensures c.in_ok-thread.ensures.ok.read in
     let e4 = (rw c.has_flag-4.ensures at c.in_ok-stack.ensures.ok.read) in
-    stops_answer _ _ _ c.from_residual-in_err-increment.ensures.1 (head_stops _ c.args.previous.now c.args.bytes.now _ c.in_err-increment.field-0.0 (carry_increment c.args.bytes.now _ _ _ _ _ _ _ _ _ flags e1 e2 e3 e4) c.in_err-increment.ensures.stop)
+    stops_answer _ _ _ c.from_residual-in_err-increment.ensures.1 (head_stops _ c.args.previous.now c.args.bytes.now _ c.in_err-increment.field-0.0 (carry_increment c.args.bytes.now _ _ _ _ _ _ _ _ _ front.first front.metadata front.sequence front.thread e4) c.in_err-increment.ensures.stop)
 
 pub returns-in_err-activity-clause-stop : goal.returns-in_err-activity-clause-stop
 returns-in_err-activity-clause-stop c =
-    let filled = eqb-false (length c.args.bytes.now) 0 (sym c.if-is_empty.ensures) in
-    let some : 0 < length c.args.bytes.now = omega (arith, filled) in
-    let flags = flags_read c.args.bytes.now some in
-    let e1 = (rw c.has_flag.ensures at c.in_ok-metadata.ensures.ok.read) in
-    let e2 = (rw c.has_flag-2.ensures at c.in_ok-numbers.ensures.ok.read) in
-    let e3 = (rw c.has_flag-3.ensures at c.in_ok-thread.ensures.ok.read) in
+    let front = to_thread _ _ c.if-is_empty.ensures c.has_flag.ensures c.in_ok-metadata.ensures.ok.read c.has_flag-2.ensures c.in_ok-numbers.ensures.ok.read c.has_flag-3.ensures c.in_ok-thread.ensures.ok.read in
     let e4 = (rw c.has_flag-4.ensures at c.in_ok-stack.ensures.ok.read) in
     let e5 = c.in_ok-increment.ensures.ok.read in
-    stops_answer _ _ _ c.from_residual-in_err-activity.ensures.1 (head_stops _ c.args.previous.now c.args.bytes.now _ c.in_err-activity.field-0.0 (carry_activity c.args.bytes.now _ _ _ _ _ _ _ _ _ _ _ flags e1 e2 e3 e4 e5) (rw c.has_flag-5.ensures at c.in_err-activity.ensures.stop))
+    stops_answer _ _ _ c.from_residual-in_err-activity.ensures.1 (head_stops _ c.args.previous.now c.args.bytes.now _ c.in_err-activity.field-0.0 (carry_activity c.args.bytes.now _ _ _ _ _ _ _ _ _ _ _ front.first front.metadata front.sequence front.thread e4 e5) (rw c.has_flag-5.ensures at c.in_err-activity.ensures.stop))
 
 pub returns-in_err-related-clause-stop : goal.returns-in_err-related-clause-stop
 returns-in_err-related-clause-stop c =
-    let filled = eqb-false (length c.args.bytes.now) 0 (sym c.if-is_empty.ensures) in
-    let some : 0 < length c.args.bytes.now = omega (arith, filled) in
-    let flags = flags_read c.args.bytes.now some in
-    let e1 = (rw c.has_flag.ensures at c.in_ok-metadata.ensures.ok.read) in
-    let e2 = (rw c.has_flag-2.ensures at c.in_ok-numbers.ensures.ok.read) in
-    let e3 = (rw c.has_flag-3.ensures at c.in_ok-thread.ensures.ok.read) in
+    let front = to_thread _ _ c.if-is_empty.ensures c.has_flag.ensures c.in_ok-metadata.ensures.ok.read c.has_flag-2.ensures c.in_ok-numbers.ensures.ok.read c.has_flag-3.ensures c.in_ok-thread.ensures.ok.read in
     let e4 = (rw c.has_flag-4.ensures at c.in_ok-stack.ensures.ok.read) in
     let e5 = c.in_ok-increment.ensures.ok.read in
     let e6 = (rw c.has_flag-5.ensures at c.in_ok-activity.ensures.ok.read) in
-    stops_answer _ _ _ c.from_residual-in_err-related.ensures.1 (head_stops _ c.args.previous.now c.args.bytes.now _ c.in_err-related.field-0.0 (carry_related c.args.bytes.now _ _ _ _ _ _ _ _ _ _ _ _ _ flags e1 e2 e3 e4 e5 e6) (rw c.has_flag-6.ensures at c.in_err-related.ensures.stop))
+    stops_answer _ _ _ c.from_residual-in_err-related.ensures.1 (head_stops _ c.args.previous.now c.args.bytes.now _ c.in_err-related.field-0.0 (carry_related c.args.bytes.now _ _ _ _ _ _ _ _ _ _ _ _ _ front.first front.metadata front.sequence front.thread e4 e5 e6) (rw c.has_flag-6.ensures at c.in_err-related.ensures.stop))
 
 pub returns-in_err-size-clause-stop : goal.returns-in_err-size-clause-stop
 returns-in_err-size-clause-stop c =
-    let filled = eqb-false (length c.args.bytes.now) 0 (sym c.if-is_empty.ensures) in
-    let some : 0 < length c.args.bytes.now = omega (arith, filled) in
-    let flags = flags_read c.args.bytes.now some in
-    let e1 = (rw c.has_flag.ensures at c.in_ok-metadata.ensures.ok.read) in
-    let e2 = (rw c.has_flag-2.ensures at c.in_ok-numbers.ensures.ok.read) in
-    let e3 = (rw c.has_flag-3.ensures at c.in_ok-thread.ensures.ok.read) in
-    let e4 = (rw c.has_flag-4.ensures at c.in_ok-stack.ensures.ok.read) in
-    let e5 = c.in_ok-increment.ensures.ok.read in
-    let e6 = (rw c.has_flag-5.ensures at c.in_ok-activity.ensures.ok.read) in
-    let e7 = (rw c.has_flag-6.ensures at c.in_ok-related.ensures.ok.read) in
-    stops_answer _ _ _ c.from_residual-in_err-size.ensures.1 (head_stops _ c.args.previous.now c.args.bytes.now _ c.in_err-size.field-0.0 (carry_size c.args.bytes.now _ _ _ _ _ _ _ _ _ _ _ _ _ _ _ flags e1 e2 e3 e4 e5 e6 e7) (rw c.has_flag-7.ensures at c.in_err-size.ensures.stop))
+    let front = to_thread _ _ c.if-is_empty.ensures c.has_flag.ensures c.in_ok-metadata.ensures.ok.read c.has_flag-2.ensures c.in_ok-numbers.ensures.ok.read c.has_flag-3.ensures c.in_ok-thread.ensures.ok.read in
+    let back = to_related _ _ _ c.has_flag-4.ensures c.in_ok-stack.ensures.ok.read c.in_ok-increment.ensures.ok.read c.has_flag-5.ensures c.in_ok-activity.ensures.ok.read c.has_flag-6.ensures c.in_ok-related.ensures.ok.read in
+    stops_answer _ _ _ c.from_residual-in_err-size.ensures.1 (head_stops _ c.args.previous.now c.args.bytes.now _ c.in_err-size.field-0.0 (carry_size c.args.bytes.now _ _ _ _ _ _ _ _ _ _ _ _ _ _ _ front.first front.metadata front.sequence front.thread back.stack back.stamp back.activity back.related) (rw c.has_flag-7.ensures at c.in_err-size.ensures.stop))
 
 pub returns-clause-ok : goal.returns-clause-ok
 returns-clause-ok c =
-    let filled = eqb-false (length c.args.bytes.now) 0 (sym c.if-is_empty.ensures) in
-    let some : 0 < length c.args.bytes.now = omega (arith, filled) in
-    let flags = flags_read c.args.bytes.now some in
+    let flags = to_flags c.args.bytes.now c.if-is_empty.ensures in
     let e1 = (rw c.has_flag.ensures at c.in_ok-metadata.ensures.ok.read) in
     let e2 = (rw c.has_flag-2.ensures at c.in_ok-numbers.ensures.ok.read) in
     let e3 = (rw c.has_flag-3.ensures at c.in_ok-thread.ensures.ok.read) in

@@ -1,7 +1,6 @@
-use Rattle.std.proofs.Common.{◌≡◌, ◌+◌, ◌<◌, ◌≤◌, false, true, length, refl, sym, ap, ◌∙◌, arith}
+use Rattle.std.proofs.Common.{◌≡◌, true, refl, ap, arith}
 use Rattle.std.specs.Prelude.{nat_lt}
 use Rattle.std.proofs.lemmas.Bool.{le-ltb, lt-ltb}
-use Rattle.nt_head.specs.declared.head.HeadState.{HeadState}
 use Rattle.nt_blocks.proofs.Shorter.{head-some}
 use Rattle.nt_blocks.proofs.TakeBlobs.{blob_cut, blob_headless, blob_unfit}
 use Rattle.nt_names.specs.declared.head.Head.{Head}

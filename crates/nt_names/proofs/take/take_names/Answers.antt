@@ -1,13 +1,12 @@
-use Rattle.std.proofs.Common.{ℕ, ◌+◌, List, length, drop, refl, arith, length-drop}
+use Rattle.std.proofs.Common.{ℕ, ◌+◌, List, drop, refl, arith, length-drop}
 use Rattle.std.proofs.lemmas.List.{drop-drop}
 use Rattle.std.proofs.lemmas.Result.{err_from_is_err_and}
 use Rattle.pt_num.proofs.Joined.{rest_is}
-use Rattle.nt_head.specs.declared.head.HeadState.{HeadState}
 use Rattle.nt_blocks.specs.declared.take.BodyFault.TheVariants.{BadHead}
 use Rattle.nt_blocks.specs.Refusals.{header_at}
 use Rattle.nt_blocks.proofs.TakeBlobs.{fault_first}
-use Rattle.nt_names.specs.state.Heads.{SkimsBlob, head_of}
-use Rattle.nt_names.proofs.Events.{skimmed_start, skimmed_step, skimmed_end, skimmed_stop, skims_within}
+use Rattle.nt_names.specs.state.Heads.{SkimsBlob}
+use Rattle.nt_names.proofs.Events.{skimmed_start, skimmed_step, skimmed_end, skimmed_stop, skims_here}
 use Rattle.nt_names.proofs.take.take_names.Goals as goal
 
 pub returns-in_err-here-clause-fault : goal.returns-in_err-here-clause-fault
@@ -28,35 +27,17 @@ returns-in_default-clause-fault c =
 
 pub overflow_add-here : goal.overflow_add-here
 overflow_add-here c =
-    let body = c.args.body.now in
-    let here = c.loop-here.here in
-    let now = c.in-Some.field-0.head in
-    let used = c.in-Some.field-0.used in
-    let rest : List ℕ = drop here body in
-    let skims : SkimsBlob c.loop-here.before rest now used = rw (rest_is here body) at c.in-Some.ensures.some in
-    let within = skims_within c.args.at here used body c.args.events.now.items c.loop-here.events.items c.loop-here.before now rest c.loop-here.invariant skims in
-    omega (arith, within.most, length-drop here body, c.requires)
+    let within = skims_here c.args.at c.loop-here.here c.in-Some.field-0.used c.args.body.now _ _ _ c.in-Some.field-0.head c.loop-here.invariant c.in-Some.ensures.some in
+    omega (arith, within.most, length-drop c.loop-here.here c.args.body.now, c.requires)
 
 pub overflow_add-here-in-loop-here : goal.overflow_add-here-in-loop-here
 overflow_add-here-in-loop-here c =
-    let body = c.args.body.now in
-    let here = c.loop-here.here in
-    let now = c.in-Some.field-0.head in
-    let used = c.in-Some.field-0.used in
-    let rest : List ℕ = drop here body in
-    let skims : SkimsBlob c.loop-here.before rest now used = rw (rest_is here body) at c.in-Some.ensures.some in
-    let within = skims_within c.args.at here used body c.args.events.now.items c.loop-here.events.items c.loop-here.before now rest c.loop-here.invariant skims in
-    omega (arith, within.most, length-drop here body, c.requires)
+    let within = skims_here c.args.at c.loop-here.here c.in-Some.field-0.used c.args.body.now _ _ _ c.in-Some.field-0.head c.loop-here.invariant c.in-Some.ensures.some in
+    omega (arith, within.most, length-drop c.loop-here.here c.args.body.now, c.requires)
 
 pub loop-here-smaller : goal.loop-here-smaller
 loop-here-smaller c =
-    let body = c.args.body.now in
-    let here = c.loop-here.here in
-    let now = c.in-Some.field-0.head in
-    let used = c.in-Some.field-0.used in
-    let rest : List ℕ = drop here body in
-    let skims : SkimsBlob c.loop-here.before rest now used = rw (rest_is here body) at c.in-Some.ensures.some in
-    let within = skims_within c.args.at here used body c.args.events.now.items c.loop-here.events.items c.loop-here.before now rest c.loop-here.invariant skims in
+    let within = skims_here c.args.at c.loop-here.here c.in-Some.field-0.used c.args.body.now _ _ _ c.in-Some.field-0.head c.loop-here.invariant c.in-Some.ensures.some in
     omega (arith, within.some, c.loop-here-test.true)
 
 pub loop-here-preserved : goal.loop-here-preserved
