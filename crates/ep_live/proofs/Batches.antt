@@ -1,8 +1,7 @@
 -- What is numbered among a thread's writes is of an event of the program.
-use Rattle.std.proofs.Common.{◌≡◌, ℕ, zero, suc, ◌-◌, ◌<◌, ◌≤◌, Bool, true, false, List, [], ◌∷◌, Option, None, Some, length, refl, ap, sym, ◌∙◌, arith, cond, drop, filter}
+use Rattle.std.proofs.Common.{◌≡◌, ℕ, zero, suc, ◌-◌, Bool, true, false, List, [], ◌∷◌, Option, None, Some, refl, ap, sym, ◌∙◌, cond, drop, filter}
 use Rattle.std.specs.Prelude.{slice_get, slice_index_or}
 use Rattle.std.specs.List.{All}
-use Rattle.std.proofs.lemmas.Option.{slice_get_within}
 use Rattle.std.specs.Option.{option_map_or}
 use Rattle.ep_defs.specs.Admits.{session_admits}
 use Rattle.ep_defs.specs.Definitions.{definition_at}
@@ -15,6 +14,7 @@ use Rattle.ep_slot.specs.Hand.{HandState}
 use Rattle.ep_row.specs.AtRest.{IsNumbered, write_of}
 use Rattle.ep_guarded.specs.Tied.{AreTaken}
 use Rattle.ep_stream.specs.Rows.{IsBatch, IsDefined}
+use Rattle.ep_stream.proofs.Describing.{in_range}
 use Rattle.std.proofs.lemmas.Option.{none-some}
 use Rattle.ep_live.proofs.Pushing.{same}
 
@@ -32,15 +32,11 @@ admits-defined : (config : Config) (o : Option EventDef) → option_map_or (λ d
 admits-defined config None h = cc
 admits-defined config (Some def) h = (def, refl)
 
-defined_at : (events : List EventDef) (event : ℕ) (def : EventDef) → definition_at events event ≡ Some def → (0 < event) × (event ≤ length events)
-defined_at events zero def is = absurd (none-some def is)
-defined_at events (suc place) def is = let within = slice_get_within events place def is in (omega arith, omega (arith, within))
-
 is-defined : (events : List EventDef) (config : Config) (writes : List Write) (from : ℕ) (r : Record) → IsNumbered events config writes from r → IsDefined events r
 is-defined events config writes from r is =
     let admits = passed (λ write. admits_write events (Some config) write) (drop from writes) (r.number - 1) (write_of r) is in
     let found = admits-defined config (definition_at events r.event) admits in
-    defined_at events r.event found.0 found.1
+    in_range events r.event found.0 found.1
 
 -- What is taken of numbered records is a batch.
 pub is-batch : (events : List EventDef) (config : Config) (writes : List Write) (hand : HandState) (records : List Record) (last : ℕ) → AreTaken hand records last → All (IsNumbered events config writes hand.from) records → IsBatch events hand records last

@@ -5,3 +5,4 @@ pub mod Columns
 pub mod Batches
 pub mod Standing
 pub mod Answering
+pub mod Own

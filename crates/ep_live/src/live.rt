@@ -14,7 +14,7 @@ ghost use Rattle.ep_guarded.specs.declared.agreed.Agreed.TheVariants as agreed;
 ghost use Rattle.ep_guarded.specs.Tied.{stand_in, left_in, hand_in, grant_in, next_stand, thread_of, buffer_number, buffer_place, hand_after, AreTaken};
 ghost use Rattle.ep_guarded.specs.Granted.{IsGrantFor};
 ghost use Rattle.ep_guarded.specs.Sessions.{Opens, Closes};
-ghost use Rattle.ep_live.specs.Live.{hand_place, with_one};
+ghost use Rattle.ep_live.specs.Live.{hand_place, with_one, IsClosable, IsNextWrite};
 ghost use Rattle.ep_live.specs.Written.{AnswersBehind, AreAnswered, IsWritten, IsWrittenBehind};
 ghost use Rattle.ep_live.specs.Made.{AreStands, AreHandTies};
 
@@ -195,12 +195,7 @@ impl<'a, P: Program> Live<'a, P> {
         requires number { row.old.number ≡ number }
         requires quiet { row.old.row.in_write ≡ false }
         requires place { half.old.place ≡ number }
-        requires here { IsSome (stand_in half.old.value) }
-        requires few { ForSome (stand_in half.old.value) (λ s. s.index < WRITES) }
-        requires next { ForSome (stand_in half.old.value) (λ s. slice_get (P.writes s.thread) s.index ≡ Some write.now) }
-        requires some { 0 < write.now.event }
-        requires event { write.now.event ≤ length P.events }
-        requires fits { IsTrue (valid.fits write.now) }
+        requires write { IsNextWrite P.events P.writes half.old.value write.now }
         ensures answer { IsWritten stamp write.now row.old.row row.new.row result }
         ensures row { row.new.row ≡ record (with_begin row.old.row stamp write.now)
             { in_write = false; due = 0; slots = row.new.row.slots } }
@@ -424,13 +419,7 @@ impl<'a, P: Program> Live<'a, P> {
         hand: Hand,
         seat: &mut PoolSeat,
     ) -> Result<(Batch, Marks), Hand>
-        requires row { number < P.rows }
-        requires slot { slot < SESSIONS }
-        requires place { half.old.place ≡ hand_place P.rows (buffer_number number slot) }
-        requires hand { hand_in half.old.value ≡ Some hand }
-        requires seat { ForSome (grant_in half.old.value) (λ grant. IsSeatOf grant.pool seat.old) }
-        requires few { seat.old.taken + WRITES < SEAT_COUNTS }
-        requires few_given { seat.old.given < SEAT_COUNTS }
+        requires { IsClosable P.rows number slot half.old hand seat.old }
         ensures closes { IfOk result (λ closed. Closes P.events P.writes half.old.value hand closed.0.chain
             closed.0.last closed.1 seat.old seat.new) }
         ensures to { IfOk result (λ closed. closed.1.to ≡ writes) }
@@ -469,13 +458,7 @@ impl<'a, P: Program> Live<'a, P> {
         hand: Hand,
         seat: &mut PoolSeat,
     ) -> (Batch, Marks)
-        requires row { number < P.rows }
-        requires slot { slot < SESSIONS }
-        requires place { half.old.place ≡ hand_place P.rows (buffer_number number slot) }
-        requires hand { hand_in half.old.value ≡ Some hand }
-        requires seat { ForSome (grant_in half.old.value) (λ grant. IsSeatOf grant.pool seat.old) }
-        requires few { seat.old.taken + WRITES < SEAT_COUNTS }
-        requires few_given { seat.old.given < SEAT_COUNTS }
+        requires { IsClosable P.rows number slot half.old hand seat.old }
         ensures closes { Closes P.events P.writes half.old.value hand result.0.chain result.0.last result.1
             seat.old seat.new }
         ensures to { result.1.to ≡ writes }
@@ -507,13 +490,7 @@ impl<'a, P: Program> Live<'a, P> {
         hand: Hand,
         seat: &mut PoolSeat,
     ) -> (Batch, Marks)
-        requires row { number < P.rows }
-        requires slot { slot < SESSIONS }
-        requires place { half.old.place ≡ hand_place P.rows (buffer_number number slot) }
-        requires hand { hand_in half.old.value ≡ Some hand }
-        requires seat { ForSome (grant_in half.old.value) (λ grant. IsSeatOf grant.pool seat.old) }
-        requires few { seat.old.taken + WRITES < SEAT_COUNTS }
-        requires few_given { seat.old.given < SEAT_COUNTS }
+        requires { IsClosable P.rows number slot half.old hand seat.old }
         ensures closes { Closes P.events P.writes half.old.value hand result.0.chain result.0.last result.1
             seat.old seat.new }
         ensures to { ForSome stands.old (λ index. result.1.to ≡ index) }

@@ -1,10 +1,10 @@
 -- What is described at the end of a stream.
-use Rattle.std.proofs.Common.{◌≡◌, ◌≢◌, ℕ, zero, suc, ◌+◌, ◌<◌, ◌≤◌, Bool, true, false, not, ◌⊎◌, inl, inr, List, [], ◌∷◌, ◌++◌, length, take, drop, map, Option, Some, None, eqb, refl, ap, sym, ◌∙◌, subst, arith, append_assoc}
-use Rattle.std.specs.Prelude.{Result, Ok, Err, OnOk, OnErr, IsTrue, Contains, slice_get, slice_index, slice_index_or}
+use Rattle.std.proofs.Common.{◌≡◌, ◌≢◌, ℕ, zero, suc, ◌+◌, ◌<◌, ◌≤◌, Bool, true, false, not, ◌⊎◌, inl, inr, List, [], ◌∷◌, ◌++◌, length, take, map, Option, Some, None, eqb, refl, ap, sym, ◌∙◌, subst, arith, append_assoc}
+use Rattle.std.specs.Prelude.{Result, Ok, Err, OnOk, IsTrue, Contains, slice_get, slice_index, slice_index_or}
 use Rattle.std.specs.List.{list_all}
 use Rattle.std.proofs.lemmas.Bool.{and_parts, true≢false}
 use Rattle.std.proofs.lemmas.Bool.Decides.{eqb_tells}
-use Rattle.std.proofs.lemmas.List.{append-nil, length-map}
+use Rattle.std.proofs.lemmas.List.{append-nil}
 use Rattle.ep_defs.specs.Definitions.{AreDistinct, definition_at}
 use Rattle.ep_defs.specs.declared.event.EventDef.{EventDef}
 use Rattle.ep_defs.specs.declared.session.TraceInfo.{TraceInfo}
@@ -20,7 +20,7 @@ use Rattle.nt_write.specs.declared.writer.TraceWriter.{TraceWriter}
 use Rattle.nt_write.specs.Writer.{fault_of, sink_of, Extends, IsWriting, TookPart}
 use Rattle.nt_write.specs.declared.limits.TheConstants.{FRAMED_EVENTS}
 use Rattle.nt_write.specs.Writable.{framed}
-use Rattle.ep_stream.specs.Rundown.{last_definitions}
+use Rattle.ep_stream.specs.Rundown.{AreUsed, last_definitions}
 use Rattle.ep_stream.specs.Telling.{IsTelling, Tells}
 
 pub some-none : {A X : Type 0} {a : A} → Some a ≡ None → X
@@ -223,6 +223,17 @@ extends events numbers used few lacks are = record { same = λ n def at. kept n 
         let u = used_number events numbers used within.0 def are within.1 within.2 in
         lacks_number events u.0 def lacks u.1 (one-value (sym at ∙ same_at (definition_at events) n same.0))
     unused n def none at within (inr other) = some-none (sym at ∙ other_at (definition_at events) n other.0 ∙ none)
+
+-- Where all numbers that were used stand for definitions, they do beside the rundown's.
+pub are-used : (events : List EventDef) (numbers told_numbers : List ℕ) (used : List EventDef) → numbers ≡ told_numbers
+    → map (definition_at events) told_numbers ≡ map Some used → AreDistinct (definition_at events) → IsTrue (lacks_rundown events)
+    → AreUsed events numbers used (with_rundown (definition_at events))
+are-used events numbers told_numbers used same named distinct lacks =
+    record {
+      numbers_are = ap (λ (ns : List ℕ). map (definition_at events) ns) same ∙ named;
+      rundown_is = rundown_at (definition_at events);
+      distinct = distinct_with_rundown events distinct lacks;
+    }
 
 -- ---- descriptions
 

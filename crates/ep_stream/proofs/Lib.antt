@@ -3,6 +3,7 @@ pub mod Hands
 pub mod Telling
 pub mod Reading
 pub mod Taking
+pub mod Stealing
 pub mod Sweep
 pub mod Staying
 pub mod Refused

@@ -225,6 +225,31 @@ taken_next tests_record told events first more place row old mid new rows now af
     (all_before first more place row e below here)
     (told_more (rest_of old).seat.slot first more (told rows) (told now) (told after) a.told told_is)
 
+-- What was taken of the rows up to one.
+pub record TakenTo {S R : Type 0} (tests_record : R → Config → ℕ → ℕ → ℕ → Write → Type 0) (told : R → Option ToldRows) (events : List EventDef) (takings : List Taking) (place : ℕ) (old new : Session S) (rows now : R) : Type 0 where
+  pub rows_are : rows_of takings ≡ open_rows (hand_on old) place
+  pub below : All (λ t. t.row ≤ place) takings
+  pub taken : Taken (tests_record rows (rest_of old).config) (λ ts. TellsTakings (rest_of old).seat.slot ts (told rows) (told now)) events takings old new
+
+-- The same with the next row.
+pub to-next : {S R : Type 0} (tests_record : R → Config → ℕ → ℕ → ℕ → Write → Type 0) (told : R → Option ToldRows) (events : List EventDef) (first more : List Taking) (place : ℕ) (old mid new : Session S) (rows now after : R)
+    → TakenTo tests_record told events first place old mid rows now → TestsRecordsAs (tests_record rows) (tests_record now)
+    → rows_of more ≡ (if is_some (hand_on mid (place + 1)) then (place + 1) ∷ [] else [])
+    → Taken (tests_record now (rest_of mid).config) (λ ts. TellsTakings (rest_of mid).seat.slot ts (told now) (told after)) events more mid new
+    → TakenTo tests_record told events (first ++ more) (place + 1) old new rows after
+to-next tests_record told events first more place old mid new rows now after to tests more_is taken =
+    let row_is : place + 1 ≡ suc place = omega arith in
+    let here : All (λ t. t.row ≡ place + 1) more = rows_at more (place + 1) _ more_is in
+    let hand_is : hand_on mid (place + 1) ≡ hand_on old (place + 1) =
+    to.taken.hands (place + 1)
+    ∙ hands_stay (hand_on old) first (place + 1) (λ k d small. let h = to.below k d small in omega (arith, h))
+    in
+    record {
+      rows_are = next_rows (hand_on old) (hand_on mid) first more place (place + 1) row_is to.rows_are more_is hand_is;
+      below = all_within first more place (place + 1) row_is to.below here;
+      taken = taken_next tests_record told events first more place (place + 1) old mid new rows now after row_is to.below here tests to.taken taken;
+    }
+
 -- What was taken of the next row is told behind what was told.
 pub tells_next : {S A : Type 0} (tells : S → Bool) (taken : S → List ℕ) (before : List ℕ) (info : TraceInfo) (told : List Entry) (events : List EventDef) (first more : List Taking) (old mid : Session S) (names : List Named) (result : Result A Fault) (writer : TraceWriter S) → rest_of mid ≡ record (rest_of old) { named = names; in_hand = 0 } → Tells tells taken before (definition_at events) info (told ++ entries_in events (rest_of old).config.stackwalk first) (entries_in events (rest_of mid).config.stackwalk more) result writer → Tells tells taken before (definition_at events) info (told ++ entries_in events (rest_of old).config.stackwalk first) (entries_in events (rest_of old).config.stackwalk more) result writer
 tells_next tells taken before info told events first more old mid names result writer rest is =
@@ -249,6 +274,12 @@ pub entries_in-one : (events : List EventDef) (stacks : Bool) (t : Taking) → e
 entries_in-one events stacks t = flat_map-cons (λ (x : Taking). entries_of events stacks x.records) t [] ∙ append-nil (entries_of events stacks t.records)
 
 -- ---- the end
+
+-- The point behind all that was taken.
+pub point-behind : (count stamp : ℕ) (named names : List Named) (takings : List Taking) → count ≡ records_in takings → named ≡ named_after names takings
+    → point_after count stamp named ≡ point_after (records_in takings) stamp (named_after names takings)
+point-behind count stamp named names takings count_is named_is =
+    ap (λ (n : ℕ). point_after n stamp named) count_is ∙ ap (λ (ns : List Named). point_after (records_in takings) stamp ns) named_is
 
 pub point_some : (taken stamp : ℕ) (names : List Named) → taken ≢ 0 → point_after taken stamp names ≡ Point (point_of stamp (numbers_of names)) ∷ []
 point_some zero stamp names not = absurd (not refl)

@@ -30,6 +30,19 @@ used_in_range events numbers used place are low out =
     clash (inl none) some few = omega (arith, none, some)
     clash (inr above) some few = omega (arith, above, few)
 
+-- The descriptions with the one at this place.
+next_at : (stamp : ℕ) (used : List EventDef) (place : ℕ) (def : EventDef) → slice_get used place ≡ Some def → describing_from stamp 1 (take (place + 1) used) ≡ describing_from stamp 1 (take place used) ++ Event (describing stamp (place + 1) def) ∷ []
+next_at stamp used place def found =
+    let turn : 1 + place ≡ place + 1 = omega arith in
+    next_described stamp 1 used place def found ∙ ap (λ (n : ℕ). describing_from stamp 1 (take place used) ++ Event (describing stamp n def) ∷ []) turn
+
+-- The descriptions about the one at this place.
+split_at : (stamp : ℕ) (used : List EventDef) (place : ℕ) (def : EventDef) → slice_get used place ≡ Some def → (after : List Entry) × (describing_from stamp 1 used ≡ describing_from stamp 1 (take place used) ++ (Event (describing stamp (place + 1) def) ∷ [] ++ after))
+split_at stamp used place def found =
+    let turn : 1 + place ≡ place + 1 = omega arith in
+    let split = split_described stamp 1 used place def found in
+    (split.0, split.1 ∙ ap (λ (n : ℕ). describing_from stamp 1 (take place used) ++ (Event (describing stamp n def) ∷ [] ++ split.0)) turn)
+
 pub loop-place-preserved : goal.loop-place-preserved
 loop-place-preserved g c =
     let inv = c.loop-place.invariant in
@@ -47,10 +60,7 @@ loop-place-preserved g c =
             let def : EventDef = w.index-events-number.result in
             let first = describing_from stamp 1 (take place used) in
             let found = found_at events numbers used place def are.numbers_are low (definition_is events (slice_index numbers place) def w.if-number-gt0.true w.if-number-events.true w.index-events-number.is) in
-            let turn : 1 + place ≡ place + 1 = omega arith in
-            let next : describing_from stamp 1 (take (place + 1) used) ≡ first ++ Event (describing stamp (place + 1) def) ∷ [] =
-            next_described stamp 1 used place def found ∙ ap (λ (n : ℕ). first ++ Event (describing stamp n def) ∷ []) turn
-            in
+            let next = next_at stamp used place def found in
             subst (λ (es : List Entry). IsTelling g.S.Sink.tells_taken g.S.Sink.taken before defs info (told ++ es) w.describe_one.new.writer) (sym next)
             (told_after g.S.Sink.tells_taken g.S.Sink.taken before defs info told first (Event (describing stamp (place + 1) def) ∷ []) w.in_ok-describe_one.field-0 w.describe_one.new.writer
             (w.in_ok-describe_one.ensures.writes before defs info (told ++ first) are.distinct are.rundown_is (inv.telling before defs info told used are now)));
@@ -70,22 +80,17 @@ loop-place-preserved g c =
 pub returns-in_err-describe_one-clause-writes : goal.returns-in_err-describe_one-clause-writes
 returns-in_err-describe_one-clause-writes g c before defs info told used are now =
     let inv = c.loop-place.invariant in
+    let fault : Fault = c.in_err-describe_one.field-0.0 in
     let events = c.args.events.now in
-    let numbers = c.args.numbers.now in
     let stamp = c.args.stamp in
     let place = c.loop-place.place in
-    let low : place < length numbers = omega (arith, c.loop-place-test.true) in
-    let fault : Fault = c.in_err-describe_one.field-0.0 in
+    let number : ℕ = slice_index c.args.numbers.now place in
     let def : EventDef = c.index-events-number.result in
     let first = describing_from stamp 1 (take place used) in
-    let found = found_at events numbers used place def are.numbers_are low (definition_is events (slice_index numbers place) def c.if-number-gt0.true c.if-number-events.true c.index-events-number.is) in
-    let turn : 1 + place ≡ place + 1 = omega arith in
-    let split = split_described stamp 1 used place def found in
-    let all : describing_from stamp 1 used ≡ first ++ (Event (describing stamp (place + 1) def) ∷ [] ++ split.0) =
-    split.1 ∙ ap (λ (n : ℕ). first ++ (Event (describing stamp n def) ∷ [] ++ split.0)) turn
-    in
+    let found = found_at events c.args.numbers.now used place def are.numbers_are (omega (arith, c.loop-place-test.true)) (definition_is events number def c.if-number-gt0.true c.if-number-events.true c.index-events-number.is) in
+    let split = split_at stamp used place def found in
     subst (λ (r : Result (Unit {0}) Fault). Tells g.S.Sink.tells_taken g.S.Sink.taken before defs info told (describing_from stamp 1 used) r c.describe_one.new.writer) (sym (err_is _ _ c.from_residual.ensures.1))
-    (subst (λ (es : List Entry). Tells {A = Unit {0}} g.S.Sink.tells_taken g.S.Sink.taken before defs info told es (Err fault) c.describe_one.new.writer) (sym all)
+    (subst (λ (es : List Entry). Tells {A = Unit {0}} g.S.Sink.tells_taken g.S.Sink.taken before defs info told es (Err fault) c.describe_one.new.writer) (sym split.1)
     (tells_after g.S.Sink.tells_taken g.S.Sink.taken before defs info told first (Event (describing stamp (place + 1) def) ∷ []) split.0 fault c.describe_one.new.writer
     (c.in_err-describe_one.ensures.writes before defs info (told ++ first) are.distinct are.rundown_is (inv.telling before defs info told used are now))))
 

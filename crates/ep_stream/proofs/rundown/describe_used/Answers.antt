@@ -1,15 +1,13 @@
-use Rattle.std.proofs.Common.{◌≡◌, ℕ, List, length, map, None, Some, ap, sym, ◌∙◌, subst, rules, arith}
-use Rattle.std.specs.Prelude.{Result, Ok, Err}
+use Rattle.std.proofs.Common.{◌≡◌, ℕ, length, None, Some, ap, sym, ◌∙◌, subst, rules, arith}
+use Rattle.std.specs.Prelude.{Result}
 use Rattle.ep_defs.specs.Definitions.{definition_at}
-use Rattle.ep_defs.specs.declared.event.EventDef.{EventDef}
 use Rattle.ep_rundown.specs.Rundown.{section, used, with_rundown}
 use Rattle.nt_write.specs.declared.fault.Fault.{Fault}
 use Rattle.nt_write.specs.declared.fault.Fault.TheVariants.{OutOfMemory}
 use Rattle.nt_write.specs.Writer.{fault_of}
-use Rattle.ep_stream.specs.Rundown.{AreUsed}
-use Rattle.ep_stream.specs.Telling.{IsTelling, Tells}
+use Rattle.ep_stream.specs.Telling.{Tells}
 use Rattle.ep_stream.proofs.Telling.{err_is}
-use Rattle.ep_stream.proofs.Describing.{tells_none, not_long, tells_err, tells_ok, telling_more, extends, rundown_at, distinct_with_rundown, used_count}
+use Rattle.ep_stream.proofs.Describing.{tells_none, not_long, tells_err, tells_ok, telling_more, extends, are-used, used_count}
 use Rattle.ep_stream.proofs.rundown.describe_used.Goals as goal
 
 pub returns-in-Some-clause-writes : goal.returns-in-Some-clause-writes
@@ -30,16 +28,9 @@ returns-in_err-describe_each-clause-writes g c before info told telling =
     let defs = definition_at events in
     let more = with_rundown defs in
     let fault : Fault = c.in_err-describe_each.field-0.0 in
-    let sound : fault_of c.args.writer.now ≡ None = search rules in
-    let writing = telling.sound sound in
-    let named = c.used.ensures.named before defs info told writing in
-    let numbers : c.deref.result.now ≡ c.used.result.now = c.deref.ensures.value ∙ c.in-Ok.ensures.numbers in
+    let named = c.used.ensures.named before defs info told (telling.sound (search rules)) in
     let extended = extends events c.used.result.now (used told) c.requires.few c.requires.lacks named in
-    let are : AreUsed events c.deref.result.now (used told) more = record {
-      numbers_are = ap (λ (ns : List ℕ). map defs ns) numbers ∙ named;
-      rundown_is = rundown_at defs;
-      distinct = distinct_with_rundown events c.requires.distinct c.requires.lacks;
-    } in
+    let are = are-used events c.deref.result.now c.used.result.now (used told) (c.deref.ensures.value ∙ c.in-Ok.ensures.numbers) named c.requires.distinct c.requires.lacks in
     let now = telling_more g.S.Sink.tells_taken g.S.Sink.taken before defs more info told c.args.writer.now telling (λ w. c.used.ensures.goes_on before defs more info told w extended) in
     subst (λ (r : Result ℕ Fault). Tells g.S.Sink.tells_taken g.S.Sink.taken before more info told (section c.args.stamp told) r c.describe_each.new.writer) (sym (err_is _ _ c.from_residual.ensures.1))
     (tells_err g.S.Sink.tells_taken g.S.Sink.taken before more info told (section c.args.stamp told) fault c.describe_each.new.writer
@@ -50,19 +41,12 @@ returns-clause-writes g c before info told telling =
     let events = c.args.events.now in
     let defs = definition_at events in
     let more = with_rundown defs in
-    let sound : fault_of c.args.writer.now ≡ None = search rules in
-    let writing = telling.sound sound in
-    let named = c.used.ensures.named before defs info told writing in
-    let numbers : c.deref.result.now ≡ c.used.result.now = c.deref.ensures.value ∙ c.in-Ok.ensures.numbers in
+    let named = c.used.ensures.named before defs info told (telling.sound (search rules)) in
     let extended = extends events c.used.result.now (used told) c.requires.few c.requires.lacks named in
-    let are : AreUsed events c.deref.result.now (used told) more = record {
-      numbers_are = ap (λ (ns : List ℕ). map defs ns) numbers ∙ named;
-      rundown_is = rundown_at defs;
-      distinct = distinct_with_rundown events c.requires.distinct c.requires.lacks;
-    } in
     let now = telling_more g.S.Sink.tells_taken g.S.Sink.taken before defs more info told c.args.writer.now telling (λ w. c.used.ensures.goes_on before defs more info told w extended) in
     tells_ok g.S.Sink.tells_taken g.S.Sink.taken before more info told (section c.args.stamp told) c.in_ok-describe_each.field-0 _ c.describe_each.new.writer
-    (c.in_ok-describe_each.ensures.writes before more info told (used told) are now)
+    (c.in_ok-describe_each.ensures.writes before more info told (used told)
+    (are-used events c.deref.result.now c.used.result.now (used told) (c.deref.ensures.value ∙ c.in-Ok.ensures.numbers) named c.requires.distinct c.requires.lacks) now)
 
 pub returns-clause-counted : goal.returns-clause-counted
 returns-clause-counted g c before info told telling =

@@ -1,116 +1,75 @@
-use Rattle.std.proofs.Common.{◌≡◌, ◌∙◌, ℕ, ◌+◌, ◌-◌, ◌≤◌, Some, None, length, refl, ap, sym, subst, arith}
-use Rattle.std.specs.Prelude.{◌==◌, if◌then◌else◌, Option, option_map, slice_set}
-use Rattle.std.specs.List.{sum_by}
-use Rattle.std.proofs.lemmas.Option.{slice_get_read}
+use Rattle.std.proofs.Common.{◌≡◌, ◌∙◌, ◌+◌, ◌-◌, ◌≤◌, Option, None, length, ap, sym, subst, arith}
+use Rattle.std.specs.Prelude.{option_map}
+use Rattle.std.proofs.lemmas.Option.{none-some}
 use Rattle.ep_defs.specs.declared.session.Config.{Config}
-use Rattle.ep_guarded.specs.Tied.{hand_in, grant_in, buffer_number, AreCounted}
+use Rattle.ep_guarded.specs.Tied.{hand_in, grant_in, AreCounted}
 use Rattle.ep_guarded.specs.declared.grant.Grant.{Grant}
-use Rattle.ep_live.specs.Live.{hand_place}
-use Rattle.ep_live.specs.RowSet.{LiveRowsState, expected_in, configured_in, config_in, out_in, stolen_in}
-use Rattle.ep_live.proofs.Halves.{said-there, said-own, half-is, held-grant, counts, counts-none, few-given, out-more, sum-set, rows-changed}
+use Rattle.ep_live.specs.RowSet.{LiveRowsState, configured_in, config_in}
+use Rattle.ep_live.proofs.Halves.{said-own, held-grant, counts, counts-none, few-given, rows-changed}
 use Rattle.ep_live.proofs.Batches.{is-batch}
+use Rattle.ep_live.proofs.Own.{hand-half, place-own, out-own}
+use Rattle.ep_live.proofs.Pushing.{same}
 use Rattle.ep_live.proofs.live_rows.LiveRowsRowSet.detach.Goals as goal
 
-pub close_by-requires-clause-place : goal.close_by-requires-clause-place
-close_by-requires-clause-place g c =
-    let halves = c.self.inside.halves.items in
-    let count : length halves ≡ length c.args.self.now.halves = ap (λ (v : LiveRowsState). length v.halves) c.self.view_is in
-    let at = slice_get_read halves _ (c.args.row - 1) c.index_mut.result.now refl (omega (arith, count, c.requires.row)) c.index_mut.ensures.value in
-    let own = said-there hand_in halves c.self.inside.slot c.args.row c.args.slot _ (ap (λ (v : LiveRowsState). expected_in v c.args.row c.args.slot) c.self.view_is ∙ c.requires.expected) in
-    (c.self.invariant.halves_are (c.args.row - 1) c.index_mut.result.now at).place
-    ∙ ap (λ (slot : ℕ). hand_place g.P.Program.rows (buffer_number (c.args.row - 1) slot)) (sym own)
-
-pub close_by-requires-clause-seat : goal.close_by-requires-clause-seat
-close_by-requires-clause-seat g c grant is =
-    let halves = c.self.inside.halves.items in
-    let count : length halves ≡ length c.args.self.now.halves = ap (λ (v : LiveRowsState). length v.halves) c.self.view_is in
-    let at = slice_get_read halves _ (c.args.row - 1) c.index_mut.result.now refl (omega (arith, count, c.requires.row)) c.index_mut.ensures.value in
-    let granted = sym ((c.self.invariant.halves_are (c.args.row - 1) c.index_mut.result.now at).granted grant is) in
-    (c.self.invariant.seat_is.0 ∙ ap (λ (g : Grant). g.pool.pool) granted, c.self.invariant.seat_is.1 ∙ ap (λ (g : Grant). g.pool.total) granted)
-
-pub close_by-requires-clause-few_given : goal.close_by-requires-clause-few_given
-close_by-requires-clause-few_given g c =
-    let few = few-given _ _ _ _ c.self.inside.halves.items c.self.inside.seat c.self.inside.openings _ c.self.invariant in
-    omega (arith, few, c.self.invariant.given)
+pub close_by-requires : goal.close_by-requires
+close_by-requires g c =
+    let has = hand-half _ _ c.args.row c.args.slot _ _ c.self.view_is c.requires.row c.index_mut.ensures.value c.requires.expected in
+    let most = few-given _ _ _ _ c.self.inside.halves.items c.self.inside.seat c.self.inside.openings _ c.self.invariant in
+    let count : length c.self.inside.halves.items ≡ length c.args.self.now.halves = ap (λ (v : LiveRowsState). length v.halves) c.self.view_is in
+    record {
+      row = omega (arith, c.requires.row, count, c.self.invariant.count);
+      slot_is = c.requires.slot;
+      place = place-own _ c.args.row c.args.slot _ _ _ _ c.self.inside.openings has c.self.invariant;
+      hand_is = has.hand_is;
+      seat_is = λ grant is.
+          let granted = sym ((c.self.invariant.halves_are (c.args.row - 1) _ has.at).granted grant is) in
+          (c.self.invariant.seat_is.0 ∙ ap (λ (g : Grant). g.pool.pool) granted, c.self.invariant.seat_is.1 ∙ ap (λ (g : Grant). g.pool.total) granted);
+      few = omega (arith, most);
+      few_given = omega (arith, most, c.self.invariant.given);
+    }
 
 pub invariant_of-self : goal.invariant_of-self
 invariant_of-self g c =
-    let halves = c.self.inside.halves.items in
     let half = c.index_mut.result.now in
-    let count : length halves ≡ length c.args.self.now.halves = ap (λ (v : LiveRowsState). length v.halves) c.self.view_is in
-    let at = slice_get_read halves _ (c.args.row - 1) half refl (omega (arith, count, c.requires.row)) c.index_mut.ensures.value in
-    let expected = ap (λ (v : LiveRowsState). expected_in v c.args.row c.args.slot) c.self.view_is ∙ c.requires.expected in
-    let own = said-there hand_in halves c.self.inside.slot c.args.row c.args.slot _ expected in
-    let hand_is = ap (λ h. hand_in h.value) (sym (half-is halves c.args.row half c.requires.row.0 at)) ∙ sym (said-own hand_in halves c.self.inside.slot c.args.row c.args.slot own) ∙ expected in
-    let was = counts half c.args.hand hand_is in
+    let has = hand-half _ _ c.args.row c.args.slot half _ c.self.view_is c.requires.row c.index_mut.ensures.value c.requires.expected in
+    let was = counts half c.args.hand has.hand_is in
     let none : hand_in c.close_by.new.half.value ≡ None = ap hand_in c.close_by.ensures.half in
     let now = counts-none c.close_by.new.half none in
     let seat = c.close_by.ensures.closes.seat_is in
     let share = ap (λ s. s.share) seat in
     let taken = ap (λ s. s.taken) seat in
     let few : c.args.hand.stolen + length c.close_by.result.0.chain ≤ 4000000000 = c.close_by.ensures.closes.few in
-    rows-changed _ _ _ _ halves c.self.inside.seat c.close_by.new.seat c.self.inside.openings c.self.inside.openings (c.args.row - 1) _ half c.close_by.new.half c.self.invariant at
+    rows-changed _ _ _ _ _ c.self.inside.seat c.close_by.new.seat c.self.inside.openings c.self.inside.openings (c.args.row - 1) _ half c.close_by.new.half c.self.invariant has.at
     c.close_by.ensures.place
-    (λ grant is. absurd (no_grant grant (sym (ap grant_in c.close_by.ensures.half) ∙ is)))
+    (λ grant is. absurd (none-some grant (sym (ap grant_in c.close_by.ensures.half) ∙ is)))
     (omega (arith, now)) (ap (λ s. s.pool) seat) (ap (λ s. s.total) seat) (ap (λ s. s.seats) seat)
     (omega (arith, was, now, share)) (ap (λ s. s.given) seat) (omega (arith, was, now, taken)) (omega (arith, was, now, taken, few)) c.self.invariant.few
-  where
-    no_grant : (grant : Grant) → None ≡ Some grant → ⊥
-    no_grant grant e = cc
 
 pub returns-clause-batch : goal.returns-clause-batch
 returns-clause-batch g c =
-    let halves = c.self.inside.halves.items in
-    let half = c.index_mut.result.now in
-    let count : length halves ≡ length c.args.self.now.halves = ap (λ (v : LiveRowsState). length v.halves) c.self.view_is in
-    let at = slice_get_read halves _ (c.args.row - 1) half refl (omega (arith, count, c.requires.row)) c.index_mut.ensures.value in
-    let expected = ap (λ (v : LiveRowsState). expected_in v c.args.row c.args.slot) c.self.view_is ∙ c.requires.expected in
-    let own = said-there hand_in halves c.self.inside.slot c.args.row c.args.slot _ expected in
-    let hand_is = ap (λ h. hand_in h.value) (sym (half-is halves c.args.row half c.requires.row.0 at)) ∙ sym (said-own hand_in halves c.self.inside.slot c.args.row c.args.slot own) ∙ expected in
-    let held = held-grant half.value c.args.hand hand_is in
+    let has = hand-half _ _ c.args.row c.args.slot _ _ c.self.view_is c.requires.row c.index_mut.ensures.value c.requires.expected in
+    let held = held-grant _ c.args.hand has.hand_is in
     is-batch _ held.0.config _ c.args.hand _ _ c.close_by.ensures.closes.taken (c.close_by.ensures.closes.numbered held.0 held.1)
 
 pub returns-clause-tested_marks : goal.returns-clause-tested_marks
 returns-clause-tested_marks g c config is =
-    let halves = c.self.inside.halves.items in
-    let half = c.index_mut.result.now in
-    let count : length halves ≡ length c.args.self.now.halves = ap (λ (v : LiveRowsState). length v.halves) c.self.view_is in
-    let at = slice_get_read halves _ (c.args.row - 1) half refl (omega (arith, count, c.requires.row)) c.index_mut.ensures.value in
-    let here = half-is halves c.args.row half c.requires.row.0 at in
-    let expected = ap (λ (v : LiveRowsState). expected_in v c.args.row c.args.slot) c.self.view_is ∙ c.requires.expected in
-    let own = said-there hand_in halves c.self.inside.slot c.args.row c.args.slot _ expected in
-    let hand_is = ap (λ h. hand_in h.value) (sym here) ∙ sym (said-own hand_in halves c.self.inside.slot c.args.row c.args.slot own) ∙ expected in
-    let held = held-grant half.value c.args.hand hand_is in
+    let has = hand-half _ _ c.args.row c.args.slot _ _ c.self.view_is c.requires.row c.index_mut.ensures.value c.requires.expected in
+    let held = held-grant _ c.args.hand has.hand_is in
     let configured = ap (λ (v : LiveRowsState). configured_in v c.args.row c.args.slot) c.self.view_is ∙ is in
-    let config_is = ap (λ h. config_in h.value) (sym here) ∙ sym (said-own config_in halves c.self.inside.slot c.args.row c.args.slot own) ∙ configured in (
+    let config_is = ap (λ h. config_in h.value) (sym has.here) ∙ sym (said-own config_in c.self.inside.halves.items c.self.inside.slot c.args.row c.args.slot has.own) ∙ configured in (
       subst (λ (x : Config). AreCounted g.P.Program.events g.P.Program.writes x c.close_by.result.1) (same held.0.config config (sym (ap (λ (o : Option Grant). option_map (λ g. g.config) o) held.1) ∙ config_is))
           (c.close_by.ensures.closes.counted held.0 held.1),
       λ index here. c.close_by.ensures.to index (ap (λ (v : LiveRowsState). v.stands) c.self.view_is ∙ here),
       λ none index here. c.close_by.ensures.ends (ap (λ (v : LiveRowsState). v.stands) c.self.view_is ∙ none) index (ap (λ (v : LiveRowsState). v.ends) c.self.view_is ∙ here),
     )
-  where
-    same : (a b : Config) → Some a ≡ Some b → a ≡ b
-    same a b e = cc
 
 pub returns-clause-out : goal.returns-clause-out
 returns-clause-out g c s =
-    let halves = c.self.inside.halves.items in
     let half = c.index_mut.result.now in
-    let count : length halves ≡ length c.args.self.now.halves = ap (λ (v : LiveRowsState). length v.halves) c.self.view_is in
-    let at = slice_get_read halves _ (c.args.row - 1) half refl (omega (arith, count, c.requires.row)) c.index_mut.ensures.value in
-    let expected = ap (λ (v : LiveRowsState). expected_in v c.args.row c.args.slot) c.self.view_is ∙ c.requires.expected in
-    let own = said-there hand_in halves c.self.inside.slot c.args.row c.args.slot _ expected in
-    let hand_is = ap (λ h. hand_in h.value) (sym (half-is halves c.args.row half c.requires.row.0 at)) ∙ sym (said-own hand_in halves c.self.inside.slot c.args.row c.args.slot own) ∙ expected in
-    let was = counts half c.args.hand hand_is in
+    let has = hand-half _ _ c.args.row c.args.slot half _ c.self.view_is c.requires.row c.index_mut.ensures.value c.requires.expected in
+    let was = counts half c.args.hand has.hand_is in
     let none : hand_in c.close_by.new.half.value ≡ None = ap hand_in c.close_by.ensures.half in
     let now = counts-none c.close_by.new.half none in
-    let seat = c.close_by.ensures.closes.seat_is in
-    let taken = ap (λ s. s.taken) seat in
-    let given = ap (λ s. s.given) seat in
-    let chunks = sum-set stolen_in halves (c.args.row - 1) half c.close_by.new.half at in
-    let more : ℕ = length c.close_by.result.0.chain in
-    let all : sum_by stolen_in (slice_set halves (c.args.row - 1) c.close_by.new.half) + c.close_by.new.seat.taken - c.close_by.new.seat.given ≡ sum_by stolen_in halves + c.self.inside.seat.taken - c.self.inside.seat.given + more =
-    omega (arith, was, now, taken, given, chunks, c.self.invariant.given)
-    in
-    out-more c.self.inside.slot c.args.slot s _ _ more own all
-    ∙ ap (λ (v : LiveRowsState). if s == c.args.slot then out_in v s + more else out_in v s) c.self.view_is
+    let taken = ap (λ s. s.taken) c.close_by.ensures.closes.seat_is in
+    out-own _ _ c.args.row c.args.slot half c.close_by.new.half _ c.close_by.new.seat s (length c.close_by.result.0.chain) c.self.view_is has c.self.invariant.given (ap (λ s. s.given) c.close_by.ensures.closes.seat_is)
+    (omega (arith, was, now, taken))

@@ -1,6 +1,5 @@
-use Rattle.std.proofs.Common.{◌≡◌, ℕ, suc, ◌+◌, List, [], ◌++◌, refl, ap, sym, ◌∙◌, subst, arith}
+use Rattle.std.proofs.Common.{◌≡◌, ℕ, ◌+◌, List, [], ◌++◌, refl, ap, sym, ◌∙◌, subst, arith}
 use Rattle.std.specs.Prelude.{Result, Ok, Err, IfOk, OnOk}
-use Rattle.std.specs.List.{All}
 use Rattle.std.proofs.lemmas.List.{append-nil}
 use Rattle.ep_defs.specs.Definitions.{definition_at}
 use Rattle.ep_defs.specs.Entry.{Entry}
@@ -12,7 +11,7 @@ use Rattle.ep_stream.specs.Sweep.{Taking, entries_in, named_after, named_behind,
 use Rattle.ep_stream.specs.Telling.{IsFaulty, IsTelling, Tells}
 use Rattle.ep_stream.proofs.Staying.{set_stays, set_more, slots_stay, slots_more}
 use Rattle.ep_stream.proofs.Telling.{told_after, tells_all, err_is, ok_is_no_fault, on_err}
-use Rattle.ep_stream.proofs.Sweep.{hands_stay, rows_at, rows_front, next_rows, all_within, taken_next, tells_next, tells_behind, tells_last, entries_in-append, records_in-append, failed_after, faulty_after, faulty_ok, faulty_err, rows_same}
+use Rattle.ep_stream.proofs.Sweep.{to-next, point-behind, rows_front, tells_next, tells_behind, tells_last, entries_in-append, records_in-append, failed_after, faulty_after, faulty_ok, faulty_err, rows_same}
 use Rattle.ep_stream.proofs.session.Session.sweep.Goals as goal
 
 pub loop-place-init : goal.loop-place-init
@@ -59,24 +58,18 @@ loop-place-preserved g c =
     let now = c.loop-place.rows in
     let after = c.sweep_row.new.rows in
     let events = c.args.events.now in
-    let place = c.loop-place.place in
     let m = c.in_ok-taken.ensures.swept in
     let first : List Taking = inv.takings in
     let more : List Taking = m.takings in
-    let row_is : place + 1 ≡ suc place = omega arith in
-    let here : All (λ t. t.row ≡ place + 1) more = rows_at more (place + 1) _ m.rows_are in
+    let to = to-next g.R.RowSet.tests_record g.R.RowSet.rows events first more c.loop-place.place old mid new rows now after (record { rows_are = inv.rows_are; below = inv.below; taken = inv.taken }) inv.set.records m.rows_are m.taken in
     let slot_is : (rest_of mid).seat.slot ≡ (rest_of old).seat.slot = ap (λ (r : Rest). r.seat.slot) inv.taken.rest in
-    let hand_is : hand_on mid (place + 1) ≡ hand_on old (place + 1) =
-    inv.taken.hands (place + 1)
-    ∙ hands_stay (hand_on old) first (place + 1) (λ k d small. let h = inv.below k d small in omega (arith, h))
-    in
     let stacks = (rest_of old).config.stackwalk in
     record {
       takings = first ++ more;
-      rows_are = next_rows (hand_on old) (hand_on mid) first more place (place + 1) row_is inv.rows_are m.rows_are hand_is;
-      below = all_within first more place (place + 1) row_is inv.below here;
+      rows_are = to.rows_are;
+      below = to.below;
       within = (let test = c.loop-place-test.true in let end = c.threads-place-end.ensures in omega (arith, test, end));
-      taken = taken_next g.R.RowSet.tests_record g.R.RowSet.rows events first more place (place + 1) old mid new rows now after row_is inv.below here inv.set.records inv.taken m.taken;
+      taken = to.taken;
       telling = λ before info told t.
           subst (λ (es : List Entry). IsTelling g.S.Sink.tells_taken g.S.Sink.taken before (definition_at events) info (told ++ es) (writer_of new))
           (sym (entries_in-append events stacks first more))
@@ -98,48 +91,38 @@ loop-place-preserved g c =
 pub returns-in_err-taken-clause-swept : goal.returns-in_err-taken-clause-swept
 returns-in_err-taken-clause-swept g c =
     let inv = c.loop-place.invariant in
+    let m = c.in_err-taken.ensures.swept in
     let old = c.args.self.now in
     let mid = c.loop-place.self in
     let new = c.sweep_row.new.self in
-    let rows = c.args.rows.now in
-    let now = c.loop-place.rows in
-    let after = c.sweep_row.new.rows in
     let events = c.args.events.now in
     let place = c.loop-place.place in
-    let count : ℕ = g.R.RowSet.count rows in
-    let m = c.in_err-taken.ensures.swept in
+    let count : ℕ = g.R.RowSet.count c.args.rows.now in
     let first : List Taking = inv.takings in
     let more : List Taking = m.takings in
     let fault : Fault = c.in_err-taken.field-0.0 in
     let result_is : c.from_residual.result ≡ Err fault = err_is _ _ c.from_residual.ensures.1 in
-    let row_is : place + 1 ≡ suc place = omega arith in
-    let here : All (λ t. t.row ≡ place + 1) more = rows_at more (place + 1) _ m.rows_are in
-    let hand_is : hand_on mid (place + 1) ≡ hand_on old (place + 1) =
-    inv.taken.hands (place + 1)
-    ∙ hands_stay (hand_on old) first (place + 1) (λ k d small. let h = inv.below k d small in omega (arith, h))
-    in
+    let to = to-next g.R.RowSet.tests_record g.R.RowSet.rows events first more place old mid new c.args.rows.now c.loop-place.rows c.sweep_row.new.rows (record { rows_are = inv.rows_are; below = inv.below; taken = inv.taken }) inv.set.records m.rows_are m.taken in
     let stacks = (rest_of old).config.stackwalk in
-    let rows_is : rows_of (first ++ more) ≡ open_rows (hand_on old) (place + 1) = next_rows (hand_on old) (hand_on mid) first more place (place + 1) row_is inv.rows_are m.rows_are hand_is in
     let front = rows_front (hand_on old) (place + 1) count (let test = c.loop-place-test.true in let end = c.threads-place-end.ensures in omega (arith, test, end)) in
-    let done = taken_next g.R.RowSet.tests_record g.R.RowSet.rows events first more place (place + 1) old mid new rows now after row_is inv.below here inv.set.records inv.taken m.taken in
     let last : List Entry = point_after (records_in (first ++ more)) c.args.stamp (named_after (rest_of old).named (first ++ more)) in
     record {
       takings = first ++ more;
       whole = subst (λ (r : Result ℕ Fault). OnOk r (rows_of (first ++ more) ≡ open_rows (hand_on old) count)) (sym result_is) tt;
-      front = (front.0, ap (λ (xs : List ℕ). xs ++ front.0) rows_is ∙ front.1);
-      were = done.were;
-      batched = done.batched;
-      told = done.told;
+      front = (front.0, ap (λ (xs : List ℕ). xs ++ front.0) to.rows_are ∙ front.1);
+      were = to.taken.were;
+      batched = to.taken.batched;
+      told = to.taken.told;
       writes = λ before info told t.
           subst (λ (r : Result ℕ Fault). Tells g.S.Sink.tells_taken g.S.Sink.taken before (definition_at events) info told (entries_in events stacks (first ++ more) ++ last) r (writer_of new)) (sym result_is)
           (subst (λ (es : List Entry). Tells {A = ℕ} g.S.Sink.tells_taken g.S.Sink.taken before (definition_at events) info told (es ++ last) (Err fault) (writer_of new)) (sym (entries_in-append events stacks first more))
           (tells_behind {A = ℕ} g.S.Sink.tells_taken g.S.Sink.taken before (definition_at events) info told (entries_in events stacks first) (entries_in events stacks more) last fault (writer_of new)
           (tells_next {A = ℕ} g.S.Sink.tells_taken g.S.Sink.taken before info told events first more old mid _ (Err fault) (writer_of new) inv.taken.rest
           (m.writes before info (told ++ entries_in events stacks first) (inv.telling before info told t)))));
-      hands = done.hands;
-      rest = done.rest ∙ ap (λ (ns : List Named). record (rest_of old) { named = ns; in_hand = 0 }) (sym (ap (λ (r : Rest). r.named) done.rest));
+      hands = to.taken.hands;
+      rest = to.taken.rest ∙ ap (λ (ns : List Named). record (rest_of old) { named = ns; in_hand = 0 }) (sym (ap (λ (r : Rest). r.named) to.taken.rest));
       named = subst (λ (r : Result ℕ Fault). OnOk r ((rest_of new).named ≡ named_behind (records_in (first ++ more)) (named_after (rest_of old).named (first ++ more)))) (sym result_is) tt;
-      unnamed = on_err c.from_residual.result (ap (λ (r : Rest). r.named) done.rest);
+      unnamed = on_err c.from_residual.result (ap (λ (r : Rest). r.named) to.taken.rest);
       counted = subst (λ (r : Result ℕ Fault). IfOk r (λ n. n ≡ records_in (first ++ more))) (sym result_is) tt;
     }
 
@@ -162,22 +145,16 @@ pub returns-clause-swept : goal.returns-clause-swept
 returns-clause-swept g c =
     let inv = c.loop-place.invariant in
     let old = c.args.self.now in
-    let mid = c.loop-place.self in
     let new = c.end_sweep.new.self in
     let events = c.args.events.now in
-    let count : ℕ = g.R.RowSet.count c.args.rows.now in
     let first : List Taking = inv.takings in
-    let names = (rest_of old).named in
-    let stacks = (rest_of old).config.stackwalk in
     let e = c.in_ok-end_sweep.ensures in
-    let named_is : (rest_of mid).named ≡ named_after names first = ap (λ (r : Rest). r.named) inv.taken.rest in
-    let last : List Entry = point_after c.loop-place.count c.args.stamp (rest_of mid).named in
-    let last_is : last ≡ point_after (records_in first) c.args.stamp (named_after names first) =
-    ap (λ (n : ℕ). point_after n c.args.stamp (rest_of mid).named) inv.counted
-    ∙ ap (λ (ns : List Named). point_after (records_in first) c.args.stamp ns) named_is
-    in
-    let place_is : c.loop-place.place ≡ count = (let test = c.loop-place-test.false in let end = c.threads-place-end.ensures in let within = inv.within in omega (arith, test, end, within)) in
-    let whole : rows_of first ≡ open_rows (hand_on old) count = inv.rows_are ∙ ap (open_rows (hand_on old)) place_is in
+    let stacks = (rest_of old).config.stackwalk in
+    let named_is = ap (λ (r : Rest). r.named) inv.taken.rest in
+    let last : List Entry = point_after c.loop-place.count c.args.stamp (rest_of c.loop-place.self).named in
+    let last_is = point-behind c.loop-place.count c.args.stamp _ (rest_of old).named first inv.counted named_is in
+    let place_is : c.loop-place.place ≡ g.R.RowSet.count c.args.rows.now = (let test = c.loop-place-test.false in let end = c.threads-place-end.ensures in let within = inv.within in omega (arith, test, end, within)) in
+    let whole = inv.rows_are ∙ ap (open_rows (hand_on old)) place_is in
     record {
       takings = first;
       whole = whole;
@@ -193,7 +170,7 @@ returns-clause-swept g c =
       hands = λ row. e.hands row ∙ inv.taken.hands row;
       rest = e.others ∙ ap (λ (r : Rest). record r { named = (rest_of new).named }) inv.taken.rest;
       named = e.named
-          ∙ ap (λ (n : ℕ). named_behind n (rest_of mid).named) inv.counted
+          ∙ ap (λ (n : ℕ). named_behind n (rest_of c.loop-place.self).named) inv.counted
           ∙ ap (λ (ns : List Named). named_behind (records_in first) ns) named_is;
       unnamed = tt;
       counted = inv.counted;
@@ -213,25 +190,21 @@ returns-clause-rows g c =
 pub returns-in_err-end_sweep-clause-swept : goal.returns-in_err-end_sweep-clause-swept
 returns-in_err-end_sweep-clause-swept g c =
     let inv = c.loop-place.invariant in
+    let e = c.in_err-end_sweep.ensures in
     let old = c.args.self.now in
-    let mid = c.loop-place.self in
     let new = c.end_sweep.new.self in
     let events = c.args.events.now in
-    let count : ℕ = g.R.RowSet.count c.args.rows.now in
     let first : List Taking = inv.takings in
     let names = (rest_of old).named in
     let stacks = (rest_of old).config.stackwalk in
-    let e = c.in_err-end_sweep.ensures in
     let fault : Fault = c.in_err-end_sweep.field-0.0 in
     let result_is : c.from_residual-in_err-end_sweep.result ≡ Err fault = err_is _ _ c.from_residual-in_err-end_sweep.ensures.1 in
-    let named_is : (rest_of mid).named ≡ named_after names first = ap (λ (r : Rest). r.named) inv.taken.rest in
-    let last : List Entry = point_after c.loop-place.count c.args.stamp (rest_of mid).named in
-    let last_is : last ≡ point_after (records_in first) c.args.stamp (named_after names first) =
-    ap (λ (n : ℕ). point_after n c.args.stamp (rest_of mid).named) inv.counted
-    ∙ ap (λ (ns : List Named). point_after (records_in first) c.args.stamp ns) named_is
-    in
+    let named_is = ap (λ (r : Rest). r.named) inv.taken.rest in
+    let last : List Entry = point_after c.loop-place.count c.args.stamp (rest_of c.loop-place.self).named in
+    let last_is = point-behind c.loop-place.count c.args.stamp _ names first inv.counted named_is in
+    let count : ℕ = g.R.RowSet.count c.args.rows.now in
     let place_is : c.loop-place.place ≡ count = (let test = c.loop-place-test.false in let end = c.threads-place-end.ensures in let within = inv.within in omega (arith, test, end, within)) in
-    let whole : rows_of first ≡ open_rows (hand_on old) count = inv.rows_are ∙ ap (open_rows (hand_on old)) place_is in
+    let whole = inv.rows_are ∙ ap (open_rows (hand_on old)) place_is in
     record {
       takings = first;
       whole = subst (λ (r : Result ℕ Fault). OnOk r (rows_of first ≡ open_rows (hand_on old) count)) (sym result_is) tt;

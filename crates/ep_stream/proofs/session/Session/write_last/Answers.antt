@@ -1,5 +1,5 @@
-use Rattle.std.proofs.Common.{◌≡◌, ℕ, true, false, List, [], ◌∷◌, ◌++◌, length, sym, subst, rules}
-use Rattle.std.specs.Prelude.{Result, Ok, Err}
+use Rattle.std.proofs.Common.{◌≡◌, ℕ, true, false, [], ◌∷◌, ◌++◌, length, sym, subst, rules}
+use Rattle.std.specs.Prelude.{Result, Err}
 use Rattle.ep_defs.specs.Definitions.{definition_at}
 use Rattle.ep_defs.specs.Entry.{PointEntry, Point}
 use Rattle.ep_rundown.specs.Rundown.{section, used, naming, with_rundown}
@@ -10,7 +10,7 @@ use Rattle.ep_stream.specs.Rundown.{last_definitions}
 use Rattle.ep_stream.specs.Session.{rest_of, last_entries, writer_of}
 use Rattle.ep_stream.specs.Telling.{Tells}
 use Rattle.ep_stream.proofs.Telling.{err_is}
-use Rattle.ep_stream.proofs.Describing.{tells_both, tells_err, tells_first, tells_plain, tells_described}
+use Rattle.ep_stream.proofs.Describing.{tells_both, tells_first, tells_plain, tells_described}
 use Rattle.ep_stream.proofs.session.Session.write_last.Goals as goal
 
 pub returns-then-not-self-clause-writes : goal.returns-then-not-self-clause-writes
