@@ -177,6 +177,25 @@ shown_at rows columns row slot write shown old now column new row_is column_is h
     subst (λ (x : RowState). ShownIn slot write shown x now (pool_at columns slot) (pool_in new) (open_at columns row slot) (cell_in new row)) row_is
     (subst (λ (x : Option Column). ShownIn slot write shown old now (pool_in x) (pool_in new) (cell_in x row) (cell_in new row)) column_is h)
 
+-- What was shown on a row and in a column that were lent, as the rows and columns had them.
+pub record ShownLent (rows : List RowState) (columns : List (Option Column)) (row slot : ℕ) (write : Write) (shown : Shown) (now : RowState) (column new : Option Column) : Type 0 where
+  pub column_is : column ≡ slice_index_or columns slot None
+  pub set : IsSetAt row slot (cell_in new row) (open_at columns) (open_at (slice_set columns slot new))
+  pub is : ShownIn slot write shown (row_at rows row) now (pool_at columns slot) (pool_in new) (open_at columns row slot) (cell_in new row)
+
+pub shown_lent : (rows : List RowState) (columns : List (Option Column)) (row slot : ℕ) (write : Write) (shown : Shown) (old now : RowState) (column new : Option Column) → 0 < row → row ≤ length rows
+    → slot < length columns → old ≡ slice_index_or rows (row - 1) old → column ≡ slice_index_or columns slot column
+    → ((r : ℕ) → cell_in new r ≡ (if r == row then cell_in new row else cell_in column r))
+    → ShownIn slot write shown old now (pool_in column) (pool_in new) (cell_in column row) (cell_in new row) → ShownLent rows columns row slot write shown now column new
+shown_lent rows columns row slot write shown old now column new some within in_slots row_lent column_lent others is =
+    let column_is = lent_column columns slot column in_slots column_lent in
+    record {
+      column_is = column_is;
+      set = cell_set columns slot row (cell_in new row) new in_slots
+          (subst (λ (x : Option Column). (r : ℕ) → cell_in new r ≡ (if r == row then cell_in new row else cell_in x r)) column_is others);
+      is = shown_at rows columns row slot write shown old now column new (lent_row rows row old some within row_lent) column_is is;
+    }
+
 pub show_known : (rows : List RowState) (columns : List (Option Column)) (row slot : ℕ) (write : Write) (shown : Shown) (now : RowState) (new : Option Column) → 0 < row → row ≤ length rows
     → IsSetAt row slot (cell_in new row) (open_at columns) (open_at (slice_set columns slot new))
     → ShownIn slot write shown (row_at rows row) now (pool_at columns slot) (pool_in new) (open_at columns row slot) (cell_in new row)
