@@ -4,7 +4,9 @@
 # follow. In the other 60 sessions are open on 15 threads, over 1,000 definitions. For each it prints the instructions
 # for a line more, as callgrind counts them (valgrind, a Debian package), the lines a second, and time and peak memory
 # beside `cat` of the same input, as ratios measured in one run; and the memory for a schedule of twice the length. The
-# report on the first stream, which it prints too, counts what was refused. It needs python3, valgrind and GNU time.
+# report on the first stream, which it prints too, counts what was refused. Last come the instructions for a line more of
+# one session with 64 sessions in place of one, with 256 threads, and with 1,000 definitions. It needs python3, valgrind
+# and GNU time.
 here=$(cd "$(dirname "$0")/.." && pwd) || exit 1
 runs=${1:-20}
 work=$(mktemp -d) || exit 1
@@ -54,6 +56,26 @@ def many_sessions(rounds):
         yield f"finish {session} {600 * rounds}"
 
 
+def one_among(sessions, threads, events):
+    """Schedules of one session, the oldest of so many, that gets the events of so many definitions of so many threads."""
+    def schedule(rounds):
+        for event in range(1, events + 1):
+            yield f"event {event} P {event} 0 4 1 E{event} -"
+        for session in range(1, sessions + 1):
+            yield f"accept {session} {2 * threads} {'P' if session == 1 else 'Q'}:1:4"
+        yield from (f"open 1 {thread}" for thread in range(1, threads + 1))
+        for write in range(600 * rounds):
+            thread = 1 + write % threads
+            yield from (f"begin {thread} {write} {1 + write % events} - - - 2a2a", f"show {thread} 1", f"end {thread}")
+            if write % 600 == 599:
+                for stolen in range(1, threads + 1):
+                    yield from (f"steal 1 {stolen}", "give 1")
+        for thread in range(1, threads + 1):
+            yield from (f"close 1 {thread}", "give 1")
+        yield from (f"finish {session} {600 * rounds}" for session in range(1, sessions + 1))
+    return schedule
+
+
 def run(words, source):
     with open(f"{work}/{source}", "rb") as given:
         return subprocess.run(words, stdin=given, stdout=subprocess.PIPE, stderr=subprocess.PIPE, check=True)
@@ -88,9 +110,14 @@ def seconds_of(words, source):
     return least
 
 
-for title, schedule, rounds in (("one session, one chunk", one_session, 20), ("60 sessions, 15 threads", many_sessions, 10)):
+def instructions_a_line(schedule, rounds):
+    """Those for a line more, and the lines of a schedule of so many rounds and of one of twice as many."""
     few, many = put(schedule, rounds, "few"), put(schedule, 2 * rounds, "many")
-    more = (instructions_of("many") - instructions_of("few")) / (many - few)
+    return (instructions_of("many") - instructions_of("few")) / (many - few), few, many
+
+
+for title, schedule, rounds in (("one session, one chunk", one_session, 20), ("60 sessions, 15 threads", many_sessions, 10)):
+    more, few, many = instructions_a_line(schedule, rounds)
     most = put(schedule, 10 * rounds, "most")
     seconds, seconds_of_cat = seconds_of([program, "replay"], "most"), seconds_of(["cat"], "most")
     stream = run([program, "replay"], "many").stdout
@@ -102,4 +129,7 @@ for title, schedule, rounds in (("one session, one chunk", one_session, 20), ("6
         with open(f"{work}/stream", "wb") as out:
             out.write(stream)
         print("  " + run([program, "report"], "stream").stdout.decode().splitlines()[-17])
+for among in ((1, 1, 1), (64, 1, 1), (1, 256, 1), (1, 1, 1000)):
+    more, _, _ = instructions_a_line(one_among(*among), 5)
+    print("%d of %d sessions, %d threads, %d definitions: " % (1, *among) + f"{more:.0f} instructions for a line more")
 MEASURE

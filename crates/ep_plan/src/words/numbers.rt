@@ -20,6 +20,7 @@ pub fn hexadecimal(word: &[u8]) -> Option<u64>
 }
 
 // The number that 1 to `places` digits spell, where it has 64 bits.
+#[inline(always)]
 fn numeral(word: &[u8], base: u32, places: usize) -> Option<u64>
     requires low { 2 ≤ base }
     requires high { base ≤ 36 }

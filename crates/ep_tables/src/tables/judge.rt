@@ -107,14 +107,20 @@ impl Tables {
         let Some(row) = self.row_there(thread) else {
             return Err(Kind::NoThread);
         };
-        let objections = [
-            (self.rows.in_write(row), Kind::InWrite),
-            (self.lacks_event(write.event), Kind::NoEvent),
-            (!write.fits(), Kind::TooLarge),
-            (SCHEDULE_WRITES <= self.begins, Kind::TooMany),
-        ];
+        if self.rows.in_write(row) {
+            return Err(Kind::InWrite);
+        }
+        if self.lacks_event(write.event) {
+            return Err(Kind::NoEvent);
+        }
+        if !write.fits() {
+            return Err(Kind::TooLarge);
+        }
+        if SCHEDULE_WRITES <= self.begins {
+            return Err(Kind::TooMany);
+        }
         let on = OnRow { thread, row };
-        unless(&objections, Judged::Begin { on, stamp, write })
+        Ok(Judged::Begin { on, stamp, write })
     }
 
     fn to_show(&self, thread: u32, session: u32) -> Result<Judged, Kind>
@@ -127,11 +133,13 @@ impl Tables {
             return Err(Kind::NoSession);
         };
         let slot = self.present[place].slot;
-        let objections = [
-            (!self.rows.in_write(row), Kind::NotInWrite),
-            (!has_bit(self.rows.due(row), slot), Kind::NotDue),
-        ];
-        unless(&objections, Judged::Show(both(session, place, thread, row)))
+        if !self.rows.in_write(row) {
+            return Err(Kind::NotInWrite);
+        }
+        if !has_bit(self.rows.due(row), slot) {
+            return Err(Kind::NotDue);
+        }
+        Ok(Judged::Show(both(session, place, thread, row)))
     }
 
     fn to_end(&self, thread: u32) -> Result<Judged, Kind>
@@ -140,11 +148,13 @@ impl Tables {
         let Some(row) = self.row_there(thread) else {
             return Err(Kind::NoThread);
         };
-        let objections = [
-            (!self.rows.in_write(row), Kind::NotInWrite),
-            (self.rows.due(row) != 0, Kind::ShowsDue),
-        ];
-        unless(&objections, Judged::End(OnRow { thread, row }))
+        if !self.rows.in_write(row) {
+            return Err(Kind::NotInWrite);
+        }
+        if self.rows.due(row) != 0 {
+            return Err(Kind::ShowsDue);
+        }
+        Ok(Judged::End(OnRow { thread, row }))
     }
 
     // The session and the row of a thread on which it is open.

@@ -1,32 +1,80 @@
-use Rattle.std.proofs.Common.{refl, ap, sym, ◌∙◌}
+use Rattle.std.proofs.Common.{◌≡◌, true, false, refl, ap, sym, ◌∙◌}
+use Rattle.std.proofs.lemmas.Bool.{le-leb, lt-leb}
 use Rattle.std.specs.Prelude.{not, is_none, nat_le}
 use Rattle.ep_defs.specs.declared.limits.TheConstants.{SCHEDULE_WRITES}
 use Rattle.ep_defs.specs.Definitions.{definition_at}
-use Rattle.ep_model.specs.declared.step.Step.TheVariants as step
-use Rattle.ep_tables.specs.declared.judged.Judged.TheVariants as judged
-use Rattle.ep_tables.specs.declared.judged.OnRow.{OnRow}
-use Rattle.ep_tables.specs.Judged.{Finds}
 use Rattle.ep_tables.proofs.Found.{row_found, in_write_found}
-use Rattle.ep_tables.proofs.Judging.{stop, pass, alike, found_as}
+use Rattle.ep_tables.proofs.Judging.{stop, pass}
 use Rattle.ep_tables.proofs.tables.Tables.to_begin.Goals as goal
 
 pub returns-in_default : goal.returns-in_default
 returns-in_default c = record { kind_is = λ events past h. stop _ _ _ (ap not (sym (c.in_default.ensures.there events past h))); found = tt }
 
-pub returns : goal.returns
-returns c =
-    let tables = c.args.self.now in
-    let write = c.args.write in
-    let on : OnRow = record { thread = c.args.thread; row = c.in-Some.row } in
+pub returns-then-in_write : goal.returns-then-in_write
+returns-then-in_write c = record {
+  kind_is = λ events past h.
+      let found = row_found events past c.args.self.now c.args.thread c.in-Some.row h (sym c.in-Some.ensures.own) in
+      let writes = c.in_write.ensures ∙ in_write_found past c.args.self.now c.args.thread c.in-Some.row found in
+      pass _ _ _ _ (ap not (sym (c.in-Some.ensures.there events past h)))
+      (stop _ _ _ (sym writes ∙ c.if-in_write.true));
+  found = tt;
+}
+
+pub returns-then-lacks_event : goal.returns-then-lacks_event
+returns-then-lacks_event c = record {
+  kind_is = λ events past h.
+      let found = row_found events past c.args.self.now c.args.thread c.in-Some.row h (sym c.in-Some.ensures.own) in
+      let writes = c.in_write.ensures ∙ in_write_found past c.args.self.now c.args.thread c.in-Some.row found in
+      let lacks = c.lacks_event.ensures ∙ ap (λ list. is_none (definition_at list c.args.write.event)) h.events_are in
+      pass _ _ _ _ (ap not (sym (c.in-Some.ensures.there events past h)))
+      (pass _ _ _ _ (sym writes ∙ c.if-in_write.false)
+      (stop _ _ _ (sym lacks ∙ c.if-lacks_event.true)));
+  found = tt;
+}
+
+pub returns-then-not-fits : goal.returns-then-not-fits
+returns-then-not-fits c =
+    let large : not c.fits.result ≡ true = cc in
     record {
       kind_is = λ events past h.
-          let found = row_found events past tables c.args.thread c.in-Some.row h (sym c.in-Some.ensures.own) in
+          let found = row_found events past c.args.self.now c.args.thread c.in-Some.row h (sym c.in-Some.ensures.own) in
+          let writes = c.in_write.ensures ∙ in_write_found past c.args.self.now c.args.thread c.in-Some.row found in
+          let lacks = c.lacks_event.ensures ∙ ap (λ list. is_none (definition_at list c.args.write.event)) h.events_are in
           pass _ _ _ _ (ap not (sym (c.in-Some.ensures.there events past h)))
-          (c.unless.ensures.kind_is
-          ∙ alike _ _ _ _ _ (c.in_write.ensures ∙ in_write_found past tables c.args.thread c.in-Some.row found)
-          (alike _ _ _ _ _ (c.lacks_event.ensures ∙ ap (λ list. is_none (definition_at list write.event)) h.events_are)
-          (alike _ _ _ _ _ (ap not c.fits.ensures)
-          (alike _ _ _ _ _ (ap (nat_le SCHEDULE_WRITES) (sym h.begins_are)) refl))));
-      found = found_as c.unless.result (Finds tables (step.Begin c.args.thread c.args.stamp write)) (judged.Begin on c.args.stamp write) c.unless.ensures.same
-          (record { step_is = refl; there = record { own = c.in-Some.ensures.own; is_row = c.in-Some.ensures.row } });
+          (pass _ _ _ _ (sym writes ∙ c.if-in_write.false)
+          (pass _ _ _ _ (sym lacks ∙ c.if-lacks_event.false)
+          (stop _ _ _ (sym (ap not c.fits.ensures) ∙ large))));
+      found = tt;
+    }
+
+pub returns-then-self-ge-SCHEDULE_WRITES : goal.returns-then-self-ge-SCHEDULE_WRITES
+returns-then-self-ge-SCHEDULE_WRITES c =
+    let small : not c.fits.result ≡ false = cc in
+    record {
+      kind_is = λ events past h.
+          let found = row_found events past c.args.self.now c.args.thread c.in-Some.row h (sym c.in-Some.ensures.own) in
+          let writes = c.in_write.ensures ∙ in_write_found past c.args.self.now c.args.thread c.in-Some.row found in
+          let lacks = c.lacks_event.ensures ∙ ap (λ list. is_none (definition_at list c.args.write.event)) h.events_are in
+          pass _ _ _ _ (ap not (sym (c.in-Some.ensures.there events past h)))
+          (pass _ _ _ _ (sym writes ∙ c.if-in_write.false)
+          (pass _ _ _ _ (sym lacks ∙ c.if-lacks_event.false)
+          (pass _ _ _ _ (sym (ap not c.fits.ensures) ∙ small)
+          (stop _ _ _ (ap (nat_le SCHEDULE_WRITES) h.begins_are ∙ le-leb SCHEDULE_WRITES c.args.self.now.begins c.if-self-ge-SCHEDULE_WRITES.true)))));
+      found = tt;
+    }
+
+pub returns : goal.returns
+returns c =
+    let small : not c.fits.result ≡ false = cc in
+    record {
+      kind_is = λ events past h.
+          let found = row_found events past c.args.self.now c.args.thread c.in-Some.row h (sym c.in-Some.ensures.own) in
+          let writes = c.in_write.ensures ∙ in_write_found past c.args.self.now c.args.thread c.in-Some.row found in
+          let lacks = c.lacks_event.ensures ∙ ap (λ list. is_none (definition_at list c.args.write.event)) h.events_are in
+          pass _ _ _ _ (ap not (sym (c.in-Some.ensures.there events past h)))
+          (pass _ _ _ _ (sym writes ∙ c.if-in_write.false)
+          (pass _ _ _ _ (sym lacks ∙ c.if-lacks_event.false)
+          (pass _ _ _ _ (sym (ap not c.fits.ensures) ∙ small)
+          (pass _ _ _ _ (ap (nat_le SCHEDULE_WRITES) h.begins_are ∙ lt-leb SCHEDULE_WRITES c.args.self.now.begins c.if-self-ge-SCHEDULE_WRITES.false) refl))));
+      found = record { step_is = refl; there = record { own = c.in-Some.ensures.own; is_row = c.in-Some.ensures.row } };
     }

@@ -1,28 +1,45 @@
-use Rattle.std.proofs.Common.{refl, ap, sym, ◌∙◌}
+use Rattle.std.proofs.Common.{◌≡◌, true, false, refl, ap, sym, ◌∙◌}
+use Rattle.std.proofs.lemmas.Bool.{eq-eqb, ne_eqb}
 use Rattle.std.specs.Prelude.{not, ◌==◌}
-use Rattle.ep_model.specs.declared.step.Step.TheVariants as step
-use Rattle.ep_tables.specs.declared.judged.Judged.TheVariants as judged
-use Rattle.ep_tables.specs.declared.judged.OnRow.{OnRow}
-use Rattle.ep_tables.specs.Judged.{Finds}
 use Rattle.ep_tables.proofs.Found.{row_found, in_write_found}
 use Rattle.ep_tables.proofs.Slots.{has_due_found}
-use Rattle.ep_tables.proofs.Judging.{stop, pass, alike, found_as}
+use Rattle.ep_tables.proofs.Judging.{stop, pass}
 use Rattle.ep_tables.proofs.tables.Tables.to_end.Goals as goal
 
 pub returns-in_default : goal.returns-in_default
 returns-in_default c = record { kind_is = λ events past h. stop _ _ _ (ap not (sym (c.in_default.ensures.there events past h))); found = tt }
 
-pub returns : goal.returns
-returns c =
-    let tables = c.args.self.now in
-    let on : OnRow = record { thread = c.args.thread; row = c.in-Some.row } in
+pub returns-then-not-in_write : goal.returns-then-not-in_write
+returns-then-not-in_write c =
+    let quiet : not c.in_write.result ≡ true = cc in
     record {
       kind_is = λ events past h.
-          let found = row_found events past tables c.args.thread c.in-Some.row h (sym c.in-Some.ensures.own) in
+          let found = row_found events past c.args.self.now c.args.thread c.in-Some.row h (sym c.in-Some.ensures.own) in
           pass _ _ _ _ (ap not (sym (c.in-Some.ensures.there events past h)))
-          (c.unless.ensures.kind_is
-          ∙ alike _ _ _ _ _ (ap not (c.in_write.ensures ∙ in_write_found past tables c.args.thread c.in-Some.row found))
-          (alike _ _ _ _ _ (ap (λ due. not (due == 0)) c.due.ensures ∙ has_due_found events past tables c.args.thread c.in-Some.row h found) refl));
-      found = found_as c.unless.result (Finds tables (step.End c.args.thread)) (judged.End on) c.unless.ensures.same
-          (record { step_is = refl; there = record { own = c.in-Some.ensures.own; is_row = c.in-Some.ensures.row } });
+          (stop _ _ _ (sym (ap not (c.in_write.ensures ∙ in_write_found past c.args.self.now c.args.thread c.in-Some.row found)) ∙ quiet));
+      found = tt;
+    }
+
+pub returns-then-due-ne0 : goal.returns-then-due-ne0
+returns-then-due-ne0 c =
+    let writing : not c.in_write.result ≡ false = cc in
+    record {
+      kind_is = λ events past h.
+          let found = row_found events past c.args.self.now c.args.thread c.in-Some.row h (sym c.in-Some.ensures.own) in
+          pass _ _ _ _ (ap not (sym (c.in-Some.ensures.there events past h)))
+          (pass _ _ _ _ (sym (ap not (c.in_write.ensures ∙ in_write_found past c.args.self.now c.args.thread c.in-Some.row found)) ∙ writing)
+          (stop _ _ _ (sym (ap (λ due. not (due == 0)) c.due.ensures ∙ has_due_found events past c.args.self.now c.args.thread c.in-Some.row h found) ∙ ap not (ne_eqb c.due.result 0 c.if-due-ne0.true))));
+      found = tt;
+    }
+
+pub returns : goal.returns
+returns c =
+    let writing : not c.in_write.result ≡ false = cc in
+    record {
+      kind_is = λ events past h.
+          let found = row_found events past c.args.self.now c.args.thread c.in-Some.row h (sym c.in-Some.ensures.own) in
+          pass _ _ _ _ (ap not (sym (c.in-Some.ensures.there events past h)))
+          (pass _ _ _ _ (sym (ap not (c.in_write.ensures ∙ in_write_found past c.args.self.now c.args.thread c.in-Some.row found)) ∙ writing)
+          (pass _ _ _ _ (sym (ap (λ due. not (due == 0)) c.due.ensures ∙ has_due_found events past c.args.self.now c.args.thread c.in-Some.row h found) ∙ ap not (eq-eqb c.due.result 0 c.if-due-ne0.false)) refl));
+      found = record { step_is = refl; there = record { own = c.in-Some.ensures.own; is_row = c.in-Some.ensures.row } };
     }

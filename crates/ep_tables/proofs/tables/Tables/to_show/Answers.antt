@@ -1,4 +1,4 @@
-use Rattle.std.proofs.Common.{None, refl, ap, sym, ◌∙◌, subst}
+use Rattle.std.proofs.Common.{◌≡◌, true, false, None, refl, ap, sym, ◌∙◌, subst}
 use Rattle.std.specs.Prelude.{not, ◌==◌}
 use Rattle.std.specs.Int.{bit_at}
 use Rattle.ep_model.specs.declared.step.Step.TheVariants as step
@@ -6,7 +6,7 @@ use Rattle.ep_tables.specs.declared.judged.Judged.TheVariants as judged
 use Rattle.ep_tables.specs.declared.judged.OnBoth.{OnBoth}
 use Rattle.ep_tables.specs.Judged.{Finds}
 use Rattle.ep_tables.proofs.Found.{present_found, session_found, row_found, in_write_found, owed_found}
-use Rattle.ep_tables.proofs.Judging.{stop, pass, alike, found_as}
+use Rattle.ep_tables.proofs.Judging.{stop, pass}
 use Rattle.ep_tables.proofs.tables.Tables.to_show.Goals as goal
 
 pub returns-in_default : goal.returns-in_default
@@ -21,22 +21,53 @@ returns-in_default-place_of c =
       found = tt;
     }
 
-pub returns : goal.returns
-returns c =
-    let tables = c.args.self.now in
-    let row = c.in-Some.row in
-    let place = c.in-Some-place_of.place in
-    let present = c.index.result.now in
+pub returns-then-not-in_write : goal.returns-then-not-in_write
+returns-then-not-in_write c =
+    let quiet : not c.in_write.result ≡ true = cc in
     record {
       kind_is = λ events past h.
-          let at = session_found events past tables c.args.session place present h c.in-Some-place_of.ensures c.index.ensures in
-          let found = row_found events past tables c.args.thread row h (sym c.in-Some.ensures.own) in
+          let found = row_found events past c.args.self.now c.args.thread c.in-Some.row h (sym c.in-Some.ensures.own) in
+          let writes = ap not (c.in_write.ensures ∙ in_write_found past c.args.self.now c.args.thread c.in-Some.row found) in
           pass _ _ _ _ (ap not (sym (c.in-Some.ensures.there events past h)))
-          (pass _ _ _ _ (ap not (sym (present_found events past tables c.args.session _ h c.in-Some-place_of.ensures)))
-          (c.unless.ensures.kind_is
-          ∙ alike _ _ _ _ _ (ap not (c.in_write.ensures ∙ in_write_found past tables c.args.thread row found))
-          (alike _ _ _ _ _ (ap not (c.has_bit.ensures ∙ ap (λ due. bit_at due present.slot == 1) c.due.ensures ∙ owed_found events past tables c.args.session c.args.thread row present at found)) refl)));
-      found = found_as c.unless.result (Finds tables (step.Show c.args.thread c.args.session)) (judged.Show c.both.result) c.unless.ensures.same
-          (subst (λ (both : OnBoth). Finds tables (step.Show c.args.thread c.args.session) (judged.Show both)) (sym c.both.ensures)
-          (record { step_is = refl; there = record { of = sym c.in-Some-place_of.ensures; on = record { own = c.in-Some.ensures.own; is_row = c.in-Some.ensures.row } } }));
+          (pass _ _ _ _ (ap not (sym (present_found events past c.args.self.now c.args.session _ h c.in-Some-place_of.ensures)))
+          (stop _ _ _ (sym writes ∙ quiet)));
+      found = tt;
+    }
+
+pub returns-then-not-has_bit : goal.returns-then-not-has_bit
+returns-then-not-has_bit c =
+    let writing : not c.in_write.result ≡ false = cc in
+    let seen : not c.has_bit.result ≡ true = cc in
+    record {
+      kind_is = λ events past h.
+          let found = row_found events past c.args.self.now c.args.thread c.in-Some.row h (sym c.in-Some.ensures.own) in
+          let writes = ap not (c.in_write.ensures ∙ in_write_found past c.args.self.now c.args.thread c.in-Some.row found) in
+          let present = c.index.result.now in
+          let at = session_found events past c.args.self.now c.args.session c.in-Some-place_of.place present h c.in-Some-place_of.ensures c.index.ensures in
+          let owed = ap not (c.has_bit.ensures ∙ ap (λ due. bit_at due present.slot == 1) c.due.ensures ∙ owed_found events past c.args.self.now c.args.session c.args.thread c.in-Some.row present at found) in
+          pass _ _ _ _ (ap not (sym (c.in-Some.ensures.there events past h)))
+          (pass _ _ _ _ (ap not (sym (present_found events past c.args.self.now c.args.session _ h c.in-Some-place_of.ensures)))
+          (pass _ _ _ _ (sym writes ∙ writing)
+          (stop _ _ _ (sym owed ∙ seen))));
+      found = tt;
+    }
+
+pub returns : goal.returns
+returns c =
+    let writing : not c.in_write.result ≡ false = cc in
+    let due : not c.has_bit.result ≡ false = cc in
+    record {
+      kind_is = λ events past h.
+          let found = row_found events past c.args.self.now c.args.thread c.in-Some.row h (sym c.in-Some.ensures.own) in
+          let writes = ap not (c.in_write.ensures ∙ in_write_found past c.args.self.now c.args.thread c.in-Some.row found) in
+          let present = c.index.result.now in
+          let at = session_found events past c.args.self.now c.args.session c.in-Some-place_of.place present h c.in-Some-place_of.ensures c.index.ensures in
+          let owed = ap not (c.has_bit.ensures ∙ ap (λ due. bit_at due present.slot == 1) c.due.ensures ∙ owed_found events past c.args.self.now c.args.session c.args.thread c.in-Some.row present at found) in
+          pass _ _ _ _ (ap not (sym (c.in-Some.ensures.there events past h)))
+          (pass _ _ _ _ (ap not (sym (present_found events past c.args.self.now c.args.session _ h c.in-Some-place_of.ensures)))
+          (pass _ _ _ _ (sym writes ∙ writing)
+          (pass _ _ _ _ (sym owed ∙ due) refl)));
+      found =
+          subst (λ (both : OnBoth). Finds c.args.self.now (step.Show c.args.thread c.args.session) (judged.Show both)) (sym c.both.ensures)
+          (record { step_is = refl; there = record { of = sym c.in-Some-place_of.ensures; on = record { own = c.in-Some.ensures.own; is_row = c.in-Some.ensures.row } } });
     }
