@@ -1,2 +1,3 @@
--- Why a call has no result.
+-- Why a call has no result, and what was said then.
 pub mod Fault
+pub mod Said

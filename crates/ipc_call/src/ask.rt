@@ -4,6 +4,7 @@ ghost use Rattle.pt_io.specs.Taken.{TookAll, TookPart};
 ghost use Rattle.ipc_body.specs.Reply.{reply_of, IsReplyTo};
 ghost use Rattle.ipc_take.specs.Own.{own_bytes};
 ghost use Rattle.ipc_take.specs.Given.{Gave, HasFailed, IsSound};
+ghost use Rattle.ipc_call.specs.Said.{SaysBadly, LosesNothing};
 ghost use Rattle.ipc_call.specs.declared.fault.CallFault.TheVariants.{BadReply, LinkFault, OutOfMemory};
 
 use crate::fault::CallFault;
@@ -23,11 +24,9 @@ pub(crate) fn ask<L: Link>(
         → IfOk result (λ reply. reply_of wants_info (own_bytes (L.left link.old)) ≡ Ok reply) }
     ensures gave { OnOk result (Gave L.tells_given L.given L.left link.old link.new (own_bytes (L.left link.old))) }
     ensures kind { IfOk result (IsReplyTo wants_info) }
-    ensures bad { (at : ℕ) → result ≡ Err (BadReply at) → IsTrue (L.tells_given link.old)
-        → reply_of wants_info (own_bytes (L.left link.old)) ≡ Err at }
+    ensures bad { SaysBadly (L.tells_given link.old) wants_info (L.left link.old) result }
     ensures told { L.tells_given link.new ≡ L.tells_given link.old }
-    ensures whole { IsTrue (L.tells_given link.old)
-        → L.given link.new ++ L.left link.new ≡ L.given link.old ++ L.left link.old }
+    ensures whole { LosesNothing L.tells_given L.given L.left link.old link.new }
 
     // What the link took.
     ensures tells { L.tells_taken link.new ≡ L.tells_taken link.old }

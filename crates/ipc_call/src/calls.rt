@@ -8,6 +8,7 @@ ghost use Rattle.ipc_body.specs.Reply.{reply_of, IsReplyTo};
 ghost use Rattle.ipc_body.specs.declared.reply.Reply.TheVariants as replies;
 ghost use Rattle.ipc_take.specs.Own.{own_bytes, later_bytes};
 ghost use Rattle.ipc_take.specs.Given.{Gave, HasFailed, IsSound};
+ghost use Rattle.ipc_call.specs.Said.{SaysError, SaysBadly, LosesNothing};
 ghost use Rattle.ipc_call.specs.declared.fault.CallFault.TheVariants.{PeerError, BadReply, LinkFault, WriteFault};
 
 use crate::ask::ask;
@@ -32,10 +33,8 @@ pub fn collect<L: Link, O: Sink>(
     // What the peer said, where the link tells it.
     ensures session { IsTrue (L.tells_given link.old)
         → IfOk result (λ id. reply_of false (own_bytes (L.left link.old)) ≡ Ok (replies.Session id)) }
-    ensures error { (code : ℕ) → result ≡ Err (PeerError code) → IsTrue (L.tells_given link.old)
-        → reply_of false (own_bytes (L.left link.old)) ≡ Ok (replies.Error code) }
-    ensures bad { (at : ℕ) → result ≡ Err (BadReply at) → IsTrue (L.tells_given link.old)
-        → reply_of false (own_bytes (L.left link.old)) ≡ Err at }
+    ensures error { SaysError (L.tells_given link.old) false (L.left link.old) result }
+    ensures bad { SaysBadly (L.tells_given link.old) false (L.left link.old) result }
 
     // The output takes what comes after the reply, up to the link's end.
     ensures read { IsTrue (L.tells_given link.old) → OnOk result (L.left link.new ≡ []) }
@@ -50,8 +49,7 @@ pub fn collect<L: Link, O: Sink>(
 
     // It has what it had: what it gave then and what it has left.
     ensures told { L.tells_given link.new ≡ L.tells_given link.old }
-    ensures whole { IsTrue (L.tells_given link.old)
-        → L.given link.new ++ L.left link.new ≡ L.given link.old ++ L.left link.old }
+    ensures whole { LosesNothing L.tells_given L.given L.left link.old link.new }
 
     // The link takes the request.
     ensures tells { L.tells_taken link.new ≡ L.tells_taken link.old }
@@ -79,15 +77,12 @@ pub fn stop<L: Link>(alloc: Global, link: &mut L, id: u64) -> Result<u64, CallFa
     // What the peer said, where the link tells it.
     ensures session { IsTrue (L.tells_given link.old)
         → IfOk result (λ id. reply_of false (own_bytes (L.left link.old)) ≡ Ok (replies.Session id)) }
-    ensures error { (code : ℕ) → result ≡ Err (PeerError code) → IsTrue (L.tells_given link.old)
-        → reply_of false (own_bytes (L.left link.old)) ≡ Ok (replies.Error code) }
-    ensures bad { (at : ℕ) → result ≡ Err (BadReply at) → IsTrue (L.tells_given link.old)
-        → reply_of false (own_bytes (L.left link.old)) ≡ Err at }
+    ensures error { SaysError (L.tells_given link.old) false (L.left link.old) result }
+    ensures bad { SaysBadly (L.tells_given link.old) false (L.left link.old) result }
 
     // It has what it had: what it gave then and what it has left. What comes after the reply is left unread.
     ensures told { L.tells_given link.new ≡ L.tells_given link.old }
-    ensures whole { IsTrue (L.tells_given link.old)
-        → L.given link.new ++ L.left link.new ≡ L.given link.old ++ L.left link.old }
+    ensures whole { LosesNothing L.tells_given L.given L.left link.old link.new }
     ensures unread { OnOk result (Gave L.tells_given L.given L.left link.old link.new (own_bytes (L.left link.old))) }
 
     // The link takes the request.
@@ -111,15 +106,12 @@ pub fn info<L: Link>(alloc: Global, link: &mut L) -> Result<ProcessInfo, CallFau
     // What the peer said, where the link tells it.
     ensures info { IsTrue (L.tells_given link.old)
         → IfOk result (λ info. reply_of true (own_bytes (L.left link.old)) ≡ Ok (replies.Info info)) }
-    ensures error { (code : ℕ) → result ≡ Err (PeerError code) → IsTrue (L.tells_given link.old)
-        → reply_of true (own_bytes (L.left link.old)) ≡ Ok (replies.Error code) }
-    ensures bad { (at : ℕ) → result ≡ Err (BadReply at) → IsTrue (L.tells_given link.old)
-        → reply_of true (own_bytes (L.left link.old)) ≡ Err at }
+    ensures error { SaysError (L.tells_given link.old) true (L.left link.old) result }
+    ensures bad { SaysBadly (L.tells_given link.old) true (L.left link.old) result }
 
     // It has what it had: what it gave then and what it has left. What comes after the reply is left unread.
     ensures told { L.tells_given link.new ≡ L.tells_given link.old }
-    ensures whole { IsTrue (L.tells_given link.old)
-        → L.given link.new ++ L.left link.new ≡ L.given link.old ++ L.left link.old }
+    ensures whole { LosesNothing L.tells_given L.given L.left link.old link.new }
     ensures unread { OnOk result (Gave L.tells_given L.given L.left link.old link.new (own_bytes (L.left link.old))) }
 
     // The link takes the request.

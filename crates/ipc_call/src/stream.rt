@@ -3,6 +3,7 @@ ghost use Rattle.std.specs.Prelude.{◌≡◌, ◌≢◌, ◌++◌, ◌⊎◌, �
 ghost use Rattle.pt_io.specs.Faults.{HasRisen};
 ghost use Rattle.pt_io.specs.Taken.{TookAll, TookPart};
 ghost use Rattle.ipc_take.specs.Given.{Gave};
+ghost use Rattle.ipc_call.specs.Said.{LosesNothing};
 ghost use Rattle.ipc_call.specs.declared.fault.CallFault.TheVariants.{LinkFault, WriteFault};
 
 use crate::fault::CallFault;
@@ -16,8 +17,7 @@ pub(crate) fn copy<L: Link, O: Sink>(link: &mut L, output: &mut O) -> Result<(),
         × OnOk result (TookAll O.tells_taken O.taken output.old output.new more
         × (IsTrue (L.tells_given link.old) → L.left link.new ≡ [])) }
     ensures told { L.tells_given link.new ≡ L.tells_given link.old }
-    ensures whole { IsTrue (L.tells_given link.old)
-        → L.given link.new ++ L.left link.new ≡ L.given link.old ++ L.left link.old }
+    ensures whole { LosesNothing L.tells_given L.given L.left link.old link.new }
     ensures link_fault { result ≡ Err LinkFault → HasRisen (L.read_faults link.old) (L.read_faults link.new) }
     ensures sound { result ≢ Err LinkFault → L.read_faults link.new ≡ L.read_faults link.old }
     ensures write_fault { result ≡ Err WriteFault

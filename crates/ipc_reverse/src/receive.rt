@@ -1,9 +1,9 @@
 //! The message of a link.
-ghost use Rattle.std.specs.Prelude.{◌≡◌, ◌≤◌, ◌++◌, length, take, IsTrue, IfOk, OnOk, OnErr};
+ghost use Rattle.std.specs.Prelude.{◌≡◌, ◌≤◌, length, take, IsTrue, IfOk, OnOk, OnErr};
 ghost use Rattle.pt_io.specs.Faults.{HasRisen};
 ghost use Rattle.ipc_reverse.specs.Advert.{advert_in};
 ghost use Rattle.ipc_reverse.specs.declared.limits.TheConstants.{ADVERT_BYTES};
-ghost use Rattle.ipc_reverse.specs.Received.{GaveNext};
+ghost use Rattle.ipc_reverse.specs.Received.{GaveNext, KeepsBytes};
 
 use crate::limits::ADVERT_BYTES;
 use crate::message::{TakenAdvert, take_advert};
@@ -17,8 +17,7 @@ pub fn receive_advert<S: Source>(link: &mut S) -> Result<TakenAdvert, Failed>
     ensures gave { IsTrue (S.tells_given link.old)
         → OnOk result (GaveNext S.Source link.old link.new ADVERT_BYTES) }
     ensures told { S.tells_given link.new ≡ S.tells_given link.old }
-    ensures whole { IsTrue (S.tells_given link.old)
-        → S.given link.new ++ S.left link.new ≡ S.given link.old ++ S.left link.old }
+    ensures whole { KeepsBytes S.Source link.old link.new }
     ensures failed { OnErr result (HasRisen (S.read_faults link.old) (S.read_faults link.new)) }
     ensures read { OnOk result (S.read_faults link.new ≡ S.read_faults link.old) }
     ensures writes { S.write_side link.new ≡ S.write_side link.old }
@@ -36,8 +35,7 @@ fn fill<S: Source>(link: &mut S, bytes: &mut [u8; ADVERT_BYTES]) -> Result<usize
     ensures taken { IsTrue (S.tells_given link.old)
         → IfOk result (λ n. take n bytes.new ≡ take ADVERT_BYTES (S.left link.old)) }
     ensures told { S.tells_given link.new ≡ S.tells_given link.old }
-    ensures whole { IsTrue (S.tells_given link.old)
-        → S.given link.new ++ S.left link.new ≡ S.given link.old ++ S.left link.old }
+    ensures whole { KeepsBytes S.Source link.old link.new }
     ensures failed { OnErr result (HasRisen (S.read_faults link.old) (S.read_faults link.new)) }
     ensures read { OnOk result (S.read_faults link.new ≡ S.read_faults link.old) }
     ensures writes { S.write_side link.new ≡ S.write_side link.old }

@@ -8,6 +8,7 @@ ghost use Rattle.ipc_body.specs.declared.reply.ProcessInfo.{ProcessInfo};
 ghost use Rattle.ipc_body.specs.declared.reply.Reply.TheVariants as replies;
 ghost use Rattle.ipc_take.specs.Own.{own_bytes};
 ghost use Rattle.ipc_take.specs.Given.{HasFailed, IsSound};
+ghost use Rattle.ipc_call.specs.Said.{SaysError, SaysBadly, LosesNothing};
 ghost use Rattle.ipc_call.specs.declared.fault.CallFault.TheVariants.{PeerError, BadReply, LinkFault, WriteFault};
 ghost use Rattle.pt_client.specs.Lines.{stopped_line, process_line};
 ghost use Rattle.pt_client.specs.Answers.{Fits, request_of, wants_info, IsDone, answer_of, stream_of};
@@ -31,10 +32,8 @@ pub(crate) fn ask<L: Link, O: Sink>(
     // What the peer said, where the link tells it.
     ensures done { IsTrue (L.tells_given link.old) → OnOk result
         (IsDone O.tells_taken O.taken output.old output.new (answer_of command.now (L.left link.old))) }
-    ensures error { (code : ℕ) → result ≡ Err (PeerError code) → IsTrue (L.tells_given link.old)
-        → reply_of (wants_info command.now) (own_bytes (L.left link.old)) ≡ Ok (replies.Error code) }
-    ensures bad { (at : ℕ) → result ≡ Err (BadReply at) → IsTrue (L.tells_given link.old)
-        → reply_of (wants_info command.now) (own_bytes (L.left link.old)) ≡ Err at }
+    ensures error { SaysError (L.tells_given link.old) (wants_info command.now) (L.left link.old) result }
+    ensures bad { SaysBadly (L.tells_given link.old) (wants_info command.now) (L.left link.old) result }
     ensures no_stream { (code : ℕ) → result ≡ Err (PeerError code) → output.new ≡ output.old }
     ensures no_reply { (at : ℕ) → result ≡ Err (BadReply at) → output.new ≡ output.old }
     ensures unwritten { IsTrue (L.tells_given link.old) → result ≡ Err WriteFault
@@ -44,8 +43,7 @@ pub(crate) fn ask<L: Link, O: Sink>(
 
     // It has what it had, and takes the request.
     ensures told { L.tells_given link.new ≡ L.tells_given link.old }
-    ensures whole { IsTrue (L.tells_given link.old)
-        → L.given link.new ++ L.left link.new ≡ L.given link.old ++ L.left link.old }
+    ensures whole { LosesNothing L.tells_given L.given L.left link.old link.new }
     ensures tells { L.tells_taken link.new ≡ L.tells_taken link.old }
     ensures asked { OnOk result (TookAll L.tells_taken L.taken link.old link.new (request_of command.now)) }
     ensures asked_part { TookPart L.tells_taken L.taken link.old link.new (request_of command.now) }
@@ -85,17 +83,14 @@ fn ask_to_stop<L: Link, O: Sink>(
     ensures done { IsTrue (L.tells_given link.old) → OnOk result ((id : ℕ)
         × (reply_of false (own_bytes (L.left link.old)) ≡ Ok (replies.Session id))
         × TookAll O.tells_taken O.taken output.old output.new (stopped_line id)) }
-    ensures error { (code : ℕ) → result ≡ Err (PeerError code) → IsTrue (L.tells_given link.old)
-        → reply_of false (own_bytes (L.left link.old)) ≡ Ok (replies.Error code) }
-    ensures bad { (at : ℕ) → result ≡ Err (BadReply at) → IsTrue (L.tells_given link.old)
-        → reply_of false (own_bytes (L.left link.old)) ≡ Err at }
+    ensures error { SaysError (L.tells_given link.old) false (L.left link.old) result }
+    ensures bad { SaysBadly (L.tells_given link.old) false (L.left link.old) result }
     ensures unwritten { IsTrue (L.tells_given link.old) → result ≡ Err WriteFault → (id : ℕ)
         × (reply_of false (own_bytes (L.left link.old)) ≡ Ok (replies.Session id))
         × TookPart O.tells_taken O.taken output.old output.new (stopped_line id) }
     ensures silent { result ≢ Err WriteFault → OnErr result (output.new ≡ output.old) }
     ensures told { L.tells_given link.new ≡ L.tells_given link.old }
-    ensures whole { IsTrue (L.tells_given link.old)
-        → L.given link.new ++ L.left link.new ≡ L.given link.old ++ L.left link.old }
+    ensures whole { LosesNothing L.tells_given L.given L.left link.old link.new }
     ensures tells { L.tells_taken link.new ≡ L.tells_taken link.old }
     ensures asked { OnOk result (TookAll L.tells_taken L.taken link.old link.new (stop_request id)) }
     ensures asked_part { TookPart L.tells_taken L.taken link.old link.new (stop_request id) }
@@ -119,17 +114,14 @@ pub(crate) fn ask_what_it_is<L: Link, O: Sink>(
     ensures done { IsTrue (L.tells_given link.old) → OnOk result ((info : ProcessInfo)
         × (reply_of true (own_bytes (L.left link.old)) ≡ Ok (replies.Info info))
         × TookAll O.tells_taken O.taken output.old output.new (process_line info)) }
-    ensures error { (code : ℕ) → result ≡ Err (PeerError code) → IsTrue (L.tells_given link.old)
-        → reply_of true (own_bytes (L.left link.old)) ≡ Ok (replies.Error code) }
-    ensures bad { (at : ℕ) → result ≡ Err (BadReply at) → IsTrue (L.tells_given link.old)
-        → reply_of true (own_bytes (L.left link.old)) ≡ Err at }
+    ensures error { SaysError (L.tells_given link.old) true (L.left link.old) result }
+    ensures bad { SaysBadly (L.tells_given link.old) true (L.left link.old) result }
     ensures unwritten { IsTrue (L.tells_given link.old) → result ≡ Err WriteFault → (info : ProcessInfo)
         × (reply_of true (own_bytes (L.left link.old)) ≡ Ok (replies.Info info))
         × TookPart O.tells_taken O.taken output.old output.new (process_line info) }
     ensures silent { result ≢ Err WriteFault → OnErr result (output.new ≡ output.old) }
     ensures told { L.tells_given link.new ≡ L.tells_given link.old }
-    ensures whole { IsTrue (L.tells_given link.old)
-        → L.given link.new ++ L.left link.new ≡ L.given link.old ++ L.left link.old }
+    ensures whole { LosesNothing L.tells_given L.given L.left link.old link.new }
     ensures tells { L.tells_taken link.new ≡ L.tells_taken link.old }
     ensures asked { OnOk result (TookAll L.tells_taken L.taken link.old link.new info_request) }
     ensures asked_part { TookPart L.tells_taken L.taken link.old link.new info_request }

@@ -5,6 +5,7 @@ ghost use Rattle.pt_io.specs.Faults.{HasRisen};
 ghost use Rattle.pt_io.specs.Taken.{TookAll, TookPart};
 ghost use Rattle.ipc_body.specs.Asking.{info_request};
 ghost use Rattle.ipc_take.specs.Given.{HasFailed, IsSound};
+ghost use Rattle.ipc_call.specs.Said.{LosesNothing};
 ghost use Rattle.ipc_call.specs.declared.fault.CallFault.TheVariants.{PeerError, BadReply, LinkFault, WriteFault};
 ghost use Rattle.pt_command.specs.declared.end.End.TheVariants as ends;
 ghost use Rattle.pt_client.specs.Answers.{IsDone, to_bad_reply, to_peer_error};
@@ -117,8 +118,7 @@ fn ask_caller<L: Link, O: Sink>(
 
     // It has what it had, and takes the request.
     ensures told { L.tells_given link.new ≡ L.tells_given link.old }
-    ensures whole { IsTrue (L.tells_given link.old)
-        → L.given link.new ++ L.left link.new ≡ L.given link.old ++ L.left link.old }
+    ensures whole { LosesNothing L.tells_given L.given L.left link.old link.new }
     ensures tells { L.tells_taken link.new ≡ L.tells_taken link.old }
     ensures asked { OnOk result (TookAll L.tells_taken L.taken link.old link.new info_request) }
     ensures asked_part { TookPart L.tells_taken L.taken link.old link.new info_request }

@@ -39,6 +39,24 @@ pub out-between : (slot chunks : ℕ) (old mid : LiveRowsState) → out_in old s
 out-between slot chunks old mid none out =
     out slot ∙ same_slot slot (out_in old slot + chunks) (out_in old slot) ∙ omega (arith, none)
 
+-- The session has its rows after a call and a give, where they are told by these hands and nothing of them is out.
+its-after : (count slot : ℕ) (config : Config) (old mid new : LiveRowsState) (hands after : List (Option HandState))
+    → AreItsRows count slot config old hands → length mid.halves ≡ length old.halves → StillAttaches (can_attach old) (can_attach mid) → Stays mid new
+    → ((row : ℕ) → expected_in new row slot ≡ hand_at after row) → ((row : ℕ) (hand : HandState) → hand_at after row ≡ Some hand → configured_in new row slot ≡ Some config)
+    → out_in new slot ≡ 0 → AreItsRows count slot config new after
+its-after count slot config old mid new hands after its long still stays expected configured out =
+    let first = still old.slot old.grant.config (refl, refl) in
+    let second = stays.attaches mid.slot mid.grant.config (refl, refl) in
+    record {
+      within = its.within;
+      rows = stays.rows ∙ long ∙ its.rows;
+      slot_is = sym second.0 ∙ sym first.0 ∙ its.slot_is;
+      config_is = sym second.1 ∙ sym first.1 ∙ its.config_is;
+      expected = expected;
+      configured = configured;
+      out = out;
+    }
+
 -- A batch was taken with the hand of a row, and given back.
 pub its-taken : (count slot row chunks : ℕ) (config : Config) (old mid new : LiveRowsState) (hands : List (Option HandState)) (hand now : HandState)
     → AreItsRows count slot config old hands → hand_at hands row ≡ Some hand
@@ -47,25 +65,18 @@ pub its-taken : (count slot row chunks : ℕ) (config : Config) (old mid new : L
     → Stays mid new → IsBack slot chunks mid new
     → AreItsRows count slot config new (slice_set (slice_set hands (row - 1) None) (row - 1) (Some now))
 its-taken count slot row chunks config old mid new hands hand now its was expected configured out long still stays back =
-    let first = still old.slot old.grant.config (refl, refl) in
-    let second = stays.attaches mid.slot mid.grant.config (refl, refl) in
-    record {
-      within = its.within;
-      rows = stays.rows ∙ long ∙ its.rows;
-      slot_is = sym second.0 ∙ sym first.0 ∙ its.slot_is;
-      config_is = sym second.1 ∙ sym first.1 ∙ its.config_is;
-      expected = λ r.
-          stays.expected r slot
-          ∙ expected r slot
-          ∙ at_slot r row slot (Some now) (expected_in old r slot)
-          ∙ ap (λ (o : Option HandState). if r == row then Some now else o) (its.expected r)
-          ∙ sym (hand_back hands row hand now r was);
-      configured = λ r other is.
-          stays.configured r slot
-          ∙ configured r slot
-          ∙ had_hand r row (hand_at hands) hand now other was (sym (hand_back hands row hand now r was) ∙ is) (configured_in old r slot ≡ Some config) (λ h at. its.configured r h at);
-      out = back-again slot chunks old mid new its.out out back;
-    }
+    its-after count slot config old mid new hands (slice_set (slice_set hands (row - 1) None) (row - 1) (Some now)) its long still stays
+    (λ r.
+    stays.expected r slot
+    ∙ expected r slot
+    ∙ at_slot r row slot (Some now) (expected_in old r slot)
+    ∙ ap (λ (o : Option HandState). if r == row then Some now else o) (its.expected r)
+    ∙ sym (hand_back hands row hand now r was))
+    (λ r other is.
+    stays.configured r slot
+    ∙ configured r slot
+    ∙ had_hand r row (hand_at hands) hand now other was (sym (hand_back hands row hand now r was) ∙ is) (configured_in old r slot ≡ Some config) (λ h at. its.configured r h at))
+    (back-again slot chunks old mid new its.out out back)
 
 -- What stands where a row's hand was taken out stood there before, and on another row.
 pub other-hand : (hands : List (Option HandState)) (row r : ℕ) (hand other : HandState) → hand_at hands row ≡ Some hand → hand_at (slice_set hands (row - 1) None) r ≡ Some other → (r ≢ row) × (hand_at hands r ≡ Some other)
@@ -84,28 +95,21 @@ pub its-left : (count slot row chunks : ℕ) (config : Config) (old mid new : Li
     → Stays mid new → IsBack slot chunks mid new
     → AreItsRows count slot config new (slice_set hands (row - 1) None)
 its-left count slot row chunks config old mid new hands hand its was expected configured out long still stays back =
-    let first = still old.slot old.grant.config (refl, refl) in
-    let second = stays.attaches mid.slot mid.grant.config (refl, refl) in
-    record {
-      within = its.within;
-      rows = stays.rows ∙ long ∙ its.rows;
-      slot_is = sym second.0 ∙ sym first.0 ∙ its.slot_is;
-      config_is = sym second.1 ∙ sym first.1 ∙ its.config_is;
-      expected = λ r.
-          stays.expected r slot
-          ∙ expected r slot
-          ∙ at_slot r row slot None (expected_in old r slot)
-          ∙ ap (λ (o : Option HandState). if r == row then None else o) (its.expected r)
-          ∙ sym (hand_gone hands row hand r was);
-      configured = λ r other is.
-          let there = other-hand hands row r hand other was is in
-          stays.configured r slot
-          ∙ configured r slot
-          ∙ at_slot r row slot None (configured_in old r slot)
-          ∙ not-row r row None (configured_in old r slot) there.0
-          ∙ its.configured r other there.1;
-      out = back-again slot chunks old mid new its.out out back;
-    }
+    its-after count slot config old mid new hands (slice_set hands (row - 1) None) its long still stays
+    (λ r.
+    stays.expected r slot
+    ∙ expected r slot
+    ∙ at_slot r row slot None (expected_in old r slot)
+    ∙ ap (λ (o : Option HandState). if r == row then None else o) (its.expected r)
+    ∙ sym (hand_gone hands row hand r was))
+    (λ r other is.
+    let there = other-hand hands row r hand other was is in
+    stays.configured r slot
+    ∙ configured r slot
+    ∙ at_slot r row slot None (configured_in old r slot)
+    ∙ not-row r row None (configured_in old r slot) there.0
+    ∙ its.configured r other there.1)
+    (back-again slot chunks old mid new its.out out back)
   where
     not-row : {A : Type 0} (r row : ℕ) (a b : A) → r ≢ row → (if r == row then a else b) ≡ b
     not-row r row a b apart =

@@ -263,12 +263,15 @@ hearing-left has_heard count events writes config at_first ends slot row last ol
 
 -- ---- other calls
 
--- The rows lend the threads' halves or have them back.
-pub hearing-moved : {C : Type 0} (has_heard : C → List HeardEvent → Type 0) (count : ℕ) (events : List EventDef) (writes : ℕ → List Write) (config : Config) (at_first : List HeardEvent → Type 0) (ends low slot : ℕ) (set : LiveRowsState) (hands : List (Option HandState)) (listener : Listener C) (stands : Option ℕ)
-    → IsHearing has_heard count events writes config at_first ends low slot set hands listener → IsHearing has_heard count events writes config at_first ends low slot (record set { stands = stands }) hands listener
-hearing-moved has_heard count events writes config at_first ends low slot set hands listener stands was =
+-- Its rows may be told otherwise, and its threads may end elsewhere, where its marks are of those ends.
+hearing-so : {C : Type 0} (has_heard : C → List HeardEvent → Type 0) (count : ℕ) (events : List EventDef) (writes : ℕ → List Write) (config : Config) (at_first : List HeardEvent → Type 0) (ends later low slot : ℕ) (set other : LiveRowsState) (hands : List (Option HandState)) (listener : Listener C)
+    → (was : IsHearing has_heard count events writes config at_first ends low slot set hands listener)
+    → AreItsRows count slot config other hands → other.seat.dry ≡ set.seat.dry
+    → ((k : ℕ) (mark : Marks) → slice_get (marks_in listener) k ≡ Some mark → IsMarkBy events writes config was.accounts later k mark)
+    → IsHearing has_heard count events writes config at_first later low slot other hands listener
+hearing-so has_heard count events writes config at_first ends later low slot set other hands listener was rows dry marks_are =
     record {
-      rows = its-moved count slot config set hands stands was.rows;
+      rows = rows;
       long = was.long;
       accounts = was.accounts;
       heard = was.heard;
@@ -277,27 +280,23 @@ hearing-moved has_heard count events writes config at_first ends low slot set ha
       shut = was.shut;
       room = was.room;
       marks = was.marks;
-      marks_are = was.marks_are;
-      dry = was.dry;
+      marks_are = marks_are;
+      dry = dry ∙ was.dry;
     }
+
+-- The rows lend the threads' halves or have them back.
+pub hearing-moved : {C : Type 0} (has_heard : C → List HeardEvent → Type 0) (count : ℕ) (events : List EventDef) (writes : ℕ → List Write) (config : Config) (at_first : List HeardEvent → Type 0) (ends low slot : ℕ) (set : LiveRowsState) (hands : List (Option HandState)) (listener : Listener C) (stands : Option ℕ)
+    → IsHearing has_heard count events writes config at_first ends low slot set hands listener → IsHearing has_heard count events writes config at_first ends low slot (record set { stands = stands }) hands listener
+hearing-moved has_heard count events writes config at_first ends low slot set hands listener stands was =
+    hearing-so has_heard count events writes config at_first ends ends low slot set (record set { stands = stands }) hands listener was
+    (its-moved count slot config set hands stands was.rows) refl was.marks_are
 
 -- A session that was closed nowhere may end anywhere.
 pub hearing-ends : {C : Type 0} (has_heard : C → List HeardEvent → Type 0) (count : ℕ) (events : List EventDef) (writes : ℕ → List Write) (config : Config) (at_first : List HeardEvent → Type 0) (ends slot : ℕ) (set : LiveRowsState) (hands : List (Option HandState)) (listener : Listener C)
     → IsHearing has_heard count events writes config at_first 0 0 slot set hands listener → IsHearing has_heard count events writes config at_first ends 0 slot set hands listener
 hearing-ends has_heard count events writes config at_first ends slot set hands listener was =
-    record {
-      rows = was.rows;
-      long = was.long;
-      accounts = was.accounts;
-      heard = was.heard;
-      hands_are = was.hands_are;
-      opened = was.opened;
-      shut = was.shut;
-      room = was.room;
-      marks = was.marks;
-      marks_are = λ k mark is. let small = slice_get_within (marks_in listener) k mark is in absurd (omega (arith, small, was.marks));
-      dry = was.dry;
-    }
+    hearing-so has_heard count events writes config at_first 0 ends 0 slot set set hands listener was was.rows refl
+    (λ k mark is. let small = slice_get_within (marks_in listener) k mark is in absurd (omega (arith, small, was.marks)))
 
 -- No row has a hand once the session was closed on each.
 pub none-left : {C : Type 0} (has_heard : C → List HeardEvent → Type 0) (count : ℕ) (events : List EventDef) (writes : ℕ → List Write) (config : Config) (at_first : List HeardEvent → Type 0) (ends low slot : ℕ) (set : LiveRowsState) (hands : List (Option HandState)) (listener : Listener C)

@@ -1,12 +1,12 @@
 //! A run whose threads write while a callback hears what its one session gets of them.
-ghost use Rattle.std.specs.Prelude.{◌≡◌, ℕ, ◌+◌, ◌*◌, ◌<◌, ◌≤◌, [], false, Some, IfOk, IsTrue, List, vec_len};
+ghost use Rattle.std.specs.Prelude.{◌≡◌, ℕ, ◌+◌, ◌*◌, ◌<◌, ◌≤◌, [], false, Some, IfOk, IsTrue, List};
 ghost use Rattle.ep_defs.specs.declared.limits.TheConstants.{SESSIONS, THREADS as MOST_THREADS, WRITES};
 ghost use Rattle.ep_defs.specs.Session.{is_valid_config};
 ghost use Rattle.ep_guarded.specs.Granted.{IsGrantFor};
 ghost use Rattle.ep_listen.specs.Heard.{HeardEvent};
 ghost use Rattle.ep_listen.specs.Listening.{callback_of, has_failed, marks_in, room_of};
-ghost use Rattle.ep_live.specs.Made.{AreHandTies};
 ghost use Rattle.ep_live.specs.RowSet.{AreFresh, life_at};
+ghost use Rattle.ep_live.specs.declared.limits.TheConstants.{ROW_TIES};
 ghost use Rattle.pt_writers.specs.Written.{IsRunOf, writes_of};
 ghost use Rattle.pt_listen.specs.Watched.{Watched, WatchedFrom};
 ghost use Rattle.pt_listen.specs.state.Hearing.{first_seat};
@@ -17,13 +17,13 @@ use crate::threads::run_both;
 use ep_defs::{Config, EventDef};
 use ep_guarded::{Agreed, Grant};
 use ep_listen::{Callback, ListenEnd, Listener, all_is_heard_but_what_is_missing};
-use ep_live::{Free, Live, LiveRows, ROW_TIES, Stands, free_slots};
+use ep_live::{Live, LiveRows, ROW_TIES, Stands};
 use ep_pool::{Pool, PoolSeat};
-use ep_tie::{Blank, Right};
+use ep_tie::Blank;
 use pt_io::{Clock, Gate, Moment};
 use pt_load::laws::sample_events_are_valid;
 use pt_load::{Plan, sample_events};
-use pt_writers::{Around, Kit, writers_of};
+use pt_writers::{Around, Kit, first_slot, writers_of};
 use std::alloc::{AllocError, Global};
 use std::marker::{Brand, PhantomData};
 use std::sync::Wait;
@@ -107,7 +107,7 @@ fn run_named<
     requires plan { parts.plan.now ≡ P.plan }
     requires writes { P.writes ≡ writes_of P.plan }
     requires asked { grant.now.config ≡ P.config }
-    requires ties { (parts.blank.ties ≡ P.ties) × (parts.blank.places ≡ P.rows + 128 * P.rows) }
+    requires ties { (parts.blank.ties ≡ P.ties) × (parts.blank.places ≡ P.rows + ROW_TIES * P.rows) }
     requires events { parts.events.items ≡ P.events }
     requires admitted { IsGrantFor P.events grant.now }
     requires seat { parts.seat ≡ first_seat grant.now.pool (P.rows + 1) }
@@ -141,19 +141,6 @@ fn run_named<
     let stands = Stands::new(threads, 0);
     let rows = LiveRows::new(rt, &live, free, grant, seat, stands, lives);
     run_over(alloc, &around, &live, rows, slot, grant, listener)
-}
-
-// The slot of the run's one session.
-fn first_slot<'g, P: WatchRun>(
-    alloc: Global,
-    hands: Vec<Right<P, Agreed<'g>>>,
-) -> Result<Free<'g, P>, AllocError>
-    requires count { vec_len hands ≡ P.rows * SESSIONS }
-    requires hands { AreHandTies P.rows hands.items }
-    ensures { IfOk result (λ free. free ≡ 0) }
-{
-    let mut slots = free_slots(alloc, hands)?;
-    Ok(slots.swap_remove(0))
 }
 
 // The run over rows that no thread and no session has used.

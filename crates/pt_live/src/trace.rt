@@ -1,9 +1,10 @@
 //! A run whose threads write while the stream of its one session goes to an output.
-ghost use Rattle.std.specs.Prelude.{◌≡◌, ◌+◌, ◌*◌, ◌<◌, ◌≤◌, Some, IfOk, IsTrue, replicate, vec_len};
-ghost use Rattle.ep_defs.specs.declared.limits.TheConstants.{SESSIONS, THREADS as MOST_THREADS, WRITES};
+ghost use Rattle.std.specs.Prelude.{◌≡◌, ◌+◌, ◌*◌, ◌<◌, ◌≤◌, Some, IsTrue, replicate, vec_len};
+ghost use Rattle.ep_defs.specs.declared.limits.TheConstants.{THREADS as MOST_THREADS, WRITES};
 ghost use Rattle.ep_defs.specs.Session.{is_valid_config};
 ghost use Rattle.ep_guarded.specs.Granted.{IsGrantFor};
-ghost use Rattle.ep_live.specs.Made.{AreHandTies, AreStands};
+ghost use Rattle.ep_live.specs.Made.{AreStands};
+ghost use Rattle.ep_live.specs.declared.limits.TheConstants.{ROW_TIES};
 ghost use Rattle.pt_stream.specs.State.{first_seat};
 ghost use Rattle.pt_writers.specs.Written.{IsRunOf, writes_of};
 ghost use Rattle.pt_live.specs.Trace.{Traces};
@@ -15,7 +16,7 @@ use crate::session::{streamed, untold};
 use crate::streaming::{SESSION, Streaming};
 use ep_defs::{Config, EventDef, Items, MarkList, TraceInfo};
 use ep_guarded::{Agreed, Grant};
-use ep_live::{Free, Live, ROW_TIES, free_slots};
+use ep_live::{Free, Live, ROW_TIES};
 use ep_live_laws::{a_part_is_found, a_traced_stream_is_found};
 use ep_pool::{Pool, PoolSeat};
 use ep_stream::Fate;
@@ -25,7 +26,7 @@ use pt_io::{Clock, Gate, Sink};
 use pt_load::laws::sample_events_are_valid;
 use pt_load::{Plan, sample_events};
 use pt_stream::{Accepted, NotStarted, Stream};
-use pt_writers::{Around, Kit};
+use pt_writers::{Around, Kit, first_slot};
 use std::alloc::{AllocError, Global};
 use std::marker::{Brand, PhantomData};
 use std::sync::Wait;
@@ -116,7 +117,7 @@ fn run_named<
     requires lent { IsLentTo O.Sink P.run lent.output.ghost_name lent.output.now }
     requires plan { parts.plan.now ≡ P.plan }
     requires asked { (info.now ≡ P.run.info) × (grant.now.config ≡ P.run.config) }
-    requires ties { (parts.blank.ties ≡ P.ties) × (parts.blank.places ≡ P.rows + 128 * P.rows) }
+    requires ties { (parts.blank.ties ≡ P.ties) × (parts.blank.places ≡ P.rows + ROW_TIES * P.rows) }
     requires events { parts.events.items ≡ P.events }
     requires admitted { IsGrantFor P.events grant.now }
     requires seat { parts.seat ≡ first_seat grant.now.pool (P.rows + 1) }
@@ -163,19 +164,6 @@ fn run_named<
     let (lent, end) = run_over(alloc, &around, &live, started, info, lent);
     *answer = end;
     lent
-}
-
-// The slot of the run's one session.
-fn first_slot<'g, P: TraceRun>(
-    alloc: Global,
-    hands: Vec<Right<P, Agreed<'g>>>,
-) -> Result<Free<'g, P>, AllocError>
-    requires count { vec_len hands ≡ P.rows * SESSIONS }
-    requires hands { AreHandTies P.rows hands.items }
-    ensures { IfOk result (λ free. free ≡ 0) }
-{
-    let mut slots = free_slots(alloc, hands)?;
-    Ok(slots.swap_remove(0))
 }
 
 // What a run's session is started with, and the halves of the threads, by row, none of which has made a write.

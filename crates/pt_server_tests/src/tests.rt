@@ -36,6 +36,9 @@ const STOP_7: [u8; 28] = *b"DOTNET_IPC_V1\0\x1c\0\x02\x01\0\0\x07\0\0\0\0\0\0\0"
 const DESCRIPTION: [u8; 78] =
     *b"\x44\x4f\x54\x4e\x45\x54\x5f\x49\x50\x43\x5f\x56\x31\x00\x4e\x00\xff\x00\x00\x00\x01\x00\x00\x00\x00\x00\x00\x00\x00\x01\x02\x03\x04\x05\x06\x07\x08\x09\x0a\x0b\x0c\x0d\x0e\x0f\x01\x00\x00\x00\x00\x00\x06\x00\x00\x00\x6c\x00\x69\x00\x6e\x00\x75\x00\x78\x00\x00\x00\x04\x00\x00\x00\x78\x00\x36\x00\x34\x00\x00\x00";
 
+// The cookie in it.
+const COOKIE: [u8; 16] = [0, 1, 2, 3, 4, 5, 6, 7, 8, 9, 10, 11, 12, 13, 14, 15];
+
 const SESSION_1: [u8; 28] = *b"DOTNET_IPC_V1\0\x1c\0\xff\0\0\0\x01\0\0\0\0\0\0\0";
 
 const STOP_5: [u8; 28] = *b"DOTNET_IPC_V1\0\x1c\0\x02\x01\0\0\x05\0\0\0\0\0\0\0";
@@ -205,7 +208,7 @@ fn serve_all<N: Process>(
 pub fn serve(alloc: Global, peers: &[Peer<'_>]) -> Result<Told, AllocError> {
     let facts = Facts {
         process_id: 1,
-        cookie: [0, 1, 2, 3, 4, 5, 6, 7, 8, 9, 10, 11, 12, 13, 14, 15],
+        cookie: COOKIE,
         command_line: units(alloc, b"")?,
         system: units(alloc, b"linux")?,
         arch: units(alloc, b"x64")?,
@@ -351,20 +354,10 @@ fn each_fault_ends_its_own_connection(rt: HostRuntime) -> Result<(), Fail> {
         (11, ConnAnswer::WriteFault, b""),
         (12, ERROR, &ERROR_REFUSED),
     ];
-    let decisions = [
-        Decision::Nothing,
-        Decision::Nothing,
-        Decision::Nothing,
-        Decision::Nothing,
-        Decision::Nothing,
-        Decision::Nothing,
-        Decision::Nothing,
-        Decision::Nothing,
-        Decision::Nothing,
-        Decision::Accepted { id: 5 },
-        Decision::Ticket { id: 5 },
-        Decision::Refused { id: 5 },
-    ];
+    let mut decisions = [Decision::Nothing; 12];
+    decisions[9] = Decision::Accepted { id: 5 };
+    decisions[10] = Decision::Ticket { id: 5 };
+    decisions[11] = Decision::Refused { id: 5 };
     assert_eq!(rt;
         (
             are(&told.ends, &ends),

@@ -12,8 +12,10 @@
 
 mod kit;
 mod run;
+mod slot;
 mod writers;
 
 pub use kit::Kit;
 pub use run::{Around, SampleRun};
+pub use slot::first_slot;
 pub use writers::{AtEnd, Writer, write_all, writers_of};

@@ -51,7 +51,6 @@ returns g c =
     let was = c.requires.hearing in
     let rows = was.rows in
     let row : ℕ = c.args.row in
-    let slot : ℕ = c.args.slot in
     let hands : List (Option HandState) = c.args.hands.now.items in
     let hand : HandState = c.take_hand-hand.result in
     let records : List Record = records_of c.steal-batch.result.chain in
@@ -65,15 +64,15 @@ returns g c =
     ∙ ap (λ (xs : List (Option HandState)). slice_set xs (row - 1) (Some c.steal-batch.new.hand)) c.take_hand-hand.ensures.items
     ∙ ap (λ (h : HandState). slice_set (slice_set hands (row - 1) None) (row - 1) (Some h)) hand_is
     in
-    let its = its-taken g.P.Program.rows slot row chunks g.P.WatchRun.config c.args.rows.now c.steal-batch.new.self c.give.new.self hands hand now rows there
-    (subst (λ (h : HandState). IsSetAt row slot (Some h) (expected_in c.args.rows.now) (expected_in c.steal-batch.new.self)) hand_is c.steal-batch.ensures.expected)
+    let its = its-taken g.P.Program.rows c.args.slot row chunks g.P.WatchRun.config c.args.rows.now c.steal-batch.new.self c.give.new.self hands hand now rows there
+    (subst (λ (h : HandState). IsSetAt row c.args.slot (Some h) (expected_in c.args.rows.now) (expected_in c.steal-batch.new.self)) hand_is c.steal-batch.ensures.expected)
     c.steal-batch.ensures.configured c.steal-batch.ensures.out c.steal-batch.ensures.count c.steal-batch.ensures.attaches
     (record { expected = c.give.ensures.expected; configured = c.give.ensures.configured; rows = c.give.ensures.count; attaches = c.give.ensures.attaches })
     c.give.ensures.out
     in
     let dry = same c.give.new.self.seat.dry c.steal-batch.new.self.seat.dry c.give.ensures.refused ∙ same c.steal-batch.new.self.seat.dry c.args.rows.now.seat.dry c.steal-batch.ensures.refused in
-    subst (λ (xs : List (Option HandState)). IsHearing g.K.Callback.has_heard g.P.Program.rows g.P.Program.events g.P.Program.writes g.P.WatchRun.config g.P.WatchRun.at_first 0 0 slot c.give.new.self xs c.hear.new.self) (sym hands_are)
-    (hearing-taken g.K.Callback.has_heard g.P.Program.rows g.P.Program.events g.P.Program.writes g.P.WatchRun.config g.P.WatchRun.at_first slot row last chunks
+    subst (λ (xs : List (Option HandState)). IsHearing g.K.Callback.has_heard g.P.Program.rows g.P.Program.events g.P.Program.writes g.P.WatchRun.config g.P.WatchRun.at_first 0 0 c.args.slot c.give.new.self xs c.hear.new.self) (sym hands_are)
+    (hearing-taken g.K.Callback.has_heard g.P.Program.rows g.P.Program.events g.P.Program.writes g.P.WatchRun.config g.P.WatchRun.at_first c.args.slot row last chunks
     c.args.rows.now c.give.new.self hands hand c.args.listener.now c.hear.new.self records c.hear.result
     c.a_batch_is_heard.ensures c.requires.row.0 c.requires.row.1 was there its dry c.steal-batch.ensures.batch
     (c.steal-batch.ensures.tested g.P.WatchRun.config (rows.configured row hand there))

@@ -18,35 +18,20 @@ use Rattle.pt_writers.proofs.writers.AtEnd.give_back.Goals as goal
 same : (a b : Stand) → Some a ≡ Some b → a ≡ b
 same a b e = cc
 
-pub stand-stand-requires-clause-row : goal.stand-stand-requires-clause-row
-stand-stand-requires-clause-row g c =
+pub stand-stand-requires : goal.stand-stand-requires
+stand-stand-requires g c =
     let gives = c.into_iter-writer-iterator.ensures.into_iter_gives in
     let turn = YieldsList-turn (YieldsList-from_vec {s = c.into_iter-writer-iterator.result} c.args.self.writers.items gives.0 (gives.1 ∙ c.args.self.writers.ok.0)) c.loop-writer.yielded c.loop-writer.writer-iterator c.loop-writer.yielded_by c.next.result c.next.new.self c.in-Some.writer c.in-Some.is c.next.ensures.steps in
     let at = slice_get_read c.args.self.writers.items _ (length c.loop-writer.yielded) c.in-Some.writer refl turn.0 turn.1 in
     let is = c.args.self.ended (length c.loop-writer.yielded) c.in-Some.writer at in
     let inv = c.loop-writer.invariant in
     let threads = ap (λ (p : Plan). p.threads) c.args.around.now.plan_is in
-    omega (arith, turn.0, inv.number, c.args.self.count, c.args.self.writers.ok.0, c.args.around.now.is_run.rows_are, threads)
-
-pub stand-stand-requires-clause-place : goal.stand-stand-requires-clause-place
-stand-stand-requires-clause-place g c =
-    let gives = c.into_iter-writer-iterator.ensures.into_iter_gives in
-    let turn = YieldsList-turn (YieldsList-from_vec {s = c.into_iter-writer-iterator.result} c.args.self.writers.items gives.0 (gives.1 ∙ c.args.self.writers.ok.0)) c.loop-writer.yielded c.loop-writer.writer-iterator c.loop-writer.yielded_by c.next.result c.next.new.self c.in-Some.writer c.in-Some.is c.next.ensures.steps in
-    let at = slice_get_read c.args.self.writers.items _ (length c.loop-writer.yielded) c.in-Some.writer refl turn.0 turn.1 in
-    let is = c.args.self.ended (length c.loop-writer.yielded) c.in-Some.writer at in
-    let inv = c.loop-writer.invariant in
     let seen = ap (λ (w : WriterState). w.half) c.writer.view_is in
-    ap (λ (h : Tied Agreed). h.place) seen ∙ is.place ∙ sym inv.number
-
-pub stand-stand-requires-clause-here : goal.stand-stand-requires-clause-here
-stand-stand-requires-clause-here g c =
-    let gives = c.into_iter-writer-iterator.ensures.into_iter_gives in
-    let turn = YieldsList-turn (YieldsList-from_vec {s = c.into_iter-writer-iterator.result} c.args.self.writers.items gives.0 (gives.1 ∙ c.args.self.writers.ok.0)) c.loop-writer.yielded c.loop-writer.writer-iterator c.loop-writer.yielded_by c.next.result c.next.new.self c.in-Some.writer c.in-Some.is c.next.ensures.steps in
-    let at = slice_get_read c.args.self.writers.items _ (length c.loop-writer.yielded) c.in-Some.writer refl turn.0 turn.1 in
-    let is = c.args.self.ended (length c.loop-writer.yielded) c.in-Some.writer at in
-    let inv = c.loop-writer.invariant in
-    let seen = ap (λ (w : WriterState). w.half) c.writer.view_is in
-    subst IsSome (sym (ap (λ (h : Tied Agreed). stand_in h.value) seen ∙ is.stands)) refl
+    record {
+      row = omega (arith, turn.0, inv.number, c.args.self.count, c.args.self.writers.ok.0, c.args.around.now.is_run.rows_are, threads);
+      place = ap (λ (h : Tied Agreed). h.place) seen ∙ is.place ∙ sym inv.number;
+      here = subst IsSome (sym (ap (λ (h : Tied Agreed). stand_in h.value) seen ∙ is.stands)) refl;
+    }
 
 pub loop-writer-preserved : goal.loop-writer-preserved
 loop-writer-preserved g c =

@@ -1,6 +1,6 @@
 use Rattle.std.proofs.Common.{refl, arith}
 use Rattle.std.proofs.lemmas.Option.{slice_get_read}
-use Rattle.pt_live.proofs.trace.first_slot.Goals as goal
+use Rattle.pt_writers.proofs.slot.first_slot.Goals as goal
 
 pub returns : goal.returns
 returns g c =
