@@ -1,10 +1,12 @@
 //! A definition with what the lines of its events say of it.
 ghost use Rattle.std.specs.Prelude.{◌≡◌, IfOk};
 ghost use Rattle.pt_lines.specs.Json.{behind_commas, definition_members};
-ghost use Rattle.pt_lines.specs.state.Pieces.{instant_text, names_text};
+ghost use Rattle.pt_lines.specs.state.Pieces.{instant_text, label_text, member_text, names_text};
 
 use crate::chromium::line::put_instant;
+use crate::fields::put_label;
 use crate::json::line::put_definition;
+use crate::json::nest::put_member;
 use crate::line::put_names;
 use ep_defs::{Duplicate, EventDef, FieldDef};
 use std::alloc::{AllocError, Global};
@@ -14,6 +16,7 @@ use std::marker::Model;
 #[derive(Drop)]
 pub struct NamedDef {
     def: EventDef,
+    fields: Vec<NamedField>,
     // Its provider and its name, as they stand in a line.
     names: Vec<u8>,
     // Its members of an object.
@@ -32,7 +35,7 @@ impl Model for NamedDef {
 
     ghost view = { λ d. d.def };
 
-    ghost invariant = { λ d. (d.names.items ≡ names_text d.def) × (d.members.items ≡ behind_commas (definition_members d.def)) × (d.instant.items ≡ instant_text d.def) };
+    ghost invariant = { λ d. (d.fields.items ≡ d.def.fields) × (d.names.items ≡ names_text d.def) × (d.members.items ≡ behind_commas (definition_members d.def)) × (d.instant.items ≡ instant_text d.def) };
 }
 
 impl NamedDef {
@@ -46,9 +49,11 @@ impl NamedDef {
         put_definition(&mut members, def)?;
         let mut instant = Vec::new(alloc);
         put_instant(&mut instant, def)?;
+        let fields = name_fields(alloc, def.fields.as_slice())?;
         let def = def.copy(alloc)?;
         Ok(NamedDef {
             def,
+            fields,
             names,
             members,
             instant,
@@ -70,10 +75,10 @@ impl NamedDef {
     }
 
     /// The fields of its events.
-    pub fn fields(&self) -> &[FieldDef]
+    pub fn fields(&self) -> &[NamedField]
         ensures { result.now ≡ self.now.fields }
     {
-        self.def.fields.as_slice()
+        self.fields.as_slice()
     }
 
     /// What a line says of it.
@@ -95,5 +100,80 @@ impl NamedDef {
         ensures { result.now ≡ instant_text self.now }
     {
         self.instant.as_slice()
+    }
+}
+
+// These fields.
+fn name_fields(alloc: Global, fields: &[FieldDef]) -> Result<Vec<NamedField>, AllocError>
+    ensures { IfOk result (λ named. named.items ≡ fields.now) }
+{
+    let mut named = Vec::new(alloc);
+    for field in fields {
+        named.push(NamedField::new(alloc, field)?)?;
+    }
+    Ok(named)
+}
+
+/// A field. What stands before its values is put once, and copied from here.
+#[derive(Drop)]
+pub struct NamedField {
+    def: FieldDef,
+    // Its name, as it stands in a line.
+    label: Vec<u8>,
+    // Its name, as it stands in an object behind another member.
+    member: Vec<u8>,
+}
+
+impl Model for NamedField {
+    ghost use Rattle.std.specs.Prelude.{◌≡◌};
+    ghost use Rattle.ep_defs.specs.declared.event.FieldDef.{FieldDef};
+    ghost use Rattle.pt_lines.specs.state.Pieces.{label_text, member_text};
+
+    ghost Value = { FieldDef };
+
+    ghost view = { λ f. f.def };
+
+    ghost invariant = { λ f. (f.label.items ≡ label_text f.def) × (f.member.items ≡ member_text f.def) };
+}
+
+impl NamedField {
+    /// A copy of a field.
+    pub fn new(alloc: Global, def: &FieldDef) -> Result<NamedField, AllocError>
+        ensures { IfOk result (λ named. named ≡ def.now) }
+    {
+        let mut label = Vec::new(alloc);
+        put_label(&mut label, def)?;
+        let mut member = Vec::new(alloc);
+        put_member(&mut member, def)?;
+        let def = def.copy(alloc)?;
+        Ok(NamedField { def, label, member })
+    }
+
+    /// How many objects it stands inside of.
+    pub fn depth(&self) -> u32
+        ensures { result ≡ self.now.depth }
+    {
+        self.def.depth
+    }
+
+    /// The type code of its values.
+    pub fn code(&self) -> u8
+        ensures { result ≡ self.now.code }
+    {
+        self.def.code
+    }
+
+    /// What stands in a line before its value.
+    pub fn label(&self) -> &[u8]
+        ensures { result.now ≡ label_text self.now }
+    {
+        self.label.as_slice()
+    }
+
+    /// What stands in an object before its value, behind another member.
+    pub fn member(&self) -> &[u8]
+        ensures { result.now ≡ member_text self.now }
+    {
+        self.member.as_slice()
     }
 }

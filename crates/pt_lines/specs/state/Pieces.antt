@@ -2,11 +2,12 @@
 use Rattle.std.specs.Prelude.{ℕ, List, [], ◌∷◌, ◌++◌, codes}
 use Rattle.pt_print.specs.Printed.{units_part}
 use Rattle.ep_defs.specs.declared.event.EventDef.{EventDef}
-use Rattle.std.specs.List.{concat}
+use Rattle.ep_defs.specs.declared.event.FieldDef.{FieldDef}
+use Rattle.std.specs.List.{concat, flat_map}
 use Rattle.ep_defs.specs.Entry.{EventEntry}
 use Rattle.pt_lines.specs.declared.chromium.phase.Phase.{Phase}
 use Rattle.pt_lines.specs.declared.origin.Origin.{Origin}
-use Rattle.pt_lines.specs.Texts.{quoted}
+use Rattle.pt_lines.specs.Texts.{name_unit, quoted}
 use Rattle.pt_lines.specs.Json.{integer}
 use Rattle.pt_lines.specs.Chromium.{moment_text, phase_of, phase_text}
 
@@ -33,3 +34,13 @@ names_text def = units_part def.provider ++ units_part def.name
 -- What a trace event is that is an instant, up to its moment.
 abbrev pub instant_text : EventDef → List ℕ
 instant_text def = concat (codes ",\n{\"name\":" ∷ quoted def.name ∷ codes ",\"cat\":" ∷ quoted def.provider ∷ codes ",\"ph\":\"i\",\"s\":\"t\"" ∷ [])
+
+-- ---- what is the same for all values of a field
+
+-- Its name, as it stands in a line.
+abbrev pub label_text : FieldDef → List ℕ
+label_text field = concat (codes " " ∷ flat_map name_unit field.name ∷ codes "=" ∷ [])
+
+-- Its name, as it stands in an object behind other members.
+abbrev pub member_text : FieldDef → List ℕ
+member_text field = codes "," ++ quoted field.name ++ codes ":"
