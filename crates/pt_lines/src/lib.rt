@@ -28,6 +28,6 @@ pub use chromium::line::put_error as put_error_tail;
 pub use form::Form;
 pub use json::line::put_error;
 pub use line::{EventLine, put_event, put_lost, put_point};
-pub use named::NamedDef;
+pub use named::{NamedDef, NamedField};
 pub use origin::Origin;
 pub use page::line::put_error as put_error_page;

@@ -1,9 +1,10 @@
 //! A definition with what the lines of its events say of it.
 ghost use Rattle.std.specs.Prelude.{◌≡◌, IfOk};
 ghost use Rattle.pt_lines.specs.Json.{behind_commas, definition_members};
-ghost use Rattle.pt_lines.specs.state.Pieces.{instant_text, label_text, member_text, names_text};
+ghost use Rattle.pt_lines.specs.state.Pieces.{end_of as end_in, instant_text, label_text, member_text, names_text, span_text};
 
-use crate::chromium::line::put_instant;
+use crate::chromium::line::{put_instant, put_span};
+use crate::chromium::phase::{Phase, end_of};
 use crate::fields::put_label;
 use crate::json::line::put_definition;
 use crate::json::nest::put_member;
@@ -23,19 +24,23 @@ pub struct NamedDef {
     members: Vec<u8>,
     // A trace event up to its moment, for an instant.
     instant: Vec<u8>,
+    // A trace event up to its phase, for an event of an activity, and what such an event is.
+    span: Vec<u8>,
+    phase: Phase,
 }
 
 impl Model for NamedDef {
     ghost use Rattle.std.specs.Prelude.{◌≡◌};
     ghost use Rattle.ep_defs.specs.declared.event.EventDef.{EventDef};
     ghost use Rattle.pt_lines.specs.Json.{behind_commas, definition_members};
-    ghost use Rattle.pt_lines.specs.state.Pieces.{instant_text, names_text};
+    ghost use Rattle.pt_lines.specs.state.Pieces.{end_of, instant_text, names_text, span_text};
 
     ghost Value = { EventDef };
 
     ghost view = { λ d. d.def };
 
-    ghost invariant = { λ d. (d.fields.items ≡ d.def.fields) × (d.names.items ≡ names_text d.def) × (d.members.items ≡ behind_commas (definition_members d.def)) × (d.instant.items ≡ instant_text d.def) };
+    ghost invariant = { λ d. (d.fields.items ≡ d.def.fields) × (d.names.items ≡ names_text d.def) × (d.members.items ≡ behind_commas (definition_members d.def)) × (d.instant.items ≡ instant_text d.def)
+        × (d.span.items ≡ span_text d.def) × (d.phase ≡ (end_of d.def.name).0) };
 }
 
 impl NamedDef {
@@ -49,6 +54,9 @@ impl NamedDef {
         put_definition(&mut members, def)?;
         let mut instant = Vec::new(alloc);
         put_instant(&mut instant, def)?;
+        let mut span = Vec::new(alloc);
+        put_span(&mut span, def)?;
+        let (phase, _) = end_of(def.name.as_slice());
         let fields = name_fields(alloc, def.fields.as_slice())?;
         let def = def.copy(alloc)?;
         Ok(NamedDef {
@@ -57,21 +65,9 @@ impl NamedDef {
             names,
             members,
             instant,
+            span,
+            phase,
         })
-    }
-
-    /// Its provider.
-    pub fn provider(&self) -> &[u16]
-        ensures { result.now ≡ self.now.provider }
-    {
-        self.def.provider.as_slice()
-    }
-
-    /// Its name.
-    pub fn name(&self) -> &[u16]
-        ensures { result.now ≡ self.now.name }
-    {
-        self.def.name.as_slice()
     }
 
     /// The fields of its events.
@@ -100,6 +96,20 @@ impl NamedDef {
         ensures { result.now ≡ instant_text self.now }
     {
         self.instant.as_slice()
+    }
+
+    /// What a trace event says of it that has an activity, up to its phase.
+    pub fn span(&self) -> &[u8]
+        ensures { result.now ≡ span_text self.now }
+    {
+        self.span.as_slice()
+    }
+
+    /// What its events of an activity are.
+    pub fn phase(&self) -> Phase
+        ensures { result ≡ (end_in self.now.name).0 }
+    {
+        self.phase
     }
 }
 

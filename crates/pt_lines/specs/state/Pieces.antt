@@ -9,7 +9,7 @@ use Rattle.pt_lines.specs.declared.chromium.phase.Phase.{Phase}
 use Rattle.pt_lines.specs.declared.origin.Origin.{Origin}
 use Rattle.pt_lines.specs.Texts.{name_unit, quoted}
 use Rattle.pt_lines.specs.Json.{integer}
-use Rattle.pt_lines.specs.Chromium.{moment_text, phase_of, phase_text}
+use Rattle.pt_lines.specs.Chromium.{moment_text, phase_by, phase_of, phase_text, stem_of}
 
 -- What it is in this phase of this name.
 abbrev pub pieces_in : Phase × List ℕ → EventEntry → List (List ℕ)
@@ -34,6 +34,14 @@ names_text def = units_part def.provider ++ units_part def.name
 -- What a trace event is that is an instant, up to its moment.
 abbrev pub instant_text : EventDef → List ℕ
 instant_text def = concat (codes ",\n{\"name\":" ∷ quoted def.name ∷ codes ",\"cat\":" ∷ quoted def.provider ∷ codes ",\"ph\":\"i\",\"s\":\"t\"" ∷ [])
+
+-- What an event of an activity is that has this name, and the name of the instant or of the span.
+abbrev pub end_of : List ℕ → Phase × List ℕ
+end_of name = phase_by name (stem_of (codes "Start") name) (stem_of (codes "Stop") name)
+
+-- What a trace event of an activity is, up to its phase.
+abbrev pub span_text : EventDef → List ℕ
+span_text def = concat (codes ",\n{\"name\":" ∷ quoted (end_of def.name).1 ∷ codes ",\"cat\":" ∷ quoted def.provider ∷ codes "," ∷ [])
 
 -- ---- what is the same for all values of a field
 

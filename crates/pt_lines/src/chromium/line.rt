@@ -1,17 +1,18 @@
 //! Whole lines.
-ghost use Rattle.std.specs.Prelude.{◌≡◌, ◌++◌, ℕ, OnOk};
+ghost use Rattle.std.specs.Prelude.{◌≡◌, ◌++◌, ℕ, false, replicate, OnOk};
 ghost use Rattle.std.specs.List.{concat};
 ghost use Rattle.ep_defs.specs.Entry.{EventEntry};
+ghost use Rattle.ep_defs.specs.Event.{is_same_text};
 ghost use Rattle.pt_lines.specs.declared.form.Form.TheVariants as forms;
 ghost use Rattle.pt_lines.specs.declared.origin.Origin.{Origin};
 ghost use Rattle.pt_lines.specs.Line.{Event};
 ghost use Rattle.pt_lines.specs.Forms.{IsLine};
 ghost use Rattle.pt_lines.specs.Chromium.{error_tail, lost_counter, point_instant};
 ghost use Rattle.pt_lines.specs.Appends.{Appends, Tells};
-ghost use Rattle.pt_lines.specs.state.Pieces.{instant_text, named_pieces, placed_pieces};
+ghost use Rattle.pt_lines.specs.state.Pieces.{instant_text, named_pieces, placed_pieces, span_text};
 
 use crate::chromium::moment::put_moment;
-use crate::chromium::phase::{phase_of, put_phase};
+use crate::chromium::phase::{end_of, put_phase};
 use crate::json::fields::put_payload;
 use crate::json::line::put_error as put_error_object;
 use crate::json::value::put_integer;
@@ -82,18 +83,26 @@ fn put_named(out: &mut Vec<u8>, event: &EventLine<'_>) -> Result<(), AllocError>
     put_phased(out, event)
 }
 
-// So it is with an event of any activity.
+// So it is with an event of an activity.
 fn put_phased(out: &mut Vec<u8>, event: &EventLine<'_>) -> Result<(), AllocError>
+    requires { is_same_text event.now.activity.now (replicate 16 0) ≡ false }
     ensures { (origin : Origin) (processor thread : ℕ) (entry : EventEntry) → Tells event.now origin processor thread entry
         → OnOk result (out.new.items ≡ out.old.items ++ concat (named_pieces entry)) }
 {
-    let (phase, shown) = phase_of(event.activity, event.def.name());
+    out.extend_from_slice(event.def.span())?;
+    put_phase(out, event.activity, event.def.phase())
+}
+
+/// Appends what a trace event of this definition is that has an activity, up to its phase.
+pub fn put_span(out: &mut Vec<u8>, def: &EventDef) -> Result<(), AllocError>
+    ensures { OnOk result (out.new.items ≡ out.old.items ++ span_text def.now) }
+{
+    let (_, shown) = end_of(def.name.as_slice());
     put_word(out, ",\n{\"name\":")?;
     put_quoted(out, shown)?;
     put_word(out, ",\"cat\":")?;
-    put_quoted(out, event.def.provider())?;
-    out.push(b',')?;
-    put_phase(out, event.activity, phase)
+    put_quoted(out, def.provider.as_slice())?;
+    Ok(out.push(b',')?)
 }
 
 /// Appends what an instant of this definition is, up to its moment.
