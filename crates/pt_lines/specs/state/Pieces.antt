@@ -1,6 +1,6 @@
 -- What is put of an event in one piece or some, up to its payload.
 use Rattle.std.specs.Prelude.{ℕ, List, [], ◌∷◌, ◌++◌, codes}
-use Rattle.pt_print.specs.Printed.{units_part}
+use Rattle.pt_print.specs.Printed.{number_part, units_part}
 use Rattle.ep_defs.specs.declared.event.EventDef.{EventDef}
 use Rattle.ep_defs.specs.declared.event.FieldDef.{FieldDef}
 use Rattle.std.specs.List.{concat, flat_map}
@@ -24,6 +24,10 @@ named_pieces event = pieces_in (phase_of event.activity event.def.name) event
 abbrev pub placed_pieces : Origin → EventEntry → List (List ℕ)
 placed_pieces origin event =
     codes "," ∷ moment_text origin event.stamp ∷ codes ",\"tid\":" ∷ integer event.thread ∷ codes ",\"args\":{\"number\":" ∷ integer event.number ∷ codes "," ∷ []
+
+-- The word and the numbers of an event in a line.
+abbrev pub numbers_text : ℕ → ℕ → ℕ → List ℕ
+numbers_text stamp thread number = codes "event" ++ (number_part stamp ++ (number_part thread ++ number_part number))
 
 -- ---- what is the same for all events of a definition
 
