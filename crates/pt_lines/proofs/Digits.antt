@@ -43,12 +43,12 @@ placed-text text rest number start blanks front written count fits =
     let left : start - (start - blanks) ≡ blanks = omega (arith, fits) in
     let one : blanks ≡ suc (10 - length digits) = omega (arith, count) in (
       ap (λ (xs : List ℕ). drop (start - blanks) xs) whole
-      ∙ drop-append-le (start - blanks) (blank start) (digits ++ rest) (omega (arith, length-replicate {A = ℕ} start 32))
-      ∙ ap (λ (xs : List ℕ). xs ++ (digits ++ rest)) (drop-replicate {X = ℕ} (start - blanks) start 32 ∙ ap blank (left ∙ one))
-      ∙ sym (append_assoc (blank (suc (10 - length digits))) digits rest),
+          ∙ drop-append-le (start - blanks) (blank start) (digits ++ rest) (omega (arith, length-replicate {A = ℕ} start 32))
+          ∙ ap (λ (xs : List ℕ). xs ++ (digits ++ rest)) (drop-replicate {X = ℕ} (start - blanks) start 32 ∙ ap blank (left ∙ one))
+          ∙ sym (append_assoc (blank (suc (10 - length digits))) digits rest),
       ap (λ (xs : List ℕ). take (start - blanks) xs) whole
-      ∙ take-append-le (start - blanks) (blank start) (digits ++ rest) (omega (arith, length-replicate {A = ℕ} start 32))
-      ∙ take-replicate {X = ℕ} (start - blanks) start 32 (omega arith),
+          ∙ take-append-le (start - blanks) (blank start) (digits ++ rest) (omega (arith, length-replicate {A = ℕ} start 32))
+          ∙ take-replicate {X = ℕ} (start - blanks) start 32 (omega arith),
     )
 
 -- What stands before a place stands before an earlier one too.

@@ -1,8 +1,6 @@
 //! Whole lines.
-ghost use Rattle.std.specs.Prelude.{◌≡◌, ◌+◌, ◌≤◌, ◌++◌, ℕ, length, take, drop, replicate, OnOk};
+ghost use Rattle.std.specs.Prelude.{◌≡◌, ◌++◌, ℕ, OnOk};
 ghost use Rattle.ep_defs.specs.Entry.{EventEntry};
-ghost use Rattle.pt_print.specs.Printed.{number_part};
-ghost use Rattle.pt_lines.specs.declared.line.TheConstants.{NUMBER_BYTES};
 ghost use Rattle.pt_lines.specs.declared.form.Form.TheVariants as forms;
 ghost use Rattle.pt_lines.specs.declared.origin.Origin.{Origin};
 ghost use Rattle.pt_lines.specs.Line.{Event, Lost, Point, lost_if};
@@ -15,9 +13,10 @@ use crate::fields::put_payload;
 use crate::form::Form;
 use crate::named::NamedDef;
 use crate::origin::Origin;
+use crate::place::place_number;
 use crate::{chromium, json, page};
 use ep_defs::EventDef;
-use pt_print::{PLACES, put_end, put_number, put_units, put_word};
+use pt_print::{put_end, put_number, put_units, put_word};
 use std::alloc::{AllocError, Global};
 
 /// What the line of an event says.
@@ -144,9 +143,6 @@ fn put_event_start(out: &mut Vec<u8>, event: &EventLine<'_>) -> Result<(), Alloc
     out.extend_from_slice(event.def.names())
 }
 
-// How many bytes a number fills at most with the space before it: 2^64 - 1 has 20 digits.
-const NUMBER_BYTES: usize = 21;
-
 // The word that begins the line of an event.
 const WORD: [u8; 5] = *b"event";
 
@@ -154,12 +150,7 @@ const WORD: [u8; 5] = *b"event";
 const START_BYTES: usize = 68;
 
 // Appends the word and the numbers of an event.
-fn put_numbers(
-    out: &mut Vec<u8>,
-    stamp: u64,
-    thread: u64,
-    number: u32,
-) -> Result<(), AllocError>
+fn put_numbers(out: &mut Vec<u8>, stamp: u64, thread: u64, number: u32) -> Result<(), AllocError>
     ensures { OnOk result (out.new.items ≡ out.old.items ++ numbers_text stamp thread number) }
 {
     // They come behind blanks that stand there already, the last one first, so that all goes in one piece.
@@ -170,23 +161,6 @@ fn put_numbers(
     let start = first - WORD.len();
     text[start..first].copy_from_slice(&WORD);
     out.extend_from_slice(&text[start..])
-}
-
-// Writes a number, right in ten places, behind a space, so that it ends at this place, and answers where it starts. Blanks
-// stand there.
-fn place_number(text: &mut [u8], end: usize, number: u64) -> usize
-    requires within { end ≤ length text.old }
-    requires room { NUMBER_BYTES ≤ end }
-    requires blank { take end text.old ≡ replicate end 32 }
-    ensures few { end ≤ result + NUMBER_BYTES }
-    ensures before { result ≤ end }
-    ensures written { drop result text.new ≡ number_part number ++ drop end text.old }
-    ensures blank { take result text.new ≡ replicate result 32 }
-    ensures len { length text.new ≡ length text.old }
-{
-    let start = itoa::write_digits(number, text, end);
-    let blanks = 1 + PLACES.saturating_sub(end - start);
-    start - blanks
 }
 
 /// Appends the names of a definition, as they stand in the lines of its events.

@@ -2,7 +2,7 @@
 use Rattle.std.proofs.Common.{◌∙◌, arith}
 use Rattle.std.proofs.lemmas.Fmt.{length-decimal-le}
 use Rattle.pt_lines.proofs.Digits.{placed-text, earlier-blank}
-use Rattle.pt_lines.proofs.line.place_number.Goals as goal
+use Rattle.pt_lines.proofs.place.place_number.Goals as goal
 
 pub write_digits-start-requires : goal.write_digits-start-requires
 write_digits-start-requires c = (omega (arith, c.requires.room, length-decimal-le 20 c.args.number (omega arith) (omega arith) c.ranges.number.fits), c.requires.within)
