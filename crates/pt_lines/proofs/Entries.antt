@@ -115,6 +115,11 @@ phased-is event some =
     let start = codes ",\n{\"name\":" ∷ quoted (end_of event.def.name).1 ∷ codes ",\"cat\":" ∷ quoted event.def.provider ∷ codes "," ∷ [] in
     rw some (concat-append start (phase ∷ []) ∙ ap (λ (xs : List ℕ). concat start ++ xs) (append-nil phase))
 
+-- The moment of an event, its process, and what stands behind them, put in three pieces.
+pub place-is : (old comma name time process number rest : List ℕ)
+    → ((old ++ comma) ++ (name ++ time)) ++ (process ++ (number ++ rest)) ≡ old ++ (comma ++ ((((name ++ time) ++ process) ++ number) ++ rest))
+place-is old comma name time process number rest = simp append_assoc
+
 pieces : (old named placed payload end : List ℕ) → (((old ++ named) ++ placed) ++ payload) ++ end ≡ old ++ (named ++ (placed ++ (payload ++ end)))
 pieces old named placed payload end = simp append_assoc
 

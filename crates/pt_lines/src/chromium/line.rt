@@ -11,13 +11,14 @@ ghost use Rattle.pt_lines.specs.Chromium.{error_tail, lost_counter, point_instan
 ghost use Rattle.pt_lines.specs.Appends.{Appends, Tells};
 ghost use Rattle.pt_lines.specs.state.Pieces.{instant_text, named_pieces, placed_pieces, span_text};
 
-use crate::chromium::moment::put_moment;
+use crate::chromium::moment::{put_moment, put_time};
 use crate::chromium::phase::{end_of, put_phase};
 use crate::json::fields::put_payload;
 use crate::json::line::put_error as put_error_object;
 use crate::json::value::put_integer;
 use crate::line::EventLine;
 use crate::origin::Origin;
+use crate::place::{place_member, place_word};
 use crate::text::put_quoted;
 use crate::value::is_none;
 use ep_defs::EventDef;
@@ -122,13 +123,27 @@ fn put_place(out: &mut Vec<u8>, event: &EventLine<'_>) -> Result<(), AllocError>
         → OnOk result (out.new.items ≡ out.old.items ++ concat (placed_pieces origin entry)) }
 {
     out.push(b',')?;
-    put_moment(out, event.origin, event.stamp)?;
-    put_word(out, ",\"tid\":")?;
-    put_integer(out, event.thread)?;
-    put_word(out, ",\"args\":{\"number\":")?;
-    put_integer(out, u64::from(event.number))?;
-    Ok(out.push(b',')?)
+    put_time(out, event.origin.frequency, event.stamp)?;
+    let mut text = [0; PLACE_BYTES];
+    let end = place_word(&mut text, PLACE_BYTES, b",");
+    let number = place_member(
+        &mut text,
+        end,
+        b",\"args\":{\"number\":",
+        u64::from(event.number),
+    );
+    let thread = place_member(&mut text, number, b",\"tid\":", event.thread);
+    let start = place_member(
+        &mut text,
+        thread,
+        b",\"pid\":",
+        u64::from(event.origin.process),
+    );
+    out.extend_from_slice(&text[start..])
 }
+
+// How many bytes these members fill at most behind the stamp: their names and commas 33, and three numbers.
+const PLACE_BYTES: usize = 99;
 
 /// Appends the ends of the objects of a stream that is wrong at this offset of its bytes, in words in which nothing has to be
 /// escaped, with an object that says so.
