@@ -1,8 +1,9 @@
 //! The text of a line: of an event with the values of its fields, of a point, and of numbers that are lost.
 //!
-//! `text` puts names and texts of strangers, `value` the value of a field, `place` pieces that go out together, `fields` the fields of an event by its definition,
-//! `named` a definition with what is put of it once for all of its events, and `line` whole lines, in the form that is asked for; `json` has the form of objects, with modules of the same tasks, and
-//! `chromium` that of trace events, over it. It stands on nt_fields, for the values of a payload, on pt_print, for the parts of
+//! `text` puts names and texts of strangers, `value` the value of a field, `fields` the fields of an event by its definition,
+//! `place` numbers that go out in one piece, `named` a definition with what is put of it once for all of its events, and `line`
+//! whole lines, in the form that is asked for; `json` has the form of objects, with modules of the same tasks, and `chromium`
+//! that of trace events, over it. It stands on nt_fields, for the values of a payload, on pt_print, for the parts of
 //! a line, and on the kit's printers of numbers, floats and UUIDs. What a line tells is `specs/Line`, its text in each form
 //! `specs/Texts`, `specs/Json` and `specs/Chromium`, and `specs/Forms` has all: a function of the line but for floats, whose
 //! text is one that reads back as the float. What stands around the lines is `specs/Around`.

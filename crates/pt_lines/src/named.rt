@@ -39,7 +39,8 @@ impl Model for NamedDef {
 
     ghost view = { λ d. d.def };
 
-    ghost invariant = { λ d. (d.fields.items ≡ d.def.fields) × (d.names.items ≡ names_text d.def) × (d.members.items ≡ behind_commas (definition_members d.def)) × (d.instant.items ≡ instant_text d.def)
+    ghost invariant = { λ d. (d.fields.items ≡ d.def.fields) × (d.names.items ≡ names_text d.def)
+        × (d.members.items ≡ behind_commas (definition_members d.def)) × (d.instant.items ≡ instant_text d.def)
         × (d.span.items ≡ span_text d.def) × (d.phase ≡ (end_of d.def.name).0) };
 }
 
