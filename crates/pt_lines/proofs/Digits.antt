@@ -1,6 +1,7 @@
--- Digits at the end of a buffer.
-use Rattle.std.proofs.Common.{◌≡◌, ℕ, ◌+◌, ◌-◌, ◌≤◌, List, [], ◌∷◌, ◌++◌, length, take, drop, replicate, decimal, sym, ap, ◌∙◌, arith, append-nil, length-append}
-use Rattle.std.proofs.lemmas.List.{take_all, take-append-drop, take-replicate, drop-append-le, drop-replicate, length-replicate}
+-- Digits at the end of a buffer, and behind blanks.
+use Rattle.std.proofs.Common.{◌≡◌, ℕ, ◌+◌, ◌-◌, ◌≤◌, List, [], ◌∷◌, ◌++◌, length, take, drop, replicate, decimal, suc, append_assoc, sym, ap, ◌∙◌, arith, append-nil, length-append}
+use Rattle.std.proofs.lemmas.List.{take_all, take-append-drop, take-append-le, take-replicate, drop-append-le, drop-replicate, length-replicate}
+use Rattle.pt_print.specs.Printed.{number_part}
 use Rattle.pt_lines.specs.Json.{in_quotes}
 
 -- What stands from their start on is the digits.
@@ -26,3 +27,34 @@ quoted-text text number start count sum some written before counted =
     ∙ ap (λ (xs : List ℕ). xs ++ (digits ++ 34 ∷ [])) (drop-replicate {X = ℕ} (start - 1) start 34 ∙ ap (λ (n : ℕ). replicate n 34) one) in
     ap (λ (xs : List ℕ). take count xs) shown
     ∙ take_all count (34 ∷ (digits ++ 34 ∷ [])) (omega (arith, sum, some, counted, length-append digits (34 ∷ [])))
+
+-- So many blanks.
+abbrev blank : ℕ → List ℕ
+blank count = replicate count 32
+
+-- Where a number stands behind blanks, what stands from some blanks on is those blanks, the number, and what follows it.
+pub placed-text : (text rest : List ℕ) (number start blanks : ℕ) → take start text ≡ blank start → drop start text ≡ decimal number ++ rest
+    → blanks ≡ 1 + (10 - length (decimal number)) → blanks ≤ start
+    → (drop (start - blanks) text ≡ number_part number ++ rest) × (take (start - blanks) text ≡ blank (start - blanks))
+placed-text text rest number start blanks front written count fits =
+    let digits : List ℕ = decimal number in
+    let whole : text ≡ blank start ++ (digits ++ rest) =
+    sym (take-append-drop start text) ∙ ap (λ (xs : List ℕ). xs ++ drop start text) front ∙ ap (λ (xs : List ℕ). blank start ++ xs) written in
+    let left : start - (start - blanks) ≡ blanks = omega (arith, fits) in
+    let one : blanks ≡ suc (10 - length digits) = omega (arith, count) in (
+      ap (λ (xs : List ℕ). drop (start - blanks) xs) whole
+          ∙ drop-append-le (start - blanks) (blank start) (digits ++ rest) (omega (arith, length-replicate {A = ℕ} start 32))
+          ∙ ap (λ (xs : List ℕ). xs ++ (digits ++ rest)) (drop-replicate {X = ℕ} (start - blanks) start 32 ∙ ap blank (left ∙ one))
+          ∙ sym (append_assoc (blank (suc (10 - length digits))) digits rest),
+      ap (λ (xs : List ℕ). take (start - blanks) xs) whole
+          ∙ take-append-le (start - blanks) (blank start) (digits ++ rest) (omega (arith, length-replicate {A = ℕ} start 32))
+          ∙ take-replicate {X = ℕ} (start - blanks) start 32 (omega arith),
+    )
+
+-- What stands before a place stands before an earlier one too.
+pub earlier-blank : (text : List ℕ) (start end : ℕ) → start ≤ end → take end text ≡ blank end → take start text ≡ blank start
+earlier-blank text start end within front =
+    let whole : text ≡ blank end ++ drop end text = sym (take-append-drop end text) ∙ ap (λ (xs : List ℕ). xs ++ drop end text) front in
+    ap (λ (xs : List ℕ). take start xs) whole
+    ∙ take-append-le start (blank end) (drop end text) (omega (arith, within, length-replicate {A = ℕ} end 32))
+    ∙ take-replicate {X = ℕ} start end 32 within

@@ -1,5 +1,5 @@
 -- The objects of trace events, put piece by piece.
-use Rattle.std.proofs.Common.{◌≡◌, ℕ, true, replicate, List, [], ◌∷◌, ◌++◌, length, refl, ap, sym, ◌∙◌, subst, append_assoc}
+use Rattle.std.proofs.Common.{◌≡◌, ℕ, true, false, replicate, List, [], ◌∷◌, ◌++◌, length, refl, ap, sym, ◌∙◌, subst, append_assoc}
 use Rattle.std.specs.Prelude.{codes}
 use Rattle.std.specs.List.{concat}
 use Rattle.std.proofs.lemmas.List.{append-nil}
@@ -16,7 +16,7 @@ use Rattle.pt_lines.specs.Texts.{quoted}
 use Rattle.pt_lines.specs.Json.{IsPayloadMember, behind_commas, integer, object}
 use Rattle.pt_lines.specs.Chromium.{event_phase, lost_counter, moment_text, next_object, phase_of, phase_text, point_instant}
 use Rattle.pt_lines.specs.Appends.{Appends}
-use Rattle.pt_lines.specs.state.Pieces.{instant_text, named_pieces, placed_pieces}
+use Rattle.pt_lines.specs.state.Pieces.{end_of, instant_text, named_pieces, placed_pieces, span_text}
 
 -- ---- an object, member by member
 
@@ -107,6 +107,18 @@ entry-is origin event payload =
 -- An event of no activity is an instant of its name.
 pub plain-is : (event : EventEntry) → is_same_text event.activity (replicate 16 0) ≡ true → concat (named_pieces event) ≡ instant_text event.def
 plain-is event none = rw none refl
+
+-- An event of an activity is what stands for all of its definition, and its phase.
+pub phased-is : (event : EventEntry) → is_same_text event.activity (replicate 16 0) ≡ false → concat (named_pieces event) ≡ span_text event.def ++ phase_text event.activity (end_of event.def.name).0
+phased-is event some =
+    let phase = phase_text event.activity (end_of event.def.name).0 in
+    let start = codes ",\n{\"name\":" ∷ quoted (end_of event.def.name).1 ∷ codes ",\"cat\":" ∷ quoted event.def.provider ∷ codes "," ∷ [] in
+    rw some (concat-append start (phase ∷ []) ∙ ap (λ (xs : List ℕ). concat start ++ xs) (append-nil phase))
+
+-- The moment of an event, its process, and what stands behind them, put in three pieces.
+pub place-is : (old comma name time process number rest : List ℕ)
+    → ((old ++ comma) ++ (name ++ time)) ++ (process ++ (number ++ rest)) ≡ old ++ (comma ++ ((((name ++ time) ++ process) ++ number) ++ rest))
+place-is old comma name time process number rest = simp append_assoc
 
 pieces : (old named placed payload end : List ℕ) → (((old ++ named) ++ placed) ++ payload) ++ end ≡ old ++ (named ++ (placed ++ (payload ++ end)))
 pieces old named placed payload end = simp append_assoc

@@ -1,4 +1,4 @@
 //! Lines as trace events (Google's "Trace Event Format").
 pub mod line;
 mod moment;
-mod phase;
+pub mod phase;

@@ -6,7 +6,9 @@ ghost use Rattle.pt_num.specs.Begins.{Keeps};
 ghost use Rattle.pt_lines.specs.Texts.{IsPayload, closes, field_name};
 ghost use Rattle.pt_lines.specs.Appends.{Appends};
 ghost use Rattle.pt_lines.specs.state.Fields.{PutsValues};
+ghost use Rattle.pt_lines.specs.state.Pieces.{label_text};
 
+use crate::named::NamedField;
 use crate::text::put_name;
 use crate::value::{put_hex, put_value};
 use ep_defs::{FieldDef, OBJECT_CODE};
@@ -17,7 +19,7 @@ use std::alloc::{AllocError, Global};
 pub fn put_payload(
     out: &mut Vec<u8>,
     alloc: Global,
-    fields: &[FieldDef],
+    fields: &[NamedField],
     payload: &[u8],
 ) -> Result<(), AllocError>
     ensures { OnOk result (Appends (IsPayload fields.now payload.now (payload_at fields.now payload.now)) out.old.items out.new.items) }
@@ -35,7 +37,7 @@ pub fn put_payload(
 fn put_values(
     out: &mut Vec<u8>,
     alloc: Global,
-    fields: &[FieldDef],
+    fields: &[NamedField],
     payload: &[u8],
 ) -> Result<bool, AllocError>
     ensures { IfOk result (λ fits. PutsValues fields.now (payload_at fields.now payload.now) fits out.old.items out.new.items) }
@@ -43,7 +45,7 @@ fn put_values(
     let mut opened = 0;
     let mut bytes = payload;
     for field in fields {
-        let Some(kind) = FieldKind::of(field.code) else {
+        let Some(kind) = FieldKind::of(field.code()) else {
             return Ok(false);
         };
         let Some(taken) = kind.take(bytes) else {
@@ -61,21 +63,28 @@ fn put_values(
     Ok(true)
 }
 
-fn put_field_name(out: &mut Vec<u8>, opened: u64, field: &FieldDef) -> Result<(), AllocError>
+fn put_field_name(out: &mut Vec<u8>, opened: u64, field: &NamedField) -> Result<(), AllocError>
     ensures { OnOk result (out.new.items ≡ out.old.items ++ field_name opened field.now) }
 {
-    put_closes(out, opened.saturating_sub(u64::from(field.depth)))?;
+    put_closes(out, opened.saturating_sub(u64::from(field.depth())))?;
+    out.extend_from_slice(field.label())
+}
+
+/// Appends the name of a field, as it stands in lines.
+pub fn put_label(out: &mut Vec<u8>, field: &FieldDef) -> Result<(), AllocError>
+    ensures { OnOk result (out.new.items ≡ out.old.items ++ label_text field.now) }
+{
     out.push(b' ')?;
     put_name(out, field.name.as_slice())?;
     Ok(out.push(b'=')?)
 }
 
 // How many objects are open after a field.
-fn open_after(field: &FieldDef) -> u64
+fn open_after(field: &NamedField) -> u64
     ensures { result ≡ deepest_after field.now }
 {
-    let depth = u64::from(field.depth);
-    if field.code == OBJECT_CODE {
+    let depth = u64::from(field.depth());
+    if field.code() == OBJECT_CODE {
         depth + 1
     } else {
         depth

@@ -1,6 +1,6 @@
 //! Lines as objects of JSON (RFC 8259).
 pub mod fields;
 pub mod line;
-mod nest;
+pub mod nest;
 mod stack;
 pub mod value;

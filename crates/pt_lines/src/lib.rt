@@ -1,8 +1,9 @@
 //! The text of a line: of an event with the values of its fields, of a point, and of numbers that are lost.
 //!
 //! `text` puts names and texts of strangers, `value` the value of a field, `fields` the fields of an event by its definition,
-//! `named` a definition with what is put of it once for all of its events, and `line` whole lines, in the form that is asked for; `json` has the form of objects, with modules of the same tasks, and
-//! `chromium` that of trace events, over it. It stands on nt_fields, for the values of a payload, on pt_print, for the parts of
+//! `place` numbers that go out in one piece, `named` a definition with what is put of it once for all of its events, and `line`
+//! whole lines, in the form that is asked for; `json` has the form of objects, with modules of the same tasks, and `chromium`
+//! that of trace events, over it. It stands on nt_fields, for the values of a payload, on pt_print, for the parts of
 //! a line, and on the kit's printers of numbers, floats and UUIDs. What a line tells is `specs/Line`, its text in each form
 //! `specs/Texts`, `specs/Json` and `specs/Chromium`, and `specs/Forms` has all: a function of the line but for floats, whose
 //! text is one that reads back as the float. What stands around the lines is `specs/Around`.
@@ -21,6 +22,7 @@ mod line;
 mod named;
 mod origin;
 mod page;
+mod place;
 mod text;
 mod value;
 
@@ -28,6 +30,6 @@ pub use chromium::line::put_error as put_error_tail;
 pub use form::Form;
 pub use json::line::put_error;
 pub use line::{EventLine, put_event, put_lost, put_point};
-pub use named::NamedDef;
+pub use named::{NamedDef, NamedField};
 pub use origin::Origin;
 pub use page::line::put_error as put_error_page;

@@ -7,12 +7,13 @@ ghost use Rattle.pt_lines.specs.Line.{Event, Lost, Point, lost_if};
 ghost use Rattle.pt_lines.specs.Texts.{event_start, lost_line, point_text};
 ghost use Rattle.pt_lines.specs.Forms.{AreLines, IsLine};
 ghost use Rattle.pt_lines.specs.Appends.{Appends, Tells};
-ghost use Rattle.pt_lines.specs.state.Pieces.{names_text};
+ghost use Rattle.pt_lines.specs.state.Pieces.{names_text, numbers_text};
 
 use crate::fields::put_payload;
 use crate::form::Form;
 use crate::named::NamedDef;
 use crate::origin::Origin;
+use crate::place::place_number;
 use crate::{chromium, json, page};
 use ep_defs::EventDef;
 use pt_print::{put_end, put_number, put_units, put_word};
@@ -138,11 +139,28 @@ fn put_event_start(out: &mut Vec<u8>, event: &EventLine<'_>) -> Result<(), Alloc
     ensures { (origin : Origin) (processor thread : ℕ) (entry : EventEntry) → Tells event.now origin processor thread entry
         → OnOk result (out.new.items ≡ out.old.items ++ event_start entry) }
 {
-    put_word(out, "event")?;
-    put_number(out, event.stamp)?;
-    put_number(out, event.thread)?;
-    put_number(out, u64::from(event.number))?;
+    put_numbers(out, event.stamp, event.thread, event.number)?;
     out.extend_from_slice(event.def.names())
+}
+
+// The word that begins the line of an event.
+const WORD: [u8; 5] = *b"event";
+
+// How many bytes that word and three numbers fill at most.
+const START_BYTES: usize = 68;
+
+// Appends the word and the numbers of an event.
+fn put_numbers(out: &mut Vec<u8>, stamp: u64, thread: u64, number: u32) -> Result<(), AllocError>
+    ensures { OnOk result (out.new.items ≡ out.old.items ++ numbers_text stamp thread number) }
+{
+    // They come behind blanks that stand there already, the last one first, so that all goes in one piece.
+    let mut text = [b' '; START_BYTES];
+    let third = place_number(&mut text, START_BYTES, u64::from(number));
+    let second = place_number(&mut text, third, thread);
+    let first = place_number(&mut text, second, stamp);
+    let start = first - WORD.len();
+    text[start..first].copy_from_slice(&WORD);
+    out.extend_from_slice(&text[start..])
 }
 
 /// Appends the names of a definition, as they stand in the lines of its events.

@@ -1,10 +1,13 @@
 //! A definition with what the lines of its events say of it.
 ghost use Rattle.std.specs.Prelude.{◌≡◌, IfOk};
 ghost use Rattle.pt_lines.specs.Json.{behind_commas, definition_members};
-ghost use Rattle.pt_lines.specs.state.Pieces.{instant_text, names_text};
+ghost use Rattle.pt_lines.specs.state.Pieces.{end_of as end_in, instant_text, label_text, member_text, names_text, span_text};
 
-use crate::chromium::line::put_instant;
+use crate::chromium::line::{put_instant, put_span};
+use crate::chromium::phase::{Phase, end_of};
+use crate::fields::put_label;
 use crate::json::line::put_definition;
+use crate::json::nest::put_member;
 use crate::line::put_names;
 use ep_defs::{Duplicate, EventDef, FieldDef};
 use std::alloc::{AllocError, Global};
@@ -14,25 +17,31 @@ use std::marker::Model;
 #[derive(Drop)]
 pub struct NamedDef {
     def: EventDef,
+    fields: Vec<NamedField>,
     // Its provider and its name, as they stand in a line.
     names: Vec<u8>,
     // Its members of an object.
     members: Vec<u8>,
     // A trace event up to its moment, for an instant.
     instant: Vec<u8>,
+    // A trace event up to its phase, for an event of an activity, and what such an event is.
+    span: Vec<u8>,
+    phase: Phase,
 }
 
 impl Model for NamedDef {
     ghost use Rattle.std.specs.Prelude.{◌≡◌};
     ghost use Rattle.ep_defs.specs.declared.event.EventDef.{EventDef};
     ghost use Rattle.pt_lines.specs.Json.{behind_commas, definition_members};
-    ghost use Rattle.pt_lines.specs.state.Pieces.{instant_text, names_text};
+    ghost use Rattle.pt_lines.specs.state.Pieces.{end_of, instant_text, names_text, span_text};
 
     ghost Value = { EventDef };
 
     ghost view = { λ d. d.def };
 
-    ghost invariant = { λ d. (d.names.items ≡ names_text d.def) × (d.members.items ≡ behind_commas (definition_members d.def)) × (d.instant.items ≡ instant_text d.def) };
+    ghost invariant = { λ d. (d.fields.items ≡ d.def.fields) × (d.names.items ≡ names_text d.def)
+        × (d.members.items ≡ behind_commas (definition_members d.def)) × (d.instant.items ≡ instant_text d.def)
+        × (d.span.items ≡ span_text d.def) × (d.phase ≡ (end_of d.def.name).0) };
 }
 
 impl NamedDef {
@@ -46,34 +55,27 @@ impl NamedDef {
         put_definition(&mut members, def)?;
         let mut instant = Vec::new(alloc);
         put_instant(&mut instant, def)?;
+        let mut span = Vec::new(alloc);
+        put_span(&mut span, def)?;
+        let (phase, _) = end_of(def.name.as_slice());
+        let fields = name_fields(alloc, def.fields.as_slice())?;
         let def = def.copy(alloc)?;
         Ok(NamedDef {
             def,
+            fields,
             names,
             members,
             instant,
+            span,
+            phase,
         })
     }
 
-    /// Its provider.
-    pub fn provider(&self) -> &[u16]
-        ensures { result.now ≡ self.now.provider }
-    {
-        self.def.provider.as_slice()
-    }
-
-    /// Its name.
-    pub fn name(&self) -> &[u16]
-        ensures { result.now ≡ self.now.name }
-    {
-        self.def.name.as_slice()
-    }
-
     /// The fields of its events.
-    pub fn fields(&self) -> &[FieldDef]
+    pub fn fields(&self) -> &[NamedField]
         ensures { result.now ≡ self.now.fields }
     {
-        self.def.fields.as_slice()
+        self.fields.as_slice()
     }
 
     /// What a line says of it.
@@ -95,5 +97,94 @@ impl NamedDef {
         ensures { result.now ≡ instant_text self.now }
     {
         self.instant.as_slice()
+    }
+
+    /// What a trace event says of it that has an activity, up to its phase.
+    pub fn span(&self) -> &[u8]
+        ensures { result.now ≡ span_text self.now }
+    {
+        self.span.as_slice()
+    }
+
+    /// What its events of an activity are.
+    pub fn phase(&self) -> Phase
+        ensures { result ≡ (end_in self.now.name).0 }
+    {
+        self.phase
+    }
+}
+
+// These fields.
+fn name_fields(alloc: Global, fields: &[FieldDef]) -> Result<Vec<NamedField>, AllocError>
+    ensures { IfOk result (λ named. named.items ≡ fields.now) }
+{
+    let mut named = Vec::new(alloc);
+    for field in fields {
+        named.push(NamedField::new(alloc, field)?)?;
+    }
+    Ok(named)
+}
+
+/// A field. What stands before its values is put once, and copied from here.
+#[derive(Drop)]
+pub struct NamedField {
+    def: FieldDef,
+    // Its name, as it stands in a line.
+    label: Vec<u8>,
+    // Its name, as it stands in an object behind another member.
+    member: Vec<u8>,
+}
+
+impl Model for NamedField {
+    ghost use Rattle.std.specs.Prelude.{◌≡◌};
+    ghost use Rattle.ep_defs.specs.declared.event.FieldDef.{FieldDef};
+    ghost use Rattle.pt_lines.specs.state.Pieces.{label_text, member_text};
+
+    ghost Value = { FieldDef };
+
+    ghost view = { λ f. f.def };
+
+    ghost invariant = { λ f. (f.label.items ≡ label_text f.def) × (f.member.items ≡ member_text f.def) };
+}
+
+impl NamedField {
+    /// A copy of a field.
+    pub fn new(alloc: Global, def: &FieldDef) -> Result<NamedField, AllocError>
+        ensures { IfOk result (λ named. named ≡ def.now) }
+    {
+        let mut label = Vec::new(alloc);
+        put_label(&mut label, def)?;
+        let mut member = Vec::new(alloc);
+        put_member(&mut member, def)?;
+        let def = def.copy(alloc)?;
+        Ok(NamedField { def, label, member })
+    }
+
+    /// How many objects it stands inside of.
+    pub fn depth(&self) -> u32
+        ensures { result ≡ self.now.depth }
+    {
+        self.def.depth
+    }
+
+    /// The type code of its values.
+    pub fn code(&self) -> u8
+        ensures { result ≡ self.now.code }
+    {
+        self.def.code
+    }
+
+    /// What stands in a line before its value.
+    pub fn label(&self) -> &[u8]
+        ensures { result.now ≡ label_text self.now }
+    {
+        self.label.as_slice()
+    }
+
+    /// What stands in an object before its value, behind another member.
+    pub fn member(&self) -> &[u8]
+        ensures { result.now ≡ member_text self.now }
+    {
+        self.member.as_slice()
     }
 }

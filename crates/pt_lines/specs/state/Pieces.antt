@@ -1,14 +1,15 @@
 -- What is put of an event in one piece or some, up to its payload.
 use Rattle.std.specs.Prelude.{ℕ, List, [], ◌∷◌, ◌++◌, codes}
-use Rattle.pt_print.specs.Printed.{units_part}
+use Rattle.pt_print.specs.Printed.{number_part, units_part}
 use Rattle.ep_defs.specs.declared.event.EventDef.{EventDef}
-use Rattle.std.specs.List.{concat}
+use Rattle.ep_defs.specs.declared.event.FieldDef.{FieldDef}
+use Rattle.std.specs.List.{concat, flat_map}
 use Rattle.ep_defs.specs.Entry.{EventEntry}
 use Rattle.pt_lines.specs.declared.chromium.phase.Phase.{Phase}
 use Rattle.pt_lines.specs.declared.origin.Origin.{Origin}
-use Rattle.pt_lines.specs.Texts.{quoted}
+use Rattle.pt_lines.specs.Texts.{name_unit, quoted}
 use Rattle.pt_lines.specs.Json.{integer}
-use Rattle.pt_lines.specs.Chromium.{moment_text, phase_of, phase_text}
+use Rattle.pt_lines.specs.Chromium.{moment_text, phase_by, phase_of, phase_text, stem_of}
 
 -- What it is in this phase of this name.
 abbrev pub pieces_in : Phase × List ℕ → EventEntry → List (List ℕ)
@@ -24,6 +25,10 @@ abbrev pub placed_pieces : Origin → EventEntry → List (List ℕ)
 placed_pieces origin event =
     codes "," ∷ moment_text origin event.stamp ∷ codes ",\"tid\":" ∷ integer event.thread ∷ codes ",\"args\":{\"number\":" ∷ integer event.number ∷ codes "," ∷ []
 
+-- The word and the numbers of an event in a line.
+abbrev pub numbers_text : ℕ → ℕ → ℕ → List ℕ
+numbers_text stamp thread number = codes "event" ++ (number_part stamp ++ (number_part thread ++ number_part number))
+
 -- ---- what is the same for all events of a definition
 
 -- Its names, as they stand in a line.
@@ -33,3 +38,21 @@ names_text def = units_part def.provider ++ units_part def.name
 -- What a trace event is that is an instant, up to its moment.
 abbrev pub instant_text : EventDef → List ℕ
 instant_text def = concat (codes ",\n{\"name\":" ∷ quoted def.name ∷ codes ",\"cat\":" ∷ quoted def.provider ∷ codes ",\"ph\":\"i\",\"s\":\"t\"" ∷ [])
+
+-- What an event of an activity is that has this name, and the name of the instant or of the span.
+abbrev pub end_of : List ℕ → Phase × List ℕ
+end_of name = phase_by name (stem_of (codes "Start") name) (stem_of (codes "Stop") name)
+
+-- What a trace event of an activity is, up to its phase.
+abbrev pub span_text : EventDef → List ℕ
+span_text def = concat (codes ",\n{\"name\":" ∷ quoted (end_of def.name).1 ∷ codes ",\"cat\":" ∷ quoted def.provider ∷ codes "," ∷ [])
+
+-- ---- what is the same for all values of a field
+
+-- Its name, as it stands in a line.
+abbrev pub label_text : FieldDef → List ℕ
+label_text field = concat (codes " " ∷ flat_map name_unit field.name ∷ codes "=" ∷ [])
+
+-- Its name, as it stands in an object behind other members.
+abbrev pub member_text : FieldDef → List ℕ
+member_text field = codes "," ++ quoted field.name ++ codes ":"

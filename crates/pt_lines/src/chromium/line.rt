@@ -1,22 +1,24 @@
 //! Whole lines.
-ghost use Rattle.std.specs.Prelude.{◌≡◌, ◌++◌, ℕ, OnOk};
+ghost use Rattle.std.specs.Prelude.{◌≡◌, ◌++◌, ℕ, false, replicate, OnOk};
 ghost use Rattle.std.specs.List.{concat};
 ghost use Rattle.ep_defs.specs.Entry.{EventEntry};
+ghost use Rattle.ep_defs.specs.Event.{is_same_text};
 ghost use Rattle.pt_lines.specs.declared.form.Form.TheVariants as forms;
 ghost use Rattle.pt_lines.specs.declared.origin.Origin.{Origin};
 ghost use Rattle.pt_lines.specs.Line.{Event};
 ghost use Rattle.pt_lines.specs.Forms.{IsLine};
 ghost use Rattle.pt_lines.specs.Chromium.{error_tail, lost_counter, point_instant};
 ghost use Rattle.pt_lines.specs.Appends.{Appends, Tells};
-ghost use Rattle.pt_lines.specs.state.Pieces.{instant_text, named_pieces, placed_pieces};
+ghost use Rattle.pt_lines.specs.state.Pieces.{instant_text, named_pieces, placed_pieces, span_text};
 
-use crate::chromium::moment::put_moment;
-use crate::chromium::phase::{phase_of, put_phase};
+use crate::chromium::moment::{put_moment, put_time};
+use crate::chromium::phase::{end_of, put_phase};
 use crate::json::fields::put_payload;
 use crate::json::line::put_error as put_error_object;
 use crate::json::value::put_integer;
 use crate::line::EventLine;
 use crate::origin::Origin;
+use crate::place::{place_member, place_word};
 use crate::text::put_quoted;
 use crate::value::is_none;
 use ep_defs::EventDef;
@@ -82,18 +84,26 @@ fn put_named(out: &mut Vec<u8>, event: &EventLine<'_>) -> Result<(), AllocError>
     put_phased(out, event)
 }
 
-// So it is with an event of any activity.
+// So it is with an event of an activity.
 fn put_phased(out: &mut Vec<u8>, event: &EventLine<'_>) -> Result<(), AllocError>
+    requires { is_same_text event.now.activity.now (replicate 16 0) ≡ false }
     ensures { (origin : Origin) (processor thread : ℕ) (entry : EventEntry) → Tells event.now origin processor thread entry
         → OnOk result (out.new.items ≡ out.old.items ++ concat (named_pieces entry)) }
 {
-    let (phase, shown) = phase_of(event.activity, event.def.name());
+    out.extend_from_slice(event.def.span())?;
+    put_phase(out, event.activity, event.def.phase())
+}
+
+/// Appends what a trace event of this definition is that has an activity, up to its phase.
+pub fn put_span(out: &mut Vec<u8>, def: &EventDef) -> Result<(), AllocError>
+    ensures { OnOk result (out.new.items ≡ out.old.items ++ span_text def.now) }
+{
+    let (_, shown) = end_of(def.name.as_slice());
     put_word(out, ",\n{\"name\":")?;
     put_quoted(out, shown)?;
     put_word(out, ",\"cat\":")?;
-    put_quoted(out, event.def.provider())?;
-    out.push(b',')?;
-    put_phase(out, event.activity, phase)
+    put_quoted(out, def.provider.as_slice())?;
+    Ok(out.push(b',')?)
 }
 
 /// Appends what an instant of this definition is, up to its moment.
@@ -113,13 +123,27 @@ fn put_place(out: &mut Vec<u8>, event: &EventLine<'_>) -> Result<(), AllocError>
         → OnOk result (out.new.items ≡ out.old.items ++ concat (placed_pieces origin entry)) }
 {
     out.push(b',')?;
-    put_moment(out, event.origin, event.stamp)?;
-    put_word(out, ",\"tid\":")?;
-    put_integer(out, event.thread)?;
-    put_word(out, ",\"args\":{\"number\":")?;
-    put_integer(out, u64::from(event.number))?;
-    Ok(out.push(b',')?)
+    put_time(out, event.origin.frequency, event.stamp)?;
+    let mut text = [0; PLACE_BYTES];
+    let end = place_word(&mut text, PLACE_BYTES, b",");
+    let number = place_member(
+        &mut text,
+        end,
+        b",\"args\":{\"number\":",
+        u64::from(event.number),
+    );
+    let thread = place_member(&mut text, number, b",\"tid\":", event.thread);
+    let start = place_member(
+        &mut text,
+        thread,
+        b",\"pid\":",
+        u64::from(event.origin.process),
+    );
+    out.extend_from_slice(&text[start..])
 }
+
+// How many bytes these members fill at most behind the stamp: their names and commas 33, and three numbers.
+const PLACE_BYTES: usize = 99;
 
 /// Appends the ends of the objects of a stream that is wrong at this offset of its bytes, in words in which nothing has to be
 /// escaped, with an object that says so.

@@ -1,5 +1,5 @@
 //! When something was.
-ghost use Rattle.std.specs.Prelude.{◌≡◌, ◌++◌, ◌<◌, ◌^◌, ◌*◌, OnOk};
+ghost use Rattle.std.specs.Prelude.{◌≡◌, ◌++◌, ◌<◌, ◌^◌, ◌*◌, codes, OnOk};
 ghost use Rattle.pt_lines.specs.Chromium as texts;
 ghost use Rattle.pt_lines.specs.Chromium.{microseconds, moment_text};
 
@@ -14,10 +14,17 @@ use std::alloc::AllocError;
 pub fn put_moment(out: &mut Vec<u8>, origin: Origin, stamp: u64) -> Result<(), AllocError>
     ensures { OnOk result (out.new.items ≡ out.old.items ++ moment_text origin stamp) }
 {
-    put_word(out, "\"ts\":")?;
-    put_microseconds(out, nanoseconds(origin.frequency, stamp))?;
+    put_time(out, origin.frequency, stamp)?;
     put_word(out, ",\"pid\":")?;
     put_integer(out, u64::from(origin.process))
+}
+
+/// Appends the member of a stamp.
+pub fn put_time(out: &mut Vec<u8>, frequency: u64, stamp: u64) -> Result<(), AllocError>
+    ensures { OnOk result (out.new.items ≡ out.old.items ++ (codes "\"ts\":" ++ microseconds (texts.nanoseconds frequency stamp))) }
+{
+    put_word(out, "\"ts\":")?;
+    put_microseconds(out, nanoseconds(frequency, stamp))
 }
 
 // A stamp in nanoseconds, where so many ticks make a second.

@@ -1,7 +1,8 @@
 //! What an event is: an instant, or an end of a span.
 ghost use Rattle.std.specs.Prelude.{◌≡◌, ◌++◌, OnOk};
-ghost use Rattle.pt_lines.specs.Chromium.{phase_of as phase_in, phase_text};
+ghost use Rattle.pt_lines.specs.Chromium.{phase_text};
 ghost use Rattle.pt_lines.specs.Json.{uuid_text};
+ghost use Rattle.pt_lines.specs.state.Pieces as pieces;
 
 use crate::json::value::put_uuid;
 use pt_print::put_word;
@@ -23,14 +24,11 @@ const START: [u16; 5] = [83, 116, 97, 114, 116];
 
 const STOP: [u16; 4] = [83, 116, 111, 112];
 
-/// What an event of this activity and with this name is, and the name of the instant or of the span.
-pub fn phase_of<'a>(activity: &[u8; 16], name: &'a [u16]) -> (Phase, &'a [u16])
-    ensures phase { result.0 ≡ (phase_in activity.now name.now).0 }
-    ensures name { result.1.now ≡ (phase_in activity.now name.now).1 }
+/// What an event of an activity is that has this name, and the name of the instant or of the span.
+pub fn end_of(name: &[u16]) -> (Phase, &[u16])
+    ensures phase { result.0 ≡ (pieces.end_of name.now).0 }
+    ensures name { result.1.now ≡ (pieces.end_of name.now).1 }
 {
-    if *activity == [0; 16] {
-        return (Phase::Instant, name);
-    }
     if let Some(stem) = name.strip_suffix(&START) {
         return (Phase::Begin, stem);
     }

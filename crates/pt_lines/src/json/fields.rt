@@ -7,7 +7,7 @@ ghost use Rattle.pt_lines.specs.state.Nest.{PutsMembers, still};
 
 use crate::json::nest::Nest;
 use crate::json::value::put_quoted_hex;
-use ep_defs::FieldDef;
+use crate::named::NamedField;
 use nt_fields::FieldKind;
 use pt_print::put_word;
 use std::alloc::{AllocError, Global};
@@ -16,7 +16,7 @@ use std::alloc::{AllocError, Global};
 pub fn put_payload(
     out: &mut Vec<u8>,
     alloc: Global,
-    fields: &[FieldDef],
+    fields: &[NamedField],
     payload: &[u8],
 ) -> Result<(), AllocError>
     ensures { OnOk result (Appends (IsPayloadMember fields.now payload.now (payload_at fields.now payload.now)) out.old.items out.new.items) }
@@ -37,7 +37,7 @@ fn put_members(
     out: &mut Vec<u8>,
     alloc: Global,
     nest: &mut Nest,
-    fields: &[FieldDef],
+    fields: &[NamedField],
     payload: &[u8],
 ) -> Result<bool, AllocError>
     requires { (members : List (ℕ × List ℕ)) → still nest.old members ≡ commas (map (λ member. member.1) members) }
@@ -45,7 +45,7 @@ fn put_members(
 {
     let mut bytes = payload;
     for field in fields {
-        let Some(kind) = FieldKind::of(field.code) else {
+        let Some(kind) = FieldKind::of(field.code()) else {
             return Ok(false);
         };
         let Some(taken) = kind.take(bytes) else {

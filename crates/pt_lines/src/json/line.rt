@@ -13,6 +13,7 @@ use crate::json::fields::put_payload;
 use crate::json::stack::{put_stack, width_of};
 use crate::json::value::{put_integer, put_plain, put_uuid};
 use crate::line::EventLine;
+use crate::place::place_member;
 use crate::text::put_quoted;
 use crate::value::is_none;
 use ep_defs::EventDef;
@@ -105,17 +106,32 @@ fn put_place(out: &mut Vec<u8>, event: &EventLine<'_>) -> Result<(), AllocError>
     ensures { (origin : Origin) (processor thread : ℕ) (entry : EventEntry) → Tells event.now origin processor thread entry
         → OnOk result (out.new.items ≡ out.old.items ++ (codes "{" ++ commas (place_members processor thread entry))) }
 {
-    put_word(out, "{\"kind\":\"event\",\"stamp\":")?;
-    put_integer(out, event.stamp)?;
-    put_word(out, ",\"thread\":")?;
-    put_integer(out, event.thread)?;
-    put_word(out, ",\"number\":")?;
-    put_integer(out, u64::from(event.number))?;
-    put_word(out, ",\"processor\":")?;
-    put_integer(out, u64::from(event.processor))?;
-    put_word(out, ",\"thread_id\":")?;
-    put_integer(out, event.thread_id)
+    let mut text = [0; PLACE_BYTES];
+    let id = place_member(&mut text, PLACE_BYTES, b",\"thread_id\":", event.thread_id);
+    let processor = place_member(
+        &mut text,
+        id,
+        b",\"processor\":",
+        u64::from(event.processor),
+    );
+    let number = place_member(
+        &mut text,
+        processor,
+        b",\"number\":",
+        u64::from(event.number),
+    );
+    let thread = place_member(&mut text, number, b",\"thread\":", event.thread);
+    let start = place_member(
+        &mut text,
+        thread,
+        b"{\"kind\":\"event\",\"stamp\":",
+        event.stamp,
+    );
+    out.extend_from_slice(&text[start..])
 }
+
+// How many bytes its members fill at most: their names 70, and five numbers.
+const PLACE_BYTES: usize = 180;
 
 /// Appends what a definition says of its events.
 pub fn put_definition(out: &mut Vec<u8>, def: &EventDef) -> Result<(), AllocError>

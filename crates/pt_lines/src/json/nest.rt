@@ -3,9 +3,11 @@ ghost use Rattle.std.specs.Prelude.{◌≡◌, ◌<◌, ◌^◌, ℕ, true, List
 ghost use Rattle.nt_fields.specs.Taking.{value_in, StandsIn};
 ghost use Rattle.pt_lines.specs.Texts.{quoted};
 ghost use Rattle.pt_lines.specs.Json.{IsShownBy, commas};
+ghost use Rattle.pt_lines.specs.state.Pieces.{member_text};
 ghost use Rattle.pt_lines.specs.state.Nest.{Adds, Closes, Leaves, comma, still};
 
 use crate::json::value::put_value;
+use crate::named::NamedField;
 use crate::text::put_quoted;
 use ep_defs::FieldDef;
 use nt_fields::Value;
@@ -36,7 +38,7 @@ impl Nest {
         &mut self,
         out: &mut Vec<u8>,
         alloc: Global,
-        field: &FieldDef,
+        field: &NamedField,
         value: &Value<usize>,
         bytes: &[u8],
     ) -> Result<(), AllocError>
@@ -44,10 +46,10 @@ impl Nest {
         ensures { OnOk result ((shown : Option (List ℕ)) × IsShownBy (value_in bytes.now value.now) shown
             × Adds field.now shown self.old self.new out.old.items out.new.items) }
     {
-        self.close_to(out, field.depth)?;
+        self.close_to(out, field.depth())?;
         self.put_name(out, field)?;
         match value {
-            Value::Object => self.open(out, field.depth),
+            Value::Object => self.open(out, field.depth()),
             _ => {
                 self.is_first = false;
                 put_value(out, alloc, value, bytes)
@@ -88,14 +90,11 @@ impl Nest {
     }
 
     // Appends the name of a member, behind a comma where another one stands before it.
-    fn put_name(&self, out: &mut Vec<u8>, field: &FieldDef) -> Result<(), AllocError>
+    fn put_name(&self, out: &mut Vec<u8>, field: &NamedField) -> Result<(), AllocError>
         ensures { OnOk result (out.new.items ≡ out.old.items ++ comma self.now.is_first ++ quoted field.now.name ++ codes ":") }
     {
-        if !self.is_first {
-            out.push(b',')?;
-        }
-        put_quoted(out, field.name.as_slice())?;
-        Ok(out.push(b':')?)
+        let member = field.member();
+        out.extend_from_slice(if self.is_first { &member[1..] } else { member })
     }
 
     // Appends the start of an object at this depth.
@@ -108,6 +107,15 @@ impl Nest {
         self.is_first = true;
         Ok(())
     }
+}
+
+/// Appends the name of a field, as it stands behind other members.
+pub fn put_member(out: &mut Vec<u8>, field: &FieldDef) -> Result<(), AllocError>
+    ensures { OnOk result (out.new.items ≡ out.old.items ++ member_text field.now) }
+{
+    out.push(b',')?;
+    put_quoted(out, field.name.as_slice())?;
+    Ok(out.push(b':')?)
 }
 
 // Appends the ends of so many objects.

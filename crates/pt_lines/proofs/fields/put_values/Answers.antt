@@ -22,7 +22,7 @@ returns-in_default c =
     let split = split-at fields index field c.loop-field-test.true c.field-item.is in
     ends-misfit fields c.args.payload.now c.args.out.now.items (field ∷ drop (index + 1) fields) c.loop-field.bytes.now c.loop-field.opened c.loop-field.out.items
     (subst (λ (left : List FieldDef). Going fields c.args.payload.now c.args.out.now.items left c.loop-field.bytes.now c.loop-field.opened c.loop-field.out.items) split c.loop-field.invariant)
-    (no-kind field (drop (index + 1) fields) c.loop-field.bytes.now (sym c.of.ensures ∙ none))
+    (no-kind field (drop (index + 1) fields) c.loop-field.bytes.now (sym (rw c.code.ensures at c.of.ensures) ∙ none))
 
 pub returns-in_default-take : goal.returns-in_default-take
 returns-in_default-take c =
@@ -33,7 +33,7 @@ returns-in_default-take c =
     let split = split-at fields index field c.loop-field-test.true c.field-item.is in
     ends-misfit fields c.args.payload.now c.args.out.now.items (field ∷ drop (index + 1) fields) c.loop-field.bytes.now c.loop-field.opened c.loop-field.out.items
     (subst (λ (left : List FieldDef). Going fields c.args.payload.now c.args.out.now.items left c.loop-field.bytes.now c.loop-field.opened c.loop-field.out.items) split c.loop-field.invariant)
-    (no-value field (drop (index + 1) fields) c.loop-field.bytes.now c.in-Some.kind (sym c.in-Some.ensures) (rw none at c.take.ensures))
+    (no-value field (drop (index + 1) fields) c.loop-field.bytes.now c.in-Some.kind (sym (rw c.code.ensures at c.in-Some.ensures)) (rw none at c.take.ensures))
 
 pub loop-field-preserved : goal.loop-field-preserved
 loop-field-preserved c =
@@ -45,7 +45,7 @@ loop-field-preserved c =
     let read = c.in-Some-take.ensures in
     let before = subst (λ (left : List FieldDef). Going fields c.args.payload.now c.args.out.now.items left c.loop-field.bytes.now c.loop-field.opened c.loop-field.out.items) split c.loop-field.invariant in
     let after = going-on fields c.args.payload.now c.args.out.now.items field (drop (index + 1) fields) c.loop-field.bytes.now (drop taken.used c.loop-field.bytes.now) c.loop-field.opened c.loop-field.out.items c.put_field_name.new.out.items c.put_value.new.out.items c.in-Some.kind _
-    before (sym c.in-Some.ensures) read.2 c.in_ok-put_field_name.ensures c.in_ok-put_value.ensures in
+    before (sym (rw c.code.ensures at c.in-Some.ensures)) read.2 c.in_ok-put_field_name.ensures c.in_ok-put_value.ensures in
     subst (λ (next : List ℕ). Going fields c.args.payload.now c.args.out.now.items (drop (index + 1) fields) next c.open_after-opened.result c.put_value.new.out.items) (sym (rest_is taken.used c.loop-field.bytes.now))
     (subst (λ (n : ℕ). Going fields c.args.payload.now c.args.out.now.items (drop (index + 1) fields) (drop taken.used c.loop-field.bytes.now) n c.put_value.new.out.items) (sym c.open_after-opened.ensures) after)
 

@@ -26,7 +26,7 @@ returns-in_default c =
     let split = split-at fields index field c.loop-field-test.true c.field-item.is in
     members-misfit fields c.args.payload.now c.args.out.now.items (field ∷ drop (index + 1) fields) c.loop-field.bytes.now c.loop-field.nest c.loop-field.out.items
     (subst (λ (left : List FieldDef). Membering fields c.args.payload.now c.args.out.now.items left c.loop-field.bytes.now c.loop-field.nest c.loop-field.out.items) split c.loop-field.invariant)
-    (no-kind field (drop (index + 1) fields) c.loop-field.bytes.now (sym c.of.ensures ∙ none))
+    (no-kind field (drop (index + 1) fields) c.loop-field.bytes.now (sym (rw c.code.ensures at c.of.ensures) ∙ none))
 
 pub returns-in_default-take : goal.returns-in_default-take
 returns-in_default-take c =
@@ -37,7 +37,7 @@ returns-in_default-take c =
     let split = split-at fields index field c.loop-field-test.true c.field-item.is in
     members-misfit fields c.args.payload.now c.args.out.now.items (field ∷ drop (index + 1) fields) c.loop-field.bytes.now c.loop-field.nest c.loop-field.out.items
     (subst (λ (left : List FieldDef). Membering fields c.args.payload.now c.args.out.now.items left c.loop-field.bytes.now c.loop-field.nest c.loop-field.out.items) split c.loop-field.invariant)
-    (no-value field (drop (index + 1) fields) c.loop-field.bytes.now c.in-Some.kind (sym c.in-Some.ensures) (rw none at c.take.ensures))
+    (no-value field (drop (index + 1) fields) c.loop-field.bytes.now c.in-Some.kind (sym (rw c.code.ensures at c.in-Some.ensures)) (rw none at c.take.ensures))
 
 pub loop-field-preserved : goal.loop-field-preserved
 loop-field-preserved c =
@@ -49,7 +49,7 @@ loop-field-preserved c =
     let read = c.in-Some-take.ensures in
     let before = subst (λ (left : List FieldDef). Membering fields c.args.payload.now c.args.out.now.items left c.loop-field.bytes.now c.loop-field.nest c.loop-field.out.items) split c.loop-field.invariant in
     let after = membering-on fields c.args.payload.now c.args.out.now.items field (drop (index + 1) fields) c.loop-field.bytes.now (drop taken.used c.loop-field.bytes.now) c.loop-field.nest c.put_field.new.self c.loop-field.out.items c.put_field.new.out.items c.in-Some.kind _
-    before (sym c.in-Some.ensures) read.2 c.in_ok-put_field.ensures in
+    before (sym (rw c.code.ensures at c.in-Some.ensures)) read.2 c.in_ok-put_field.ensures in
     subst (λ (next : List ℕ). Membering fields c.args.payload.now c.args.out.now.items (drop (index + 1) fields) next c.put_field.new.self c.put_field.new.out.items) (sym (rest_is taken.used c.loop-field.bytes.now)) after
 
 pub returns-then-not-is_empty : goal.returns-then-not-is_empty

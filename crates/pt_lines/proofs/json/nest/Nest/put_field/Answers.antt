@@ -13,7 +13,7 @@ returns-in-Object c =
       None,
       ap (λ (value : Value ℕ). value_in c.args.bytes.now value) c.in-Object.is,
       add-object c.args.field.now c.args.self.now c.close_to.new.self c.open.new.self c.args.out.now.items c.close_to.new.out.items c.put_name.new.out.items c.open.new.out.items
-          c.in_ok-close_to.ensures c.in_ok-put_name.ensures e.0 e.1 e.2,
+          (rw c.depth.ensures at c.in_ok-close_to.ensures) c.in_ok-put_name.ensures (rw c.depth-in-Object.ensures at e.0) e.1 e.2,
     ))
     c.open.ensures
 
@@ -24,6 +24,6 @@ returns-in_default c =
       Some put.0,
       put.1,
       add-text c.args.field.now put.0 c.args.self.now c.close_to.new.self (record { depths = c.close_to.new.self.depths; is_first = false }) c.args.out.now.items c.close_to.new.out.items c.put_name.new.out.items c.put_value.new.out.items
-          c.in_ok-close_to.ensures c.in_ok-put_name.ensures refl refl put.2,
+          (rw c.depth.ensures at c.in_ok-close_to.ensures) c.in_ok-put_name.ensures refl refl put.2,
     ))
     c.put_value.ensures
