@@ -110,3 +110,10 @@ pub later-part : {L : Type 0} (tells : L → Bool) (given left : L → List ℕ)
 later-part tells given left old mid new head head' more lacking gave full told gave' few same size =
     part-is tells given left old new (head ++ more) (both-gave tells given left old mid new head more gave told gave')
     (λ t. omega (arith, said-is tells given left old mid head head' lacking gave full same size t, length-append head more, few))
+
+-- What it gave then and what it has left is what it had, where it gave a part of some bytes.
+pub part-whole : {L : Type 0} (tells : L → Bool) (given left : L → List ℕ) (old new : L) (bytes : List ℕ) → GavePart tells given left old new bytes
+    → IsTrue (tells old) → given new ++ left new ≡ given old ++ left old
+part-whole tells given left old new bytes gave t =
+    let part = gave t in
+    ap (λ (xs : List ℕ). xs ++ left new) part.2 ∙ append_assoc (given old) part.0 (left new) ∙ ap (λ (xs : List ℕ). given old ++ xs) (sym part.3)

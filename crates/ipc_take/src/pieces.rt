@@ -20,8 +20,6 @@ pub(crate) fn read_more<L: Link>(
         × (length more ≤ count) × OnOk result ((bytes.new.items ≡ bytes.old.items ++ more)
         × IsFull L.tells_given L.left link.old link.new more count) }
     ensures told { L.tells_given link.new ≡ L.tells_given link.old }
-    ensures whole { IsTrue (L.tells_given link.old)
-        → L.given link.new ++ L.left link.new ≡ L.given link.old ++ L.left link.old }
     ensures fault { result ≡ Err LinkFault → HasRisen (L.read_faults link.old) (L.read_faults link.new) }
     ensures sound { result ≢ Err LinkFault → L.read_faults link.new ≡ L.read_faults link.old }
     ensures only { OnErr result ((result ≡ Err LinkFault) ⊎ (result ≡ Err OutOfMemory)) }

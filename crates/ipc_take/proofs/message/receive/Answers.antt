@@ -1,5 +1,6 @@
 use Rattle.std.proofs.Common.{ℕ, List, ◌++◌, ◌∙◌, ap}
-use Rattle.ipc_take.proofs.Reading.{own-is, header-part, later-part}
+use Rattle.ipc_take.specs.Own.{own_bytes}
+use Rattle.ipc_take.proofs.Reading.{own-is, header-part, later-part, part-whole}
 use Rattle.ipc_take.proofs.message.receive.Goals as goal
 
 pub returns-clause-own : goal.returns-clause-own
@@ -37,3 +38,15 @@ returns-clause-part g c =
     first.0 c.deref.result.now second.0 c.lacking_bytes-lacking.result
     first.1 first.3.1 c.read_more.ensures.told second.1 second.2
     (c.deref.ensures.value ∙ head_is) c.lacking_bytes-lacking.ensures
+
+pub returns-in_err-read_more-clause-whole : goal.returns-in_err-read_more-clause-whole
+returns-in_err-read_more-clause-whole g c =
+    part-whole g.L.Source.tells_given g.L.Source.given g.L.Source.left c.args.link.now c.read_more.new.link (own_bytes (g.L.Source.left c.args.link.now)) (returns-in_err-read_more-clause-part g c)
+
+pub returns-in_err-read_more-2-clause-whole : goal.returns-in_err-read_more-2-clause-whole
+returns-in_err-read_more-2-clause-whole g c =
+    part-whole g.L.Source.tells_given g.L.Source.given g.L.Source.left c.args.link.now c.read_more-2.new.link (own_bytes (g.L.Source.left c.args.link.now)) (returns-in_err-read_more-2-clause-part g c)
+
+pub returns-clause-whole : goal.returns-clause-whole
+returns-clause-whole g c =
+    part-whole g.L.Source.tells_given g.L.Source.given g.L.Source.left c.args.link.now c.read_more-2.new.link (own_bytes (g.L.Source.left c.args.link.now)) (returns-clause-part g c)
