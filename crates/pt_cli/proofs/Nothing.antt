@@ -1,5 +1,5 @@
 -- A command that found no memory before it began has touched nothing.
-use Rattle.std.proofs.Common.{ℕ, List, [], refl, sym, inl, inr, arith, Option, Some, None}
+use Rattle.std.proofs.Common.{ℕ, List, refl, inl, inr, arith, Option, Some, None}
 use Rattle.pt_io.specs.declared.sink.Sink.{Ghosts as Sink}
 use Rattle.pt_io.specs.declared.source.Source.{Ghosts as Source}
 use Rattle.pt_command.specs.declared.end.End.TheVariants as ends

@@ -1,14 +1,22 @@
 -- What the command `trace` comes to by how its session ended.
-use Rattle.std.proofs.Common.{◌≡◌, refl, inl, inr, arith}
+use Rattle.std.proofs.Common.{◌≡◌, ◌≢◌, List, refl, inl, inr, arith}
+use Rattle.ep_defs.specs.declared.session.Config.{Config}
+use Rattle.ep_defs.specs.declared.session.Marks.{Marks}
 use Rattle.ep_defs.specs.Session.{standard_info_of}
 use Rattle.ep_stream.specs.declared.session.Fate.{Fate}
 use Rattle.ep_stream.specs.declared.session.Fate.TheVariants as fates
 use Rattle.pt_io.specs.declared.sink.Sink.{Ghosts as Sink}
 use Rattle.pt_command.specs.declared.end.End.{End}
 use Rattle.pt_live.specs.declared.trace.TraceEnd.{TraceEnd}
-use Rattle.pt_live.specs.Trace.{Traced}
+use Rattle.pt_load.specs.declared.plan.Plan.{Plan}
+use Rattle.pt_live.specs.Trace.{AreWhole, HasMarks, Traced}
 use Rattle.pt_asked.specs.declared.words.Asked.{Asked}
 use Rattle.pt_cli.specs.Traced.{IsEndOf, TracesTo}
+
+-- The session had each thread whole where its output took a beginning of a stream.
+whole-marks : (plan : Plan) (config : Config) (fate : Fate) (marks : List Marks) → fate ≢ fates.LinkFault → HasMarks plan config fate marks → AreWhole plan config marks
+whole-marks plan config fate marks sound (inl whole) = whole
+whole-marks plan config fate marks sound (inr none) = absurd (sound none.0)
 
 pub traces-to : {O : Type 0} (sink : Sink O) (asked : Asked) (old new : O) (run : TraceEnd) (fate : Fate) (end : End) → run.fate ≡ fate → IsEndOf fate end
     → Traced sink (standard_info_of 1 1) asked.plan asked.config old new run → TracesTo sink asked old new run.rows.items run.seat run.marks end
@@ -22,10 +30,7 @@ traces-to sink asked old new run fates.ProgramEnd end fate_is is traced =
       memory = λ other. absurd (cc);
       spent = traced.spent;
       written = λ _. traced.rows;
-      whole = λ _. elim traced.marks [
-        | inl whole ↦ whole
-        | inr none ↦ let failed = none.0 in absurd (cc)
-      ];
+      whole = λ _. whole-marks asked.plan asked.config run.fate run.marks (λ failed. cc) traced.marks;
       whole_or_none = λ either. elim either [
         | inl other ↦ absurd (cc)
         | inr other ↦ absurd (cc)
@@ -68,10 +73,7 @@ traces-to sink asked old new run fates.TooLong end fate_is is traced =
       memory = λ other. absurd (cc);
       spent = traced.spent;
       written = λ _. traced.rows;
-      whole = λ _. elim traced.marks [
-        | inl whole ↦ whole
-        | inr none ↦ let failed = none.0 in absurd (cc)
-      ];
+      whole = λ _. whole-marks asked.plan asked.config run.fate run.marks (λ failed. cc) traced.marks;
       whole_or_none = λ either. elim either [
         | inl other ↦ absurd (cc)
         | inr other ↦ absurd (cc)

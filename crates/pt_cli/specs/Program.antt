@@ -21,11 +21,18 @@ use Rattle.pt_roles.specs.declared.live_end.LiveEnd.{LiveEnd}
 use Rattle.pt_io.specs.declared.dock.Dock.{Ghosts as Dock}
 use Rattle.pt_io.specs.Sides.{ReadSide, WriteSide}
 use Rattle.ep_defs.specs.declared.session.Facts.{Facts}
+use Rattle.pt_cli.specs.declared.ends.Finished.{Finished}
 use Rattle.pt_cli.specs.declared.words.Command.{Command}
 use Rattle.pt_cli.specs.declared.words.Command.TheVariants as command
+use Rattle.pt_cli.specs.Ends.{EndsSo}
 use Rattle.pt_cli.specs.Errors.{words_error}
 use Rattle.pt_cli.specs.Traced.{TracesTo}
-use Rattle.pt_cli.specs.Words.{reads_input, calls_peer, awaits_peers, has_peer, runs_server, runs_threads, writes_early}
+use Rattle.pt_cli.specs.Words.{meant, reads_input, calls_peer, awaits_peers, has_peer, runs_server, runs_threads, writes_early}
+
+-- Where the words mean this command for something that is asked, the program ended so for that.
+abbrev pub EndsFor : {A L : Type 0} → List (List ℕ) → (A → Command) → Finished L → (A → End → Type 0) → Type 0
+EndsFor words command finished Holds =
+    (asked : _) → meant words ≡ Some (command asked) → EndsSo finished.status finished.code finished.at (Holds asked)
 
 -- What a command comes to that waits for nobody. All others are refused there, as words are that ask for nothing.
 abbrev pub PlainComesTo : {I O : Type 0} → Source I → Sink O → Option Command → I → I → O → O → End → Type 0

@@ -3,23 +3,18 @@ ghost use Rattle.std.specs.Prelude.{◌≡◌, ℕ, List, [], false, not, map, S
 ghost use Rattle.std.specs.String.{string_bytes};
 ghost use Rattle.pt_command.specs.declared.end.End.TheVariants as ends;
 ghost use Rattle.pt_command.specs.Says.{SaysLine};
-ghost use Rattle.pt_client.specs.declared.words.Command.{Command as ClientCommand};
 ghost use Rattle.pt_client.specs.Answers.{Asks, Fits as ClientFits};
 ghost use Rattle.pt_client.specs.Greeting.{Greets};
 ghost use Rattle.pt_events.specs.Command.{Lists};
 ghost use Rattle.pt_gen.specs.Command.{Generates};
-ghost use Rattle.pt_gen.specs.declared.words.Asked.{Asked as GenAsked};
-ghost use Rattle.pt_lines.specs.declared.form.Form.{Form};
 ghost use Rattle.pt_replay.specs.Command.{Replays};
 ghost use Rattle.pt_report.specs.Command.{Reports};
 ghost use Rattle.pt_run.specs.Reverse.{RunsAs};
-ghost use Rattle.pt_run.specs.declared.words.Asked.{Asked as RunAsked};
-ghost use Rattle.pt_asked.specs.declared.words.Asked.{Asked as SessionAsked};
 ghost use Rattle.pt_watch.specs.Command.{Watches};
 ghost use Rattle.pt_cli.specs.declared.words.Command.TheVariants as commands;
 ghost use Rattle.pt_cli.specs.Ends.{EndsSo};
 ghost use Rattle.pt_cli.specs.Errors.{words_error};
-ghost use Rattle.pt_cli.specs.Program.{AloneComesTo, ComesTo, HasFaults, LeavesAlone, PlainComesTo};
+ghost use Rattle.pt_cli.specs.Program.{AloneComesTo, ComesTo, EndsFor, HasFaults, LeavesAlone, PlainComesTo};
 ghost use Rattle.pt_cli.specs.Traced.{TracesTo};
 ghost use Rattle.pt_cli.specs.Words.{meant, reads_input, runs_threads, Fits};
 ghost use Rattle.ep_defs.specs.Session.{is_valid_facts};
@@ -95,33 +90,26 @@ pub fn tracepipe<
     gate: &G,
 ) -> Finished<L>
     requires facts { IsTrue (is_valid_facts facts.now) }
-    ensures replayed { (session : ℕ) → meant (map string_bytes words.now) ≡ Some (commands.Replay session)
-        → EndsSo result.status result.code result.at
-        (Replays I.Source O.Sink session input.old input.new output.old output.new) }
+    ensures replayed { EndsFor (map string_bytes words.now) commands.Replay result
+        (λ session. Replays I.Source O.Sink session input.old input.new output.old output.new) }
     ensures reported { meant (map string_bytes words.now) ≡ Some commands.Report
         → EndsSo result.status result.code result.at
         (Reports I.Source O.Sink input.old input.new output.old output.new) }
-    ensures listed { (form : Form) → meant (map string_bytes words.now) ≡ Some (commands.Events form)
-        → EndsSo result.status result.code result.at
-        (Lists I.Source O.Sink form input.old input.new output.old output.new) }
-    ensures generated { (asked : GenAsked) → meant (map string_bytes words.now) ≡ Some (commands.Gen asked)
-        → EndsSo result.status result.code result.at (Generates O.Sink asked output.old output.new) }
-    ensures traced { (asked : SessionAsked) → meant (map string_bytes words.now) ≡ Some (commands.Trace asked)
-        → EndsSo result.status result.code result.at
-        (TracesTo O.Sink asked output.old output.new result.rows.items result.seat result.marks) }
-    ensures watched { (asked : SessionAsked) → meant (map string_bytes words.now) ≡ Some (commands.Watch asked)
-        → EndsSo result.status result.code result.at
-        (Watches O.Sink asked output.old output.new result.rows.items result.seat result.marks) }
-    ensures ran { (asked : RunAsked) → meant (map string_bytes words.now) ≡ Some (commands.Run asked)
-        → EndsSo result.status result.code result.at
-        (RunsAs O.Sink D.Dock K.Caller L.Sink L.read_side L.write_side asked facts.now
+    ensures listed { EndsFor (map string_bytes words.now) commands.Events result
+        (λ form. Lists I.Source O.Sink form input.old input.new output.old output.new) }
+    ensures generated { EndsFor (map string_bytes words.now) commands.Gen result
+        (λ asked. Generates O.Sink asked output.old output.new) }
+    ensures traced { EndsFor (map string_bytes words.now) commands.Trace result (λ asked. TracesTo
+        O.Sink asked output.old output.new result.rows.items result.seat result.marks) }
+    ensures watched { EndsFor (map string_bytes words.now) commands.Watch result (λ asked. Watches
+        O.Sink asked output.old output.new result.rows.items result.seat result.marks) }
+    ensures ran { EndsFor (map string_bytes words.now) commands.Run result
+        (λ asked. RunsAs O.Sink D.Dock K.Caller L.Sink L.read_side L.write_side asked facts.now
         output.old output.new dock.old dock.new caller.old caller.new result.peer result.live) }
-    ensures asked { (asked : ClientCommand) → meant (map string_bytes words.now) ≡ Some (commands.Client asked)
-        → EndsSo result.status result.code result.at
-        (Asks O.Sink K.Caller L.Source L.Sink asked output.old output.new caller.old caller.new result.peer) }
-    ensures greeted { (target : List ℕ) → meant (map string_bytes words.now) ≡ Some (commands.Greet target)
-        → EndsSo result.status result.code result.at
-        (Greets O.Sink D.Dock L.Source L.Sink output.old output.new dock.old dock.new result.peer) }
+    ensures asked { EndsFor (map string_bytes words.now) commands.Client result (λ asked. Asks O.Sink
+        K.Caller L.Source L.Sink asked output.old output.new caller.old caller.new result.peer) }
+    ensures greeted { EndsFor (map string_bytes words.now) commands.Greet result (λ target. Greets
+        O.Sink D.Dock L.Source L.Sink output.old output.new dock.old dock.new result.peer) }
     ensures words { meant (map string_bytes words.now) ≡ None
         → EndsSo result.status result.code result.at (SaysLine O.Sink output.old output.new words_error ends.Words) }
     ensures faults { EndsSo result.status result.code result.at
