@@ -32,7 +32,7 @@ use Rattle.ep_registry.specs.Held.{hold_of, hold_at, stage_found}
 use Rattle.ep_registry.specs.Registered.{Desk, IsTied, IsMarked, counted_if}
 use Rattle.ep_journal.proofs.Items.{count-item}
 use Rattle.ep_journal.proofs.Methods.{set-same, serving-on, may-on}
-use Rattle.ep_registry.proofs.Tied.{held-entry, held-set, held-same, marked-keeps, told-tied, changed-tied, put-changes, begun-tied}
+use Rattle.ep_registry.proofs.Tied.{held-known, held-entry, held-set, held-same, marked-keeps, told-tied, changed-tied, put-changes, begun-tied}
 
 -- ---- the tie of the decisions
 
@@ -357,6 +357,11 @@ start-tied d nothing book holds spare marks unclosed early late some = record {
 
 pub shown-hold : (holds : List (Option (Option Hold))) (a b : Hold) → b ≡ a → slice_get holds (CONNECTIONS - a.id) ≡ Some (Some (Some a)) → slice_get holds (CONNECTIONS - b.id) ≡ Some (Some (Some b))
 shown-hold holds a b same h = rw same h
+
+-- The hold that a holder shows is what its session keeps.
+pub shown-known : (d : Desk) (shown hold : Hold) → IsTied d → hold ≡ shown → 0 < hold.id → hold.id ≤ CONNECTIONS
+    → slice_get d.holds (CONNECTIONS - shown.id) ≡ Some (Some (Some shown)) → hold_at d.recorded.sessions hold.id ≡ Some hold
+shown-known d shown hold tied same first last there = held-known d hold tied first last (shown-hold d.holds shown hold same there)
 
 pub seat-within : (r : Recorded) (slot id : ℕ) → IsKept r → accepted_by r.table ≡ accepted.Seat slot id → slot < SLOTS
 seat-within r slot id k h = by_place (position is_free r.table.seats) refl

@@ -6,9 +6,9 @@ use Rattle.ep_journal.specs.Items.{with_item}
 use Rattle.ep_registry.specs.declared.hold.Hold.{Hold}
 use Rattle.ep_journal.specs.Recorded.{Recorded, is_serving}
 use Rattle.ep_registry.specs.Registered.{Desk}
-use Rattle.ep_registry.proofs.Tied.{held-known, book-is}
+use Rattle.ep_registry.proofs.Tied.{book-is}
 use Rattle.ep_registry.proofs.Decides.{half-is}
-use Rattle.ep_registry.proofs.Calls.{shown-hold, failed-tied}
+use Rattle.ep_registry.proofs.Calls.{shown-known, failed-tied}
 use Rattle.ep_registry.proofs.Slots.{hold-held, failed-free}
 use Rattle.ep_registry.proofs.Things.{failed-over}
 use Rattle.ep_registry.proofs.registry.Registry.fail.Goals as goal
@@ -18,7 +18,7 @@ put-requires-clause-held g c =
     let d : Desk = record { recorded = c.self.inside.journal; book = c.self.inside.halves.book; holds = c.self.inside.halves.holds; spare = c.self.inside.halves.spare.items; marks = c.self.inside.halves.marks; roles = c.self.inside.roles; closed = c.self.inside.closed; early = c.self.inside.early; late = c.self.inside.late } in
     let hold = c.hold-hold.result in
     let same = c.hold-hold.ensures.value ∙ c.meet-2.ensures.same.0 in
-    let known = held-known d hold c.self.invariant.tied c.hold-hold.ensures.known.0 c.hold-hold.ensures.known.1 (shown-hold c.self.inside.halves.holds c.args.holder hold same c.meet-2.ensures.equal) in
+    let known = shown-known d c.args.holder hold c.self.invariant.tied same c.hold-hold.ensures.known.0 c.hold-hold.ensures.known.1 c.meet-2.ensures.equal in
     ap (λ (bs : List Bool). slice_get bs hold.slot) c.self.invariant.free ∙ hold-held c.self.inside.journal hold c.fail.ensures.kept known c.hold-hold.ensures.on
 
 pub invariant_of-self : goal.invariant_of-self
@@ -26,7 +26,7 @@ invariant_of-self g c =
     let d : Desk = record { recorded = c.self.inside.journal; book = c.self.inside.halves.book; holds = c.self.inside.halves.holds; spare = c.self.inside.halves.spare.items; marks = c.self.inside.halves.marks; roles = c.self.inside.roles; closed = c.self.inside.closed; early = c.self.inside.early; late = c.self.inside.late } in
     let hold = c.hold-hold.result in
     let same = c.hold-hold.ensures.value ∙ c.meet-2.ensures.same.0 in
-    let known = held-known d hold c.self.invariant.tied c.hold-hold.ensures.known.0 c.hold-hold.ensures.known.1 (shown-hold c.self.inside.halves.holds c.args.holder hold same c.meet-2.ensures.equal) in
+    let known = shown-known d c.args.holder hold c.self.invariant.tied same c.hold-hold.ensures.known.0 c.hold-hold.ensures.known.1 c.meet-2.ensures.equal in
     let serves : is_serving hold.stage ≡ true = ap (λ (k : Hold). is_serving k.stage) same ∙ c.requires.serves in
     let fresh : hold.opened ≡ opened.No = ap (λ (k : Hold). k.opened) same ∙ c.requires.unopened in
     record {

@@ -4,8 +4,7 @@ use Rattle.ep_journal.specs.declared.session.Opened.TheVariants as opened
 use Rattle.ep_registry.specs.declared.hold.Hold.{Hold}
 use Rattle.ep_journal.specs.Recorded.{is_serving}
 use Rattle.ep_registry.specs.Registered.{Desk, counted_if}
-use Rattle.ep_registry.proofs.Tied.{held-known}
-use Rattle.ep_registry.proofs.Calls.{shown-hold, opened-tied, counted-small}
+use Rattle.ep_registry.proofs.Calls.{shown-known, opened-tied, counted-small}
 use Rattle.ep_registry.proofs.Leaves.{early-small, late-small}
 use Rattle.ep_registry.proofs.Things.{opened-over}
 use Rattle.ep_registry.proofs.registry.Registry.open.Goals as goal
@@ -29,7 +28,7 @@ invariant_of-self g c =
     let d : Desk = record { recorded = c.self.inside.journal; book = c.self.inside.halves.book; holds = c.self.inside.halves.holds; spare = c.self.inside.halves.spare.items; marks = c.self.inside.halves.marks; roles = c.self.inside.roles; closed = c.self.inside.closed; early = c.self.inside.early; late = c.self.inside.late } in
     let hold = c.hold-hold.result in
     let same = c.hold-hold.ensures.value ∙ c.meet.ensures.same.0 in
-    let known = held-known d hold c.self.invariant.tied c.hold-hold.ensures.known.0 c.hold-hold.ensures.known.1 (shown-hold c.self.inside.halves.holds c.args.holder.now hold same c.meet.ensures.equal) in
+    let known = shown-known d c.args.holder.now hold c.self.invariant.tied same c.hold-hold.ensures.known.0 c.hold-hold.ensures.known.1 c.meet.ensures.equal in
     let serves : is_serving hold.stage ≡ true = ap (λ (k : Hold). is_serving k.stage) same ∙ c.requires.serves in
     let fresh : hold.opened ≡ opened.No = ap (λ (k : Hold). k.opened) same ∙ c.requires.unopened in
     record {
