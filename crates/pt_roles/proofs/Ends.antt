@@ -39,7 +39,7 @@ use Rattle.pt_roles.specs.Serving.{IsLastOf, IsLeftOf}
 use Rattle.pt_roles.specs.Table.{IsOver, was_opened}
 use Rattle.pt_roles.specs.World.{IsWorldOf, WorldState, before_of, setting_of, writes_of}
 use Rattle.pt_roles.specs.declared.live_end.LiveSession.{LiveSession}
-use Rattle.pt_roles.proofs.Load.{count-writes}
+use Rattle.pt_writers.proofs.Load.{count-writes}
 use Rattle.pt_roles.proofs.Marks.{all-done, all-marks, each-row, early-marks, is-thread, of-threads}
 
 -- The link asked for the session that is left.

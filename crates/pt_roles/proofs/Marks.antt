@@ -15,7 +15,7 @@ use Rattle.pt_stream.specs.State.{IsDone, no_place, place_at}
 use Rattle.pt_stream.specs.declared.place.Place.{Place}
 use Rattle.pt_roles.specs.Ran.{HasEachRow, IsThread, is_early, threads_in}
 use Rattle.pt_roles.specs.World.{WorldState, writes_of}
-use Rattle.pt_roles.proofs.Load.{count-writes}
+use Rattle.pt_writers.proofs.Load.{count-writes}
 
 -- ---- lists
 
