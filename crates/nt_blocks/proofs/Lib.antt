@@ -1,3 +1,4 @@
+pub mod Placing
 pub mod PutBlobs
 pub mod PutForms
 pub mod ReadBack

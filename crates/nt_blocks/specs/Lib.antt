@@ -3,6 +3,7 @@ pub mod Drafts
 pub mod Each
 pub mod Making
 pub mod Ordered
+pub mod Placed
 pub mod Refusals
 pub mod Seen
 pub mod Taking

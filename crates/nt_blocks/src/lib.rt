@@ -13,14 +13,18 @@
 #![tactic(auto)]
 
 mod blob_block;
+mod event_body;
 mod laws;
 pub mod limits;
+mod place;
 mod put;
 mod take;
 
 pub use blob_block::BlobBlock;
+pub use event_body::{BodyEvent, EventBody};
 pub use laws::{
     items_have_the_gaps_of_their_entries, what_a_body_holds_is_read, what_is_read_is_held,
 };
+pub use place::EventPlace;
 pub use put::{put_point, put_stacks};
 pub use take::{BodyFault, take_body};

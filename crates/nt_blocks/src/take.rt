@@ -116,7 +116,7 @@ fn take_items(
 }
 
 // The size of the header of a body of blobs, after which the blobs stand.
-fn header_size(body: &[u8]) -> Result<usize, BodyFault>
+pub(crate) fn header_size(body: &[u8]) -> Result<usize, BodyFault>
     ensures ok { IfOk result (λ size. (at : ℕ) → header_at at body.now ≡ Ok size) }
     ensures within { IfOk result (λ size. size ≤ length body.now) }
     ensures fault { IfErr result (λ fault. (at : ℕ) → IsFault (header_at at body.now) at fault) }
@@ -206,13 +206,13 @@ fn take_blob(
 
 // What the header of a blob says, and the number of its bytes.
 #[derive(Clone, Copy, Drop)]
-struct BlobHead {
-    state: HeadState,
-    used: usize,
+pub(crate) struct BlobHead {
+    pub(crate) state: HeadState,
+    pub(crate) used: usize,
 }
 
 // The header at the front of the bytes, if a blob of such a block may have it and its payload is there.
-fn blob_head(kind: BlockKind, before: &HeadState, bytes: &[u8]) -> Option<BlobHead>
+pub(crate) fn blob_head(kind: BlockKind, before: &HeadState, bytes: &[u8]) -> Option<BlobHead>
     ensures some { IfSome result (λ head. ReadsHead kind before.now bytes.now head.state head.used) }
     ensures none { IsNone result → (at : ℕ)
         → blob_at kind (record { at = at; before = before.now }) bytes.now ≡ Err (refusal at BadHead) }
