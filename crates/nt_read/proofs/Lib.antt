@@ -1,6 +1,6 @@
 pub mod Begins
 pub mod Fuel
-pub mod Names
+pub mod Objects
 pub mod Pieces
 pub mod Steps
 pub mod Unit

@@ -16,7 +16,7 @@ use Rattle.nt_blocks.specs.declared.limits.TheConstants.{READ_BYTES}
 use Rattle.nt_blocks.specs.declared.take.BodyFault.{BodyFault}
 use Rattle.nt_blocks.specs.declared.take.BodyFault.TheVariants as body
 use Rattle.nt_blocks.specs.Refusals.{Refusal, refusal, BadMagic, BadObject, BadVersion, BadBlock, BadHead, BadMeta, Uncompressed, TooLarge, body_at}
-use Rattle.nt_blocks.specs.Taking.{Appends, IsFault}
+use Rattle.nt_blocks.specs.Taking.{IsFault}
 use Rattle.nt_blocks.specs.Verdict.{Object, Stop, Verdict, info_in, may_stand, object_at, objects_at, payload_at, stopped, unit, verdict}
 use Rattle.nt_read.specs.declared.fault.ReadFault.TheVariants as fault
 use Rattle.nt_read.specs.declared.fault.ReadKind.TheVariants as kind
@@ -219,11 +219,6 @@ body-refused block size at before here (body.BadHead place) whole reads = body-s
 body-refused block size at before here (body.BadMeta place) whole reads = body-stops block size at before here (refusal (at + place) BadMeta) whole reads
 body-refused block size at before here (body.Uncompressed place) whole reads = body-stops block size at before here (refusal (at + place) Uncompressed) whole reads
 body-refused block size at before here body.OutOfMemory whole reads = tt
-
--- What taking a body appends to nothing are its items.
-pub body-appends : (block : BlockKind) (size at : ℕ) (before none after : List Item) (here : List ℕ) → length here ≡ size → none ≡ [] → Appends (body_at block at here) none after → Turns (stage.Body block size) at before here stage.Close after
-body-appends block size at before none after here whole empty appends =
-    body-turns block size at before after here appends.found whole appends.reads (rw empty at appends.added)
 
 -- ---- the last tag, and the end
 

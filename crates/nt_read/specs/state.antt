@@ -1,3 +1,3 @@
-pub mod Names
+pub mod Objects
 pub mod Reads
 pub mod Units

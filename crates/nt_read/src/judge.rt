@@ -12,37 +12,50 @@ ghost use Rattle.nt_blocks.specs.Verdict.{info_in, may_stand};
 ghost use Rattle.nt_read.specs.declared.stage.Stage.TheVariants as stage;
 ghost use Rattle.nt_read.specs.declared.stage.Stage.TheVariants.{Close, Tag};
 ghost use Rattle.nt_read.specs.Stages.{needs};
-ghost use Rattle.nt_object.specs.declared.object.BlockKind.TheVariants as block;
-ghost use Rattle.nt_read.specs.Names.{Tells};
-ghost use Rattle.nt_read.specs.state.Names.{TurnsTold};
-ghost use Rattle.nt_read.specs.state.Units.{Faults, Judges, body_fault, payload_stage};
+ghost use Rattle.nt_read.specs.state.Objects.{JudgesTold};
+ghost use Rattle.nt_read.specs.state.Units.{IsPlain, Judges, body_fault, payload_stage};
 ghost use Rattle.nt_read.specs.declared.fault.ReadFault.{ReadFault};
 
 use crate::fault::{ReadFault, ReadKind};
 use crate::stage::{Stage, Version};
-use crate::told::Told;
+use crate::telling::Telling;
 use byteorder::{ByteOrder, LittleEndian};
 use ep_defs::{Item, ItemKind, TraceInfo};
+use nt_blocks::BodyFault;
 use nt_blocks::limits::READ_BYTES;
-use nt_blocks::{BodyFault, take_body};
-use nt_names::take_names;
 use nt_object::limits::{BEGIN_OBJECT, BLOCK_VERSION, END_OBJECT, NULL_REFERENCE, TRACE_VERSION};
 use nt_object::{BlockKind, ObjectKind};
 use std::alloc::Global;
 
 /// The stage after a unit that stands at this offset of the stream, or why the unit is refused.
 ///
-/// `pending` has the items of the object whose end is not read yet. Only bodies take memory.
-pub fn judge(
+/// `pending` tells of the object whose end is not read yet. Only bodies take memory.
+pub fn judge<T: Telling>(
     alloc: Global,
     stage: Stage,
     at: u64,
     unit: &[u8],
-    pending: &mut Vec<Item>,
+    pending: &mut T,
 ) -> Result<Stage, ReadFault>
     requires whole { length unit.now ≡ needs stage at }
     requires at { at + length unit.now < 2 ^ 63 }
-    ensures { Judges stage at pending.old.items unit.now result pending.new.items }
+    ensures judged { JudgesTold T.tells stage at pending.old unit.now result pending.new }
+    ensures tag { IfOk result (λ next. stage ≡ Close → next ≡ Tag true) }
+{
+    match stage {
+        Stage::Trace => trace(at, unit, pending),
+        Stage::Body { kind, size } => body(alloc, kind, size, at, unit, pending),
+        _ => plain(stage, at, unit),
+    }
+}
+
+// The same of a unit that tells nothing.
+fn plain(stage: Stage, at: u64, unit: &[u8]) -> Result<Stage, ReadFault>
+    requires plain { IsPlain stage }
+    requires whole { length unit.now ≡ needs stage at }
+    requires at { at + length unit.now < 2 ^ 63 }
+    ensures judged { (pending : List Item) → Judges stage at pending unit.now result pending }
+    ensures tag { IfOk result (λ next. stage ≡ Close → next ≡ Tag true) }
 {
     match stage {
         Stage::Head => head(at, unit),
@@ -54,57 +67,11 @@ pub fn judge(
             version,
             least,
         } => name(has_trace, len, version, least, at, unit),
-        Stage::Trace => trace(at, unit, pending),
         Stage::Size { kind } => size(kind, at, unit),
         Stage::Padding { kind, size } => padding(kind, size, at, unit),
-        Stage::Body { kind, size } => body(alloc, kind, size, at, unit, pending),
         Stage::Close => close(at, unit),
         Stage::Ended => ended(at, unit),
-    }
-}
-
-/// The same for a reader of names, of which `pending` has what the open object tells.
-pub fn judge_names(
-    alloc: Global,
-    stage: Stage,
-    at: u64,
-    unit: &[u8],
-    pending: &mut Told,
-) -> Result<Stage, ReadFault>
-    requires whole { length unit.now ≡ needs stage at }
-    requires at { at + length unit.now < 2 ^ 63 }
-    ensures turns { IfOk result (λ next. (held : List Item) → Tells pending.old held
-        → TurnsTold stage at held unit.now next pending.new) }
-    ensures tag { IfOk result (λ next. stage ≡ Close → next ≡ Tag true) }
-    ensures faults { IfErr result (λ fault. (held : List Item) → Faults stage at held unit.now fault) }
-{
-    match stage {
-        Stage::Body {
-            kind: BlockKind::Event,
-            size,
-        } => names(size, at, unit, pending),
-        Stage::Close => close(at, unit),
-        _ => {
-            pending.events.clear();
-            judge(alloc, stage, at, unit, &mut pending.items)
-        }
-    }
-}
-
-// The body of a block of events.
-fn names(size: u32, at: u64, unit: &[u8], pending: &mut Told) -> Result<Stage, ReadFault>
-    requires whole { length unit.now ≡ size }
-    requires at { at + length unit.now < 2 ^ 63 }
-    ensures turns { IfOk result (λ next. (held : List Item)
-        → TurnsTold (stage.Body block.Event size) at held unit.now next pending.new) }
-    ensures faults { IfErr result (λ fault. (held : List Item)
-        → Faults (stage.Body block.Event size) at held unit.now fault) }
-{
-    let _size = size;
-    pending.clear();
-    match take_names(unit, at, &mut pending.events) {
-        Ok(()) => Ok(Stage::Close),
-        Err(fault) => Err(fault_in(at, fault)),
+        Stage::Trace | Stage::Body { .. } => unreachable!(),
     }
 }
 
@@ -297,13 +264,12 @@ fn number_at(bytes: &[u8], place: usize) -> u32
     LittleEndian::read_u32(&bytes[place..])
 }
 
-fn trace(at: u64, unit: &[u8], pending: &mut Vec<Item>) -> Result<Stage, ReadFault>
+fn trace<T: Telling>(at: u64, unit: &[u8], pending: &mut T) -> Result<Stage, ReadFault>
     requires { length unit.now ≡ 48 }
-    ensures { Judges stage.Trace at pending.old.items unit.now result pending.new.items }
+    ensures { JudgesTold T.tells stage.Trace at pending.old unit.now result pending.new }
 {
     let info = info_in(unit);
-    pending.clear();
-    pending.push(Item {
+    pending.tell(Item {
         at,
         kind: ItemKind::Trace { info },
     })?;
@@ -329,20 +295,19 @@ fn padding(kind: BlockKind, size: u32, at: u64, unit: &[u8]) -> Result<Stage, Re
     Ok(Stage::Body { kind, size })
 }
 
-fn body(
+fn body<T: Telling>(
     alloc: Global,
     kind: BlockKind,
     size: u32,
     at: u64,
     unit: &[u8],
-    pending: &mut Vec<Item>,
+    pending: &mut T,
 ) -> Result<Stage, ReadFault>
     requires whole { length unit.now ≡ size }
     requires at { at + length unit.now < 2 ^ 63 }
-    ensures { Judges (stage.Body kind size) at pending.old.items unit.now result pending.new.items }
+    ensures { JudgesTold T.tells (stage.Body kind size) at pending.old unit.now result pending.new }
 {
-    pending.clear();
-    match take_body(alloc, kind, unit, at, pending) {
+    match pending.tell_body(alloc, kind, unit, at) {
         Ok(()) => Ok(Stage::Close),
         Err(fault) => Err(fault_in(at, fault)),
     }

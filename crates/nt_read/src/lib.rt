@@ -1,11 +1,12 @@
 //! The readers of a NetTrace stream: bytes in any pieces, and one verdict on them.
 //!
-//! `reader` takes pieces and hands out the items of whole objects, `names_reader` tells object by object what it holds
-//! (`told`), where of an event what it names is enough. `stage` says which unit of the stream is the next one, `judge`
-//! judges a unit that is whole, `fault` has what is refused, and `limits` the sizes of units. It stands on nt_blocks, for
-//! bodies and for the definition of the verdict, on nt_names, for the events of a block by what they name, and on nt_object,
-//! for the kinds of objects. What a reader has read, and what it answers, is `specs/Reading` and `specs/Names`; the verdict
-//! from any unit on is `specs/Stages`.
+//! `reader` takes pieces and hands out the items of whole objects, `object_reader` tells object by object what stands for its
+//! items. What is kept of them is a trait's, `telling`: the items themselves, of an event what it names (`told`), or the
+//! events in the bytes of their body (`lent`). `stage` says which unit of the stream is the next one, `judge` judges a unit
+//! that is whole, `fault` has what is refused, and `limits` the sizes of units. It stands on nt_blocks, for bodies and for the
+//! definition of the verdict, on nt_names, for the events of a block by what they name, and on nt_object, for the kinds of
+//! objects. What a reader has read, and what it answers, is `specs/Reading` and `specs/Objects`, with `specs/Names` and
+//! `specs/Lent` for what is told; the verdict from any unit on is `specs/Stages`.
 //!
 //! Its one contract: however a stream was cut, the items and the answers are those of the verdict on all its bytes.
 //!
@@ -14,13 +15,23 @@
 
 mod fault;
 mod judge;
+mod lent;
 pub mod limits;
-mod names_reader;
+mod object_reader;
 mod reader;
 mod stage;
+mod telling;
 mod told;
 
 pub use fault::{ReadFault, ReadKind};
-pub use names_reader::NamesReader;
+pub use lent::Lent;
+pub use object_reader::ObjectReader;
 pub use reader::TraceReader;
+pub use telling::Telling;
 pub use told::Told;
+
+/// The reader for whom an event's names are enough.
+pub type NamesReader = ObjectReader<Told>;
+
+/// The reader that makes no items of events, whose payloads stand in the body of their block.
+pub type LentReader = ObjectReader<Lent>;

@@ -1,20 +1,20 @@
-//! The reader that tells of an event what it names.
+//! The reader that tells object by object.
 ghost use Rattle.std.specs.Prelude.{◌≡◌, ℕ, ◌+◌, ◌-◌, ◌*◌, ◌<◌, ◌≤◌, ◌^◌, List, [], ◌++◌, length, take, true, Ok, Err, IfOk, IfErr, OnErr};
 ghost use Rattle.nt_read.specs.Stages.{needs};
 
 use crate::fault::{ReadFault, ReadKind};
-use crate::judge::judge_names;
+use crate::judge::judge;
 use crate::stage::Stage;
-use crate::told::Told;
+use crate::telling::Telling;
 use std::alloc::Global;
 use std::mem::swap;
 
-/// Reads a stream that comes in any pieces, as `TraceReader` does, for whom an event's names are enough: no item of an
-/// event is made. A reader stands for the bytes that it was fed.
+/// Reads a stream that comes in any pieces, as `TraceReader` does, and tells object by object what stands for its items: so
+/// no item of an event is made where less will do. A reader stands for the bytes that it was fed.
 ///
 /// It keeps the bytes of at most one unit, and what one object tells.
 #[derive(Drop)]
-pub struct NamesReader {
+pub struct ObjectReader<T> {
     alloc: Global,
     // Which unit is the next one.
     stage: Stage,
@@ -23,33 +23,33 @@ pub struct NamesReader {
     // What came of it.
     kept: Vec<u8>,
     // What the object tells whose end was not read yet.
-    pending: Told,
+    pending: T,
     fault: Option<ReadFault>,
     ghost few: { length kept.items ≤ needs stage at - 1 },
     ghost within: { at + length kept.items < 2 ^ 63 },
 }
 
-impl NamesReader {
+impl<T: Telling> ObjectReader<T> {
     ghost use Rattle.ep_defs.specs.declared.item.Item.{Item};
     ghost use Rattle.nt_blocks.specs.Verdict.{verdict};
     ghost use Rattle.nt_read.specs.declared.fault.ReadFault.TheVariants.{OutOfMemory};
     ghost use Rattle.nt_read.specs.declared.stage.Stage.TheVariants.{Close, Tag};
     ghost use Rattle.nt_read.specs.Answers.{IsKept, end_answer};
-    ghost use Rattle.nt_read.specs.Names.{HasFailed, HasRead, Takes, Tells, used};
-    ghost use Rattle.nt_read.specs.state.Names.{Ends, Steps, StopsNames, TurnsTold};
-    ghost use Rattle.nt_read.specs.state.Units.{Faults, turns_left};
+    ghost use Rattle.nt_read.specs.Objects.{HasFailed, HasRead, Takes, used};
+    ghost use Rattle.nt_read.specs.state.Objects.{Ends, JudgesTold, Steps, StopsObjects};
+    ghost use Rattle.nt_read.specs.state.Units.{turns_left};
 
     /// A reader that was fed nothing. It takes no memory.
-    pub fn new(alloc: Global) -> NamesReader
-        ensures read { HasRead [] result }
+    pub fn new(alloc: Global) -> ObjectReader<T>
+        ensures read { HasRead T.tells [] result }
         ensures used { used result ≡ 0 }
     {
-        NamesReader {
+        ObjectReader {
             alloc,
             stage: Stage::Head,
             at: 0,
             kept: Vec::new(alloc),
-            pending: Told::new(alloc),
+            pending: T::nothing(alloc),
             fault: None,
         }
     }
@@ -59,15 +59,15 @@ impl NamesReader {
     ///
     /// A unit is refused as soon as all its bytes are there. After a fault the reader takes nothing, and answers the same
     /// fault from then on.
-    pub fn feed(&mut self, piece: &[u8], told: &mut Told) -> Result<usize, ReadFault>
+    pub fn feed(&mut self, piece: &[u8], told: &mut T) -> Result<usize, ReadFault>
         requires { used self.old + length piece.now < 2 ^ 63 }
-        ensures ok { IfOk result (λ n. (bytes : List ℕ) → HasRead bytes self.old
-            → Takes bytes (take n piece.now) (Ok tt) self.new told.new) }
+        ensures ok { IfOk result (λ n. (bytes : List ℕ) → HasRead T.tells bytes self.old
+            → Takes T.tells bytes (take n piece.now) (Ok tt) self.new told.new) }
         ensures within { IfOk result (λ n. n ≤ length piece.now) }
         ensures some { IfOk result (λ n. 0 < length piece.now → 0 < n) }
         ensures used { IfOk result (λ n. used self.new ≤ used self.old + n) }
-        ensures refused { IfErr result (λ fault. IsKept (Err fault) → (bytes : List ℕ) → HasRead bytes self.old
-            → Takes bytes piece.now (Err fault) self.new told.new) }
+        ensures refused { IfErr result (λ fault. IsKept (Err fault) → (bytes : List ℕ) → HasRead T.tells bytes self.old
+            → Takes T.tells bytes piece.now (Err fault) self.new told.new) }
         ensures used_all { used self.new ≤ used self.old + length piece.now }
         ensures memory { result ≡ Err OutOfMemory → HasFailed self.new }
         ensures fails { HasFailed self.old → result ≡ Err OutOfMemory }
@@ -87,7 +87,7 @@ impl NamesReader {
 
     /// Whether the bytes are a whole stream: else the refusal that `feed` answered, or Truncated at their number.
     pub fn finish(&self) -> Result<(), ReadFault>
-        ensures read { (bytes : List ℕ) → HasRead bytes self.now
+        ensures read { (bytes : List ℕ) → HasRead T.tells bytes self.now
             → result ≡ end_answer (length bytes) (verdict bytes) }
         ensures fails { HasFailed self.now → result ≡ Err OutOfMemory }
     {
@@ -104,20 +104,18 @@ impl NamesReader {
     }
 
     // Takes units up to the end of an object, or all that are whole, and then keeps what is left.
-    fn read(&mut self, piece: &[u8], told: &mut Told) -> Result<usize, ReadFault>
+    fn read(&mut self, piece: &[u8], told: &mut T) -> Result<usize, ReadFault>
         requires used { used self.old + length piece.now < 2 ^ 63 }
-        requires items { told.old.items.items ≡ [] }
-        requires events { told.old.events.items ≡ [] }
-        ensures ok { IfOk result (λ n. (held : List Item) → Tells self.old.pending held
-            → Ends self.old held piece.now n self.new told.new) }
+        requires none { T.tells told.old [] }
+        ensures ok { IfOk result (λ n. (held : List Item) → T.tells self.old.pending held
+            → Ends T.tells self.old held piece.now n self.new told.new) }
         ensures few { IfOk result (λ n. length self.new.kept.items < needs self.new.stage self.new.at) }
         ensures within { IfOk result (λ n. n ≤ length piece.now) }
         ensures some { IfOk result (λ n. 0 < length piece.now → 0 < n) }
         ensures all { IfOk result (λ n. used self.new ≡ used self.old + n) }
-        ensures err { IfErr result (λ fault. (held : List Item) → Tells self.old.pending held
-            → StopsNames self.old held piece.now fault) }
-        ensures items { OnErr result (told.new.items.items ≡ []) }
-        ensures events { OnErr result (told.new.events.items ≡ []) }
+        ensures err { IfErr result (λ fault. (held : List Item) → T.tells self.old.pending held
+            → StopsObjects self.old held piece.now fault) }
+        ensures none { OnErr result (T.tells told.new []) }
         ensures used { used self.new ≤ used self.old + length piece.now }
         ensures fault { self.new.fault ≡ self.old.fault }
     {
@@ -145,16 +143,16 @@ impl NamesReader {
     fn step(&mut self, bytes: &[u8]) -> Result<usize, ReadFault>
         requires whole { needs self.old.stage self.old.at ≤ length self.old.kept.items + length bytes.now }
         requires within { used self.old + length bytes.now < 2 ^ 63 }
-        ensures ok { IfOk result (λ n. (held : List Item) → Tells self.old.pending held
-            → Steps self.old held bytes.now n self.new) }
+        ensures ok { IfOk result (λ n. (held : List Item) → T.tells self.old.pending held
+            → Steps T.tells self.old held bytes.now n self.new) }
         ensures kept { IfOk result (λ n. self.new.kept.items ≡ []) }
         ensures within { IfOk result (λ n. n ≤ length bytes.now) }
         ensures all { IfOk result (λ n. used self.new ≡ used self.old + n) }
         ensures falls { IfOk result (λ n. turns_left self.new.stage + 3 * (length bytes.now - n) < turns_left self.old.stage + 3 * length bytes.now) }
         ensures closes { IfOk result (λ n. self.old.stage ≡ Close → 0 < n) }
         ensures tag { IfOk result (λ n. self.old.stage ≡ Close → self.new.stage ≡ Tag true) }
-        ensures err { IfErr result (λ fault. (held : List Item) → Tells self.old.pending held
-            → StopsNames self.old held bytes.now fault) }
+        ensures err { IfErr result (λ fault. (held : List Item) → T.tells self.old.pending held
+            → StopsObjects self.old held bytes.now fault) }
         ensures used { used self.new ≤ used self.old + length bytes.now }
         ensures fault { self.new.fault ≡ self.old.fault }
     {
@@ -169,10 +167,8 @@ impl NamesReader {
     fn judge_next(&mut self, last: &[u8]) -> Result<Stage, ReadFault>
         requires whole { length self.old.kept.items + length last.now ≡ needs self.old.stage self.old.at }
         requires within { used self.old + length last.now < 2 ^ 63 }
-        ensures turns { IfOk result (λ next. (held : List Item) → Tells self.old.pending held
-            → TurnsTold self.old.stage self.old.at held (self.old.kept.items ++ last.now) next self.new.pending) }
-        ensures faults { IfErr result (λ fault. (held : List Item)
-            → Faults self.old.stage self.old.at held (self.old.kept.items ++ last.now) fault) }
+        ensures judged { JudgesTold T.tells self.old.stage self.old.at self.old.pending (self.old.kept.items
+            ++ last.now) result self.new.pending }
         ensures tag { IfOk result (λ next. self.old.stage ≡ Close → next ≡ Tag true) }
         ensures kept { IfOk result (λ next. self.new.kept.items ≡ []) }
         ensures few { length self.new.kept.items ≤ length self.old.kept.items }
@@ -181,10 +177,10 @@ impl NamesReader {
         ensures fault { self.new.fault ≡ self.old.fault }
     {
         if self.kept.is_empty() {
-            return judge_names(self.alloc, self.stage, self.at, last, &mut self.pending);
+            return judge(self.alloc, self.stage, self.at, last, &mut self.pending);
         }
         self.kept.extend_from_slice(last)?;
-        let next = judge_names(
+        let next = judge(
             self.alloc,
             self.stage,
             self.at,

@@ -1,9 +1,12 @@
 //! What an object tells, where of an event what it names is enough.
 ghost use Rattle.std.specs.Prelude.{◌≡◌, []};
 
+use crate::telling::Telling;
 use ep_defs::Item;
-use nt_names::EventAt;
-use std::alloc::Global;
+use nt_blocks::{BodyFault, take_body};
+use nt_names::{EventAt, take_names};
+use nt_object::BlockKind;
+use std::alloc::{AllocError, Global};
 
 /// What an object tells: items, or the events of a block by what they name.
 #[derive(Drop)]
@@ -23,13 +26,41 @@ impl Told {
             events: Vec::new(alloc),
         }
     }
+}
 
-    /// Tells nothing from here on, and keeps the room.
-    pub fn clear(&mut self)
-        ensures items { self.new.items.items ≡ [] }
-        ensures events { self.new.events.items ≡ [] }
-    {
+impl Telling for Told {
+    ghost use Rattle.nt_read.specs.Names.{Tells};
+
+    ghost tells = { Tells };
+
+    fn nothing(alloc: Global) -> Told {
+        Told::new(alloc)
+    }
+
+    fn clear(&mut self) {
         self.items.clear();
         self.events.clear();
+    }
+
+    fn tell(&mut self, item: Item) -> Result<(), AllocError> {
+        self.items.clear();
+        self.events.clear();
+        self.items.push(item)?;
+        Ok(())
+    }
+
+    fn tell_body(
+        &mut self,
+        alloc: Global,
+        kind: BlockKind,
+        body: &[u8],
+        at: u64,
+    ) -> Result<(), BodyFault> {
+        self.items.clear();
+        self.events.clear();
+        match kind {
+            BlockKind::Event => take_names(body, at, &mut self.events),
+            _ => take_body(alloc, kind, body, at, &mut self.items),
+        }
     }
 }

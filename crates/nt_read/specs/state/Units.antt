@@ -28,6 +28,19 @@ turns_left (stage.Body kind size) = 1
 turns_left stage.Close = 0
 turns_left stage.Ended = 0
 
+-- A unit of this stage tells nothing.
+abbrev pub IsPlain : Stage → Type 0
+IsPlain stage.Head = Unit {0}
+IsPlain (stage.Tag has_trace) = Unit {0}
+IsPlain (stage.Begun has_trace) = Unit {0}
+IsPlain (stage.Name has_trace n version least) = Unit {0}
+IsPlain stage.Trace = ⊥
+IsPlain (stage.Size kind) = Unit {0}
+IsPlain (stage.Padding kind size) = Unit {0}
+IsPlain (stage.Body kind size) = ⊥
+IsPlain stage.Close = Unit {0}
+IsPlain stage.Ended = Unit {0}
+
 -- The items that are given once a unit of this stage was read, where the open object's are these.
 abbrev pub given : Stage → List Item → List Item
 given stage.Head pending = []

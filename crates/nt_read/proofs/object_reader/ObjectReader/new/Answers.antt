@@ -1,7 +1,7 @@
 use Rattle.std.proofs.Common.{refl}
-use Rattle.nt_read.proofs.Names.{new-names, tells-none}
-use Rattle.nt_read.proofs.names_reader.NamesReader.new.Goals as goal
+use Rattle.nt_read.proofs.Objects.{new-objects}
+use Rattle.nt_read.proofs.object_reader.ObjectReader.new.Goals as goal
 
 pub returns-clause-read : goal.returns-clause-read
-returns-clause-read c =
-    new-names _ refl refl refl c.new.ensures.items (tells-none c.new-2.result c.new-2.ensures.items c.new-2.ensures.events)
+returns-clause-read g c =
+    new-objects g.T.Telling.tells _ refl refl refl c.new.ensures.items c.nothing.ensures

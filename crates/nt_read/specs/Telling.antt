@@ -1,0 +1,10 @@
+-- What is told of a body.
+use Rattle.std.specs.Prelude.{◌≡◌, List, Result, Ok}
+use Rattle.ep_defs.specs.declared.item.Item.{Item}
+use Rattle.nt_blocks.specs.Refusals.{Refusal}
+
+-- The items that are read are told.
+pub record IsTold (read : Result (List Item) Refusal) (Tells : List Item → Type 0) : Type 0 where
+  pub found : List Item
+  pub reads : read ≡ Ok found
+  pub tells : Tells found
