@@ -5,7 +5,7 @@ use Rattle.nt_blocks.specs.Ordered.{kinds_of}
 use Rattle.nt_blocks.specs.Verdict.{verdict}
 use Rattle.nt_read.specs.Answers.{items_of}
 use Rattle.nt_read.specs.declared.fault.ReadFault.{ReadFault}
-use Rattle.nt_read.specs.declared.names_reader.NamesReader.{NamesReader}
+use Rattle.nt_read.specs.declared.object_reader.ObjectReader.{ObjectReader}
 use Rattle.nt_read.specs.declared.told.Told.{Told}
 use Rattle.nt_read.specs.Names as reader
 use Rattle.pt_report.specs.declared.report.Report.{Report}
@@ -27,7 +27,7 @@ pub record HasRead (bytes : List ℕ) (reading : Reading) : Type 0 where
   pub checked : IsChecked (items_of (verdict bytes)) reading.report reading.misplaced
 
 -- After these bytes the reader was fed more, and this is what an object tells that ends with them, if one does.
-abbrev pub IsFed : List ℕ → List ℕ → NamesReader → Told → Type 0
+abbrev pub IsFed : List ℕ → List ℕ → ObjectReader Told → Told → Type 0
 IsFed bytes more fed told = (answer : Result (Unit {0}) ReadFault) × reader.Takes bytes more answer fed told
 
 -- How many bytes were read.
