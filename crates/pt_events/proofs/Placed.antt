@@ -80,3 +80,12 @@ misplaced-item form before item text out now old new kind (had, lines) fault sam
   ),
   same ∙ sym (append-nil out),
 )
+
+-- Some items more, and then others.
+pub checked-then : (form : Form) (before items others : List Item) (text out mid now : List ℕ) (between new : Listing) (maybe misplaced : Option Misplaced) → (first : Appends (λ more. IsChecked form (before ++ items) (text ++ more) between maybe) out mid) → Appends (λ more. IsChecked form ((before ++ items) ++ others) ((text ++ first.0) ++ more) new misplaced) mid now → Appends (λ more. IsChecked form (before ++ (items ++ others)) (text ++ more) new misplaced) out now
+checked-then form before items others text out mid now between new maybe misplaced first second = (
+  first.0 ++ second.0,
+  subst (λ (all : List Item). IsChecked form all (text ++ (first.0 ++ second.0)) new misplaced) (append_assoc before items others)
+      (subst (λ (put : List ℕ). IsChecked form ((before ++ items) ++ others) put new misplaced) (append_assoc text first.0 second.0) second.1),
+  second.2 ∙ ap (λ (put : List ℕ). put ++ second.0) first.2 ∙ append_assoc out first.0 second.0,
+)

@@ -13,11 +13,12 @@ ghost use Rattle.pt_events.specs.Lines.{lost_lines, known_by};
 ghost use Rattle.pt_lines.specs.Forms.{AreLines};
 ghost use Rattle.pt_lines.specs.Appends.{Appends, Tells};
 ghost use Rattle.pt_events.specs.state.Known.{HasSeen};
-ghost use Rattle.pt_events.specs.state.Listed.{HasListed, ListsOne, event_lines};
+ghost use Rattle.pt_events.specs.state.Listed.{HasListed, ListsOne, event_lines, kind_of};
 
 use crate::lasts::Lasts;
 use crate::names::KnownNames;
 use ep_defs::ItemKind;
+use nt_blocks::BodyEvent;
 use nt_check::CheckFault;
 use pt_lines::{EventLine, Form, Origin, put_event, put_lost, put_point};
 use std::alloc::{AllocError, Global};
@@ -101,6 +102,39 @@ impl Listing {
             }
             ItemKind::Point { stamp, threads } => self.point(form, *stamp, threads.as_slice(), out),
         }
+    }
+
+    /// The same of an event that stands in the body of its block.
+    pub(crate) fn event(
+        &mut self,
+        form: Form,
+        event: &BodyEvent<'_>,
+        out: &mut Vec<u8>,
+    ) -> Result<(), CheckFault>
+        ensures listed { (kinds : List ItemKind) → HasListed kinds self.old
+            → OnOk result (HasListed (kinds ++ kind_of event.now ∷ []) self.new) }
+        ensures lines { (kinds : List ItemKind) → HasListed kinds self.old
+            → OnOk result (ListsOne form kinds (kind_of event.now) out.old.items out.new.items) }
+        ensures refused { (kinds : List ItemKind) → HasListed kinds self.old → (fault : CheckKind)
+            → result ≡ Err (Bad fault) → told_after no_names (kinds ++ kind_of event.now ∷ []) ≡ Err (disorder_of fault) }
+        ensures unchanged { (fault : CheckKind) → result ≡ Err (Bad fault) → out.new.items ≡ out.old.items }
+    {
+        let head = event.head;
+        let (def, stack) = self.names.find(head.metadata, head.stack)?;
+        let line = EventLine {
+            origin: self.origin,
+            processor: head.processor,
+            thread_id: head.thread,
+            stamp: head.stamp,
+            thread: head.capture,
+            number: head.number,
+            def,
+            activity: &head.activity,
+            related: &head.related,
+            stack,
+            payload: event.payload,
+        };
+        Ok(put_all(out, self.alloc, form, &mut self.lasts, &line)?)
     }
 
     // Appends the lines of a point.

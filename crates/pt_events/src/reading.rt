@@ -1,16 +1,17 @@
 //! A stream that is read and listed piece by piece.
-ghost use Rattle.std.specs.Prelude.{◌≡◌, ◌+◌, ◌^◌, ◌<◌, ◌≤◌, ◌++◌, ℕ, [], ◌∷◌, List, length, IfOk, OnOk};
+ghost use Rattle.std.specs.Prelude.{◌≡◌, ◌+◌, ◌^◌, ◌<◌, ◌≤◌, ◌++◌, ℕ, [], ◌∷◌, List, length, take, IfOk, OnOk};
 ghost use Rattle.ep_defs.specs.declared.item.Item.{Item};
-ghost use Rattle.nt_blocks.specs.Verdict.{verdict};
-ghost use Rattle.nt_read.specs.Answers.{Gives, items_of};
-ghost use Rattle.nt_read.specs.Reading as reading;
+ghost use Rattle.nt_blocks.specs.Placed.{items_in};
+ghost use Rattle.nt_read.specs.Lent as lent_reader;
+ghost use Rattle.nt_read.specs.Lent.{told_by};
 ghost use Rattle.pt_lines.specs.Appends.{Appends};
-ghost use Rattle.pt_events.specs.state.Read.{IsChecked, HasRead, EndsSo, used};
+ghost use Rattle.pt_events.specs.state.Read.{IsChecked, IsFed, HasRead, EndsSo, item_of, used};
 
 use crate::listing::Listing;
 use ep_defs::Item;
+use nt_blocks::{BodyEvent, EventBody};
 use nt_check::{CheckFault, CheckKind};
-use nt_read::{ReadFault, TraceReader};
+use nt_read::{Lent, LentReader, ReadFault};
 use pt_lines::Form;
 use pt_report::{Flaw, Refusal};
 use std::alloc::{AllocError, Global};
@@ -25,10 +26,10 @@ pub struct Misplaced {
 /// What was read of a stream: where the reader stands, and what is kept of the items that were listed.
 #[derive(Drop)]
 pub struct Reading {
-    reader: TraceReader,
+    reader: LentReader,
     listing: Listing,
-    // The items that a piece tells. It is kept empty between pieces, so that its memory serves again.
-    items: Vec<Item>,
+    // What an object tells. It is kept, so that its memory serves again.
+    lent: Lent,
     misplaced: Option<Misplaced>,
 }
 
@@ -39,9 +40,9 @@ impl Reading {
         ensures used { used result ≡ 0 }
     {
         Reading {
-            reader: TraceReader::new(alloc),
+            reader: LentReader::new(alloc),
             listing: Listing::new(alloc),
-            items: Vec::new(alloc),
+            lent: Lent::new(alloc),
             misplaced: None,
         }
     }
@@ -54,15 +55,17 @@ impl Reading {
             → OnOk result (Appends (λ more. HasRead form (bytes ++ piece.now) (text ++ more) self.new) out.old.items out.new.items) }
         ensures used { used self.new ≤ used self.old + length piece.now }
     {
-        feed(&mut self.reader, piece, &mut self.items)?;
-        list_all(
-            &mut self.listing,
-            form,
-            self.items.as_slice(),
-            &mut self.misplaced,
-            out,
-        )?;
-        self.items.clear();
+        let mut here = 0;
+        while here < piece.len() {
+            here += feed(&mut self.reader, &piece[here..], &mut self.lent)?;
+            list_all(
+                &mut self.listing,
+                form,
+                &self.lent,
+                &mut self.misplaced,
+                out,
+            )?;
+        }
         Ok(())
     }
 
@@ -89,24 +92,39 @@ impl Reading {
     }
 }
 
-// Feeds a reader, whether or not the bytes are refused.
-fn feed(reader: &mut TraceReader, piece: &[u8], items: &mut Vec<Item>) -> Result<(), AllocError>
-    requires few { reading.used reader.old + length piece.now < 2 ^ 63 }
-    ensures read { (bytes : List ℕ) → reading.HasRead bytes reader.old
-        → OnOk result (reading.HasRead (bytes ++ piece.now) reader.new) }
-    ensures items { (bytes : List ℕ) → reading.HasRead bytes reader.old
-        → OnOk result (Gives (items_of (verdict bytes)) (items_of (verdict (bytes ++ piece.now))) items.old.items items.new.items) }
-    ensures used { reading.used reader.new ≤ reading.used reader.old + length piece.now }
+// Feeds a reader up to the end of an object, or all of the piece, whether or not the bytes are refused.
+fn feed(reader: &mut LentReader, piece: &[u8], lent: &mut Lent) -> Result<usize, AllocError>
+    requires few { lent_reader.used reader.old + length piece.now < 2 ^ 63 }
+    ensures read { IfOk result (λ n. (bytes : List ℕ) → lent_reader.HasRead bytes reader.old
+        → IsFed bytes (take n piece.now) reader.new lent.new) }
+    ensures within { IfOk result (λ n. n ≤ length piece.now) }
+    ensures some { IfOk result (λ n. 0 < length piece.now → 0 < n) }
+    ensures used { IfOk result (λ n. lent_reader.used reader.new ≤ lent_reader.used reader.old + n) }
+    ensures used_all { lent_reader.used reader.new ≤ lent_reader.used reader.old + length piece.now }
 {
-    match reader.feed(piece, items) {
-        Ok(()) => Ok(()),
-        Err(ReadFault::Bad { .. }) => Ok(()),
+    match reader.feed(piece, lent) {
+        Ok(count) => Ok(count),
+        Err(ReadFault::Bad { .. }) => Ok(piece.len()),
         Err(ReadFault::OutOfMemory) => Err(AllocError),
     }
 }
 
-// Lists more items, up to the first that can't stand where it does.
+// Lists what an object tells, up to the first item that can't stand where it does.
 fn list_all(
+    listing: &mut Listing,
+    form: Form,
+    lent: &Lent,
+    misplaced: &mut Option<Misplaced>,
+    out: &mut Vec<u8>,
+) -> Result<(), AllocError>
+    ensures { (before : List Item) (text : List ℕ) → IsChecked form before text listing.old misplaced.old
+        → OnOk result (Appends (λ more. IsChecked form (before ++ told_by lent.now) (text ++ more) listing.new misplaced.new) out.old.items out.new.items) }
+{
+    list_items(listing, form, lent.items.as_slice(), misplaced, out)?;
+    list_events(listing, form, &lent.events, misplaced, out)
+}
+
+fn list_items(
     listing: &mut Listing,
     form: Form,
     items: &[Item],
@@ -138,6 +156,43 @@ fn list(
     match listing.item(form, &item.kind, out) {
         Ok(()) => {}
         Err(CheckFault::Bad(kind)) => *misplaced = Some(Misplaced { at: item.at, kind }),
+        Err(CheckFault::OutOfMemory) => return Err(AllocError),
+    }
+    Ok(())
+}
+
+fn list_events(
+    listing: &mut Listing,
+    form: Form,
+    events: &EventBody,
+    misplaced: &mut Option<Misplaced>,
+    out: &mut Vec<u8>,
+) -> Result<(), AllocError>
+    ensures { (before : List Item) (text : List ℕ) → IsChecked form before text listing.old misplaced.old
+        → OnOk result (Appends (λ more. IsChecked form (before ++ items_in events.now) (text ++ more) listing.new misplaced.new) out.old.items out.new.items) }
+{
+    for index in 0..events.len() {
+        list_event(listing, form, &events.event(index), misplaced, out)?;
+    }
+    Ok(())
+}
+
+fn list_event(
+    listing: &mut Listing,
+    form: Form,
+    event: &BodyEvent<'_>,
+    misplaced: &mut Option<Misplaced>,
+    out: &mut Vec<u8>,
+) -> Result<(), AllocError>
+    ensures { (before : List Item) (text : List ℕ) → IsChecked form before text listing.old misplaced.old
+        → OnOk result (Appends (λ more. IsChecked form (before ++ item_of event.now ∷ []) (text ++ more) listing.new misplaced.new) out.old.items out.new.items) }
+{
+    if misplaced.is_some() {
+        return Ok(());
+    }
+    match listing.event(form, event, out) {
+        Ok(()) => {}
+        Err(CheckFault::Bad(kind)) => *misplaced = Some(Misplaced { at: event.at, kind }),
         Err(CheckFault::OutOfMemory) => return Err(AllocError),
     }
     Ok(())

@@ -1,17 +1,21 @@
 -- What was read of a stream.
-use Rattle.std.specs.Prelude.{◌≡◌, ℕ, List, [], Option, Some, None}
+use Rattle.std.specs.Prelude.{ℕ, List, Option, Some, None, Result}
 use Rattle.ep_defs.specs.declared.item.Item.{Item}
 use Rattle.nt_blocks.specs.Ordered.{kinds_of}
 use Rattle.nt_blocks.specs.Verdict.{verdict}
 use Rattle.nt_read.specs.Answers.{items_of}
-use Rattle.nt_read.specs.Reading as reader
+use Rattle.nt_read.specs.declared.fault.ReadFault.{ReadFault}
+use Rattle.nt_read.specs.declared.lent.Lent.{Lent}
+use Rattle.nt_read.specs.declared.object_reader.ObjectReader.{ObjectReader}
+use Rattle.nt_read.specs.Lent as reader
 use Rattle.pt_report.specs.declared.errors.Refusal.{Refusal}
 use Rattle.pt_lines.specs.declared.form.Form.{Form}
 use Rattle.pt_events.specs.declared.listing.Listing.{Listing}
 use Rattle.pt_events.specs.declared.reading.Misplaced.{Misplaced}
 use Rattle.pt_events.specs.declared.reading.Reading.{Reading}
 use Rattle.pt_events.specs.Found.{AreLinesOf, IsListed, IsCut, StandsBefore}
-use Rattle.pt_events.specs.state.Listed.{HasListed}
+use Rattle.nt_blocks.specs.declared.event_body.BodyEvent.{BodyEvent}
+use Rattle.pt_events.specs.state.Listed.{HasListed, kind_of}
 
 -- The text is the lines of all items, or of those before the first that can't stand where it does.
 abbrev pub IsChecked : Form → List Item → List ℕ → Listing → Option Misplaced → Type 0
@@ -22,7 +26,14 @@ IsChecked form items text listing (Some misplaced) = StandsBefore form items mis
 pub record HasRead (form : Form) (bytes text : List ℕ) (reading : Reading) : Type 0 where
   pub read : reader.HasRead bytes reading.reader
   pub checked : IsChecked form (items_of (verdict bytes)) text reading.listing reading.misplaced
-  pub no_items : reading.items.items ≡ []
+
+-- After these bytes the reader was fed more, and this is what an object tells that ends with them, if one does.
+abbrev pub IsFed : List ℕ → List ℕ → ObjectReader Lent → Lent → Type 0
+IsFed bytes more fed lent = (answer : Result (Unit {0}) ReadFault) × reader.Takes bytes more answer fed lent
+
+-- The item of an event of a body.
+abbrev pub item_of : BodyEvent → Item
+item_of event = record { at = event.at; kind = kind_of event }
 
 -- How many bytes were read.
 abbrev pub used : Reading → ℕ

@@ -5,7 +5,7 @@ use Rattle.ep_defs.specs.declared.item.Item.{Item}
 use Rattle.pt_lines.specs.Appends.{Appends}
 use Rattle.pt_events.specs.state.Read.{IsChecked}
 use Rattle.pt_events.proofs.Placed.{same-checked}
-use Rattle.pt_events.proofs.reading.list_all.Goals as goal
+use Rattle.pt_events.proofs.reading.list_items.Goals as goal
 
 pub loop-item-init : goal.loop-item-init
 loop-item-init c = λ before text checked.

@@ -3,7 +3,7 @@ use Rattle.std.proofs.Common.{ℕ, List, ◌++◌, take}
 use Rattle.ep_defs.specs.declared.item.Item.{Item}
 use Rattle.pt_lines.specs.Appends.{Appends}
 use Rattle.pt_events.specs.state.Read.{IsChecked}
-use Rattle.pt_events.proofs.reading.list_all.Given as goal
+use Rattle.pt_events.proofs.reading.list_items.Given as goal
 
 abbrev pub invariant-loop-item : goal.invariant-loop-item
 invariant-loop-item l =
