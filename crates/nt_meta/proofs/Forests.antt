@@ -3,8 +3,7 @@ use Rattle.std.proofs.Common.{◌≡◌, ℕ, zero, suc, ◌+◌, ◌^◌, ◌<�
 use Rattle.std.specs.Prelude.{◌&&◌, nat_le, nat_lt, ◌==◌, take_while, count_by, if◌then◌else◌}
 use Rattle.std.specs.Int.{w32}
 use Rattle.std.specs.List.{AllByRecursion, list_all, prefix_len}
-use Rattle.std.proofs.lemmas.Bool.{cases_Bool, and_from, and_parts, le-leb, leb-true, lt-ltb, le-ltb, ne_eqb}
-use Rattle.std.proofs.lemmas.Bool.Decides.{eqb_tells}
+use Rattle.std.proofs.lemmas.Bool.{cases_Bool, and_from, and_parts, eq-eqb, le-leb, leb-true, lt-ltb, le-ltb, ne_eqb}
 use Rattle.std.proofs.lemmas.List.Sums.{sum_by-append}
 use Rattle.ep_defs.specs.declared.event.TheConstants.{OBJECT_CODE}
 use Rattle.ep_defs.specs.declared.event.FieldDef.{FieldDef}
@@ -152,9 +151,6 @@ count-none depth (f ∷ fields) deep = rw (ne_eqb f.depth depth (apart f.depth d
     apart : (n : ℕ) → depth + 1 ≤ n → n ≡ depth → ⊥
     apart n h e = omega arith
 
-pub itself : (n : ℕ) → (n == n) ≡ true
-itself n = elim (eqb_tells n n) [ inl same ↦ same.0 | inr differ ↦ absurd (differ.1 refl) ]
-
 -- A field with those inside it, before others.
 pub forest_more : (field : FieldDef) (inner others : List FieldDef) (within count : ℕ) → is_readable_field field ≡ true → Forest (field.depth + 1) within inner → within < 2 ^ 32 → are_nested (deepest_after field) inner ≡ true → Forest field.depth count others → Forest field.depth (suc count) (field ∷ inner ++ others)
 forest_more field inner others within count good forest fits nested more =
@@ -170,7 +166,7 @@ forest_more field inner others within count good forest fits nested more =
         subst (λ (n : ℕ). n < 2 ^ 32) (sym (ap (λ (fields : List FieldDef). count_by (λ (g : FieldDef). g.depth == field.depth + 1) fields) is ∙ forest.count_is)) fits,
         counts-append field.depth inner others forest.deep (λ f higher. first-fails f.depth field.depth count others (omega arith) more) forest.counts more.counts,
       );
-      count_is = count-cons (λ (g : FieldDef). g.depth == field.depth) field (inner ++ others) (itself field.depth) ∙ ap suc at-depth;
+      count_is = count-cons (λ (g : FieldDef). g.depth == field.depth) field (inner ++ others) (eq-eqb field.depth field.depth refl) ∙ ap suc at-depth;
     }
   where
     all-low : (low : ℕ) (fields : List FieldDef) → AllByRecursion (λ f. low + 1 ≤ f.depth) fields → AllByRecursion (λ f. low ≤ f.depth) fields

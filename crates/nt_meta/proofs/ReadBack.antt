@@ -3,7 +3,7 @@ use Rattle.std.proofs.Common.{◌≡◌, ℕ, zero, suc, ◌+◌, ◌^◌, ◌<�
 use Rattle.std.specs.Prelude.{◌&&◌, ◌||◌, nat_le, nat_lt, ◌==◌, take_while, count_by, if◌then◌else◌}
 use Rattle.std.specs.Int.{w32, w64, is_in_range}
 use Rattle.std.specs.List.{AllByRecursion, list_all, prefix_len}
-use Rattle.std.proofs.lemmas.Bool.{cases_Bool, and_from, and_parts, le-leb, leb-true, ltb-true, ltb-false, eqb-true}
+use Rattle.std.proofs.lemmas.Bool.{cases_Bool, and_from, and_parts, eq-eqb, le-leb, leb-true, ltb-true, ltb-false, eqb-true}
 use Rattle.std.proofs.lemmas.List.{take-append-drop}
 use Rattle.ep_defs.specs.declared.event.TheConstants.{OBJECT_CODE, FIRST_CODE, LAST_CODE}
 use Rattle.ep_defs.specs.declared.event.FieldDef.{FieldDef}
@@ -21,7 +21,7 @@ use Rattle.pt_num.proofs.Joined.{four_grouped}
 use Rattle.nt_meta.proofs.PutFields.{after_is, fields_bytes-cons, list_all-take, list_all-drop}
 use Rattle.nt_meta.proofs.FieldSteps.{fields_at-zero, fields_at-suc, field_coded, coded_known}
 use Rattle.nt_meta.proofs.FieldSteps.{within as inner_at, named as field_named}
-use Rattle.nt_meta.proofs.Forests.{FailsFirst, Forest, take_while-cons, take_while-stops, take_while-append, nested-weaker, count-append, count-cons, count-none, itself}
+use Rattle.nt_meta.proofs.Forests.{FailsFirst, Forest, take_while-cons, take_while-stops, take_while-append, nested-weaker, count-append, count-cons, count-none}
 use Rattle.nt_meta.proofs.Payloads.{def_bytes, nine_grouped}
 use Rattle.nt_meta.proofs.Spelled.{number-read-32, number-read-64, text-read}
 
@@ -152,7 +152,7 @@ split_here count field fields forest =
       };
       within = within;
       left = count_by here (after field fields);
-      counted = sym forest.count_is ∙ count-cons here field fields (itself field.depth) ∙ ap suc later;
+      counted = sym forest.count_is ∙ count-cons here field fields (eq-eqb field.depth field.depth refl) ∙ ap suc later;
       others = record {
         readable = list_all-drop is_readable_field m fields readable.1;
         deep = all-drop (λ (f : FieldDef). field.depth ≤ f.depth) m fields forest.deep.1;

@@ -1,7 +1,7 @@
 -- What an interner's map says of its stacks.
 use Rattle.std.proofs.Common.{◌≡◌, ◌≢◌, ℕ, zero, suc, ◌+◌, ◌<◌, ◌≤◌, true, false, cond, eqb, ◌⊎◌, inl, inr, List, [], ◌∷◌, ◌++◌, map, length, Option, Some, None, refl, sym, ◌∙◌, ap, subst, arith, length-append}
 use Rattle.std.specs.Prelude.{unwrap_or}
-use Rattle.std.proofs.lemmas.Bool.{ne_eqb, cases_Bool}
+use Rattle.std.proofs.lemmas.Bool.{cases_Bool, eq-eqb, ne_eqb}
 use Rattle.std.proofs.lemmas.Bool.Decides.{eqb_tells}
 use Rattle.std.proofs.lemmas.Slice.Eq.{bytes_eq-Decides}
 use Rattle.std.proofs.lemmas.List.Elements.{All-push, All-weaker}
@@ -107,10 +107,7 @@ id_at-others other bytes id (entry ∷ front) back differs =
     ap (cond (bytes_eq other entry.0) (Some entry.1)) (id_at-others other bytes id front back differs)
 
 stack_with-between : (bytes : List ℕ) (n : ℕ) (front back : List (List ℕ × ℕ)) → AllByRecursion (λ entry. entry.1 ≤ n) (front ++ back) → stack_with (suc n) (front ++ (bytes, suc n) ∷ back) ≡ bytes
-stack_with-between bytes n [] back few = ap (λ b. cond b bytes (stack_with (suc n) back)) (eqb-itself (suc n))
-  where
-    eqb-itself : (m : ℕ) → eqb m m ≡ true
-    eqb-itself m = elim (eqb_tells m m) [ inl same ↦ same.0 | inr differ ↦ absurd (differ.1 refl) ]
+stack_with-between bytes n [] back few = ap (λ b. cond b bytes (stack_with (suc n) back)) (eq-eqb (suc n) (suc n) refl)
 stack_with-between bytes n (entry ∷ front) back few =
     ap (λ b. cond b entry.0 (stack_with (suc n) (front ++ (bytes, suc n) ∷ back))) (ne_eqb entry.1 (suc n) (above entry.1 few.0))
     ∙ stack_with-between bytes n front back few.1
