@@ -1,6 +1,6 @@
 -- How long stacks and their bodies are.
-use Rattle.std.proofs.Common.{◌≡◌, ℕ, zero, suc, ◌^◌, ◌<◌, ◌≤◌, List, [], ◌∷◌, ◌++◌, length, get_or, arith, length-append, ◌∙◌}
-use Rattle.std.proofs.lemmas.List.{take-append-le, take_all}
+use Rattle.std.proofs.Common.{◌≡◌, ℕ, zero, suc, ◌^◌, ◌<◌, ◌≤◌, List, [], ◌∷◌, ◌++◌, length, get_or, refl, arith, length-append}
+use Rattle.std.proofs.lemmas.List.{take_at}
 use Rattle.std.specs.List.{flat_map}
 use Rattle.std.specs.Int.{w32}
 use Rattle.pt_num.specs.Numbers.{fixed}
@@ -21,12 +21,8 @@ pub stack-fits : (first : ℕ) (stacks : List (List ℕ)) (place : ℕ) (other :
 stack-fits first stacks place other within small =
     omega (arith, stack-small stacks place other within, length-append (fixed w32 first ++ fixed w32 (length stacks)) (flat_map stack_bytes stacks), small)
 
--- What is appended keeps the rest.
-keeps_one : (before more now : List ℕ) → now ≡ before ++ more → Keeps before now
-keeps_one before more now e =
-    rw e (take-append-le (length before) before more (omega arith) ∙ take_all (length before) before (omega arith))
-
 -- What is appended in three pieces keeps the rest.
 pub keeps_three : (old o1 o2 now x y z : List ℕ) → o1 ≡ old ++ x → o2 ≡ o1 ++ y → now ≡ o2 ++ z → Keeps old now
 keeps_three old o1 o2 now x y z e1 e2 e3 =
-    Keeps-trans old o1 now (keeps_one old x o1 e1) (Keeps-trans o1 o2 now (keeps_one o1 y o2 e2) (keeps_one o2 z now e3))
+    Keeps-trans old o1 now (rw e1 (take_at old x (length old) refl))
+    (Keeps-trans o1 o2 now (rw e2 (take_at o1 y (length o1) refl)) (rw e3 (take_at o2 z (length o2) refl)))

@@ -29,4 +29,4 @@ pub use laws::{
 };
 pub use place::EventPlace;
 pub use put::{put_point, put_stacks};
-pub use take::{BodyFault, take_body};
+pub use take::{BodyFault, header_size, take_body};

@@ -87,36 +87,21 @@ pub fn take_body(
     ensures err { OnErr result (items.new.items ≡ items.old.items) }
 {
     let count = items.len();
-    let taken = take_items(alloc, kind, body, at, items);
+    let taken = match kind {
+        BlockKind::Event | BlockKind::Metadata => take_blobs(alloc, kind, body, at, items),
+        BlockKind::Stack => take_stacks(alloc, body, at, items),
+        BlockKind::Point => take_point(alloc, body, at, items),
+    };
     if taken.is_err() {
         items.truncate(count);
     }
     taken
 }
 
-fn take_items(
-    alloc: Global,
-    kind: BlockKind,
-    body: &[u8],
-    at: u64,
-    items: &mut Vec<Item>,
-) -> Result<(), BodyFault>
-    requires { at + length body.now < 2 ^ 63 }
-    ensures ok { OnOk result (Appends (body_at kind at body.now) items.old.items items.new.items) }
-    ensures fault { IfErr result (λ fault. IsFault (body_at kind at body.now) at fault) }
-    ensures stands { IfErr result (λ fault. StandsWithin (length body.now) fault) }
-    ensures err { OnErr result (Keeps items.old.items items.new.items) }
-{
-    match kind {
-        BlockKind::Event => take_blobs(alloc, kind, body, at, items),
-        BlockKind::Metadata => take_blobs(alloc, kind, body, at, items),
-        BlockKind::Stack => take_stacks(alloc, body, at, items),
-        BlockKind::Point => take_point(alloc, body, at, items),
-    }
-}
-
-// The size of the header of a body of blobs, after which the blobs stand.
-pub(crate) fn header_size(body: &[u8]) -> Result<usize, BodyFault>
+/// The size of the header of a body of blobs, in bytes: the first blob stands behind it, or the body ends there.
+///
+/// The fault is that of `take_body` for a body with such a header.
+pub fn header_size(body: &[u8]) -> Result<usize, BodyFault>
     ensures ok { IfOk result (λ size. (at : ℕ) → header_at at body.now ≡ Ok size) }
     ensures within { IfOk result (λ size. size ≤ length body.now) }
     ensures fault { IfErr result (λ fault. (at : ℕ) → IsFault (header_at at body.now) at fault) }
