@@ -1,20 +1,15 @@
 //! Going over the body of an event block.
-ghost use Rattle.std.specs.Prelude.{◌≡◌, ℕ, ◌+◌, ◌<◌, ◌≤◌, ◌^◌, Ok, Err, length, IfSome, IsNone, IfOk, IfErr, OnOk};
+ghost use Rattle.std.specs.Prelude.{◌≡◌, ℕ, ◌+◌, ◌<◌, ◌^◌, Err, length, IfSome, IsNone, IfErr, OnOk};
 ghost use Rattle.nt_object.specs.declared.object.BlockKind.TheVariants as block;
 ghost use Rattle.nt_head.specs.declared.head.HeadState.{HeadState};
-ghost use Rattle.nt_blocks.specs.Refusals.{BadHead, blob_at, body_at, header_at, refusal};
+ghost use Rattle.nt_blocks.specs.Refusals.{BadHead, blob_at, body_at, refusal};
 ghost use Rattle.nt_blocks.specs.Taking.{IsFault, StandsWithin};
 ghost use Rattle.nt_names.specs.Told.{AppendsEvents};
 ghost use Rattle.nt_names.specs.state.Heads.{SkimsBlob, head_of};
 
 use crate::head::{Head, NOTHING, read_head};
-use byteorder::{ByteOrder, LittleEndian};
-use nt_blocks::BodyFault;
-use nt_blocks::limits::HEADER_BYTES;
+use nt_blocks::{BodyFault, header_size};
 use nt_check::EventNames;
-
-// Where the flags stand in the header of a body of blobs.
-const FLAGS_PLACE: usize = 2;
 
 /// An event by what it names.
 #[derive(Clone, Copy, Debug, PartialEq, Eq, Drop)]
@@ -69,25 +64,4 @@ fn next_blob(previous: &Head, bytes: &[u8]) -> Option<Blob>
         return None;
     }
     Some(Blob { head, used })
-}
-
-// The size of the header of a body of blobs, after which the blobs stand.
-fn header_size(body: &[u8]) -> Result<usize, BodyFault>
-    ensures ok { IfOk result (λ size. (at : ℕ) → header_at at body.now ≡ Ok size) }
-    ensures within { IfOk result (λ size. size ≤ length body.now) }
-    ensures fault { IfErr result (λ fault. (at : ℕ) → IsFault (header_at at body.now) at fault) }
-    ensures stands { IfErr result (λ fault. StandsWithin (length body.now) fault) }
-{
-    if body.len() < HEADER_BYTES {
-        return Err(BodyFault::BadBlock { at: 0 });
-    }
-    let size = usize::from(LittleEndian::read_u16(body));
-    if size < HEADER_BYTES || size > body.len() {
-        return Err(BodyFault::BadBlock { at: 0 });
-    }
-    let flags = LittleEndian::read_u16(&body[FLAGS_PLACE..]);
-    if flags % 2 == 0 {
-        return Err(BodyFault::Uncompressed { at: FLAGS_PLACE });
-    }
-    Ok(size)
 }
