@@ -15,7 +15,7 @@ use Rattle.ep_model.specs.History.{Past, config_of, is_present, is_finished, ope
 use Rattle.ep_model.specs.Lawful.{IsLawful, objections, was_opened}
 use Rattle.ep_model.proofs.Admitted.{contents-long}
 use Rattle.ep_model.proofs.Numbers.{AreOwn}
-use Rattle.ep_model.proofs.Lists.{any_inserted, all_more}
+use Rattle.ep_model.proofs.Lists.{any_inserted, all_more, each-append}
 use Rattle.ep_model.proofs.Objections.{none_there}
 use Rattle.ep_model.proofs.Sessions.{open_opened, open_present, finished_absent}
 use Rattle.ep_model.proofs.Tally.{pending-own}
@@ -33,10 +33,6 @@ speaks_of threads (Point point) = list_all (λ (named : ℕ × ℕ). is_one_of t
 
 abbrev AreAmong : List ℕ → List Entry → Type 0
 AreAmong threads lines = AllByRecursion (λ line. speaks_of threads line ≡ true) lines
-
-among-append : (threads : List ℕ) (lines more : List Entry) → AreAmong threads lines → AreAmong threads more → AreAmong threads (lines ++ more)
-among-append threads [] more first later = later
-among-append threads (line ∷ lines) more first later = (first.0, among-append threads lines more first.1 later)
 
 one_more : (thread : ℕ) (threads : List ℕ) (t : ℕ) → is_one_of threads t ≡ true → is_one_of (insert_ascending thread threads) t ≡ true
 one_more thread threads t h = any_inserted (λ x. eqb x t) thread threads ∙ or_right (eqb thread t) _ h
@@ -65,7 +61,7 @@ all_filtered keep told all (t ∷ threads) within =
 
 among-point : (session stamp : ℕ) (past : Past) (lines : List Entry) (b : Bool) → AreAmong (opened session past) lines → AreAmong (opened session past) (cond b (lines ++ Point (point_entry session stamp past) ∷ []) lines)
 among-point session stamp past lines true among =
-    among-append (opened session past) lines (Point (point_entry session stamp past) ∷ []) among
+    each-append (λ line. speaks_of (opened session past) line ≡ true) lines (Point (point_entry session stamp past) ∷ []) among
     (all_filtered (λ t. is_named session t past) (λ t. told_number session t past) (opened session past) (opened session past) (λ t one. one), tt)
 among-point session stamp past lines false among = among
 
@@ -76,7 +72,7 @@ among-taken events session s t past stands_open among =
       | inl same ↦
           let here : is_open session t past ≡ true = rw same at stands_open in
           rw (eq-eqb s session same)
-          (among-append (opened session past) (entries events session past) _ among
+          (each-append (λ line. speaks_of (opened session past) line ≡ true) (entries events session past) _ among
           (among-own t (opened session past) (pending events session t past) (open_opened session t past here) (pending-own events session t past)))
       | inr other ↦ rw (ne_eqb s session other) among
     ]

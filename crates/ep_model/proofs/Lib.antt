@@ -7,7 +7,7 @@ mod InOrder
 pub mod Lists
 pub mod Numbers
 pub mod Objections
-mod Others
+pub mod Others
 pub mod Sessions
 mod Spent
 pub mod Tally

@@ -1,7 +1,7 @@
 -- Tests, and numbers that stand in lists.
-use Rattle.std.proofs.Common.{◌≡◌, ℕ, zero, suc, ◌+◌, ◌<◌, ◌≤◌, Bool, true, false, inl, inr, Option, Some, None, List, ◌∷◌, length, filter, refl, ap, sym, ◌∙◌, subst, arith, []}
+use Rattle.std.proofs.Common.{◌≡◌, ℕ, zero, suc, ◌+◌, ◌<◌, ◌≤◌, Bool, true, false, inl, inr, Option, Some, None, List, ◌∷◌, ◌++◌, length, filter, refl, ap, sym, ◌∙◌, subst, arith, []}
 use Rattle.std.specs.Prelude.{◌&&◌, ◌||◌, is_some, nat_lt, nat_le, ◌==◌, if◌then◌else◌}
-use Rattle.std.specs.List.{list_any, list_all, range_with_len}
+use Rattle.std.specs.List.{list_any, list_all, range_with_len, AllByRecursion}
 use Rattle.std.proofs.lemmas.Bool.{cases_eq, eqb-true, eqb-false, ne_eqb, le-leb, eq-eqb, and_parts, and_from, or_cases, or_parts, or_left, or_right, false_from_ne_true, true≢false}
 use Rattle.ep_model.specs.History.{insert_ascending}
 
@@ -106,6 +106,16 @@ all_more p q more (x ∷ xs) h =
 -- The first of a list stands in it.
 pub has_first : (x : ℕ) (xs : List ℕ) → has x (x ∷ xs) ≡ true
 has_first x xs = or_left (x == x) (has x xs) (eq-eqb x x refl)
+
+-- What holds of each of two lists holds of both.
+pub each-append : {A : Type 0} (P : A → Type 0) (xs ys : List A) → AllByRecursion P xs → AllByRecursion P ys → AllByRecursion P (xs ++ ys)
+each-append P [] ys first later = later
+each-append P (x ∷ xs) ys first later = (first.0, each-append P xs ys first.1 later)
+
+-- What holds of each of a list holds of each of its front.
+pub each-front : {A : Type 0} (P : A → Type 0) (xs ys : List A) → AllByRecursion P (xs ++ ys) → AllByRecursion P xs
+each-front P [] ys all = tt
+each-front P (x ∷ xs) ys all = (all.0, each-front P xs ys all.1)
 
 -- ---- a number that is inserted
 

@@ -24,7 +24,7 @@ passes_over value false step past same = refl
 
 -- ---- values that a session's own steps give
 
-config-only : (session : ℕ) (past : Past) → config_of session (only session past) ≡ config_of session past
+pub config-only : (session : ℕ) (past : Past) → config_of session (only session past) ≡ config_of session past
 config-only session [] = refl
 config-only session (step.Accept s config ∷ past) =
     elim (cases_Bool (eqb s session)) [ inl same ↦ rw same (rw same refl) | inr other ↦ rw other (config-only session past) ]

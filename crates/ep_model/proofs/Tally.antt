@@ -17,13 +17,10 @@ use Rattle.ep_model.specs.History.{Past, Begun, event_at, last_begun, shows}
 use Rattle.ep_model.specs.Entries.{has_stacks, event_entry, entry_if, entry_shown, pending}
 use Rattle.ep_model.specs.Faithful.{Contents, contents_of, events_in, events_of, is_kept, last_sighting, numbered}
 use Rattle.ep_model.proofs.Admitted.{numbered-append}
+use Rattle.ep_model.proofs.Lists.{each-append}
 use Rattle.ep_model.proofs.Numbers.{Runs, runs-push, runs-skip, runs-earlier, AreOwn, runs-sees, last-append}
 
 -- ---- the thread's own events
-
-own-append : (thread : ℕ) (events more : List EventEntry) → AreOwn thread events → AreOwn thread more → AreOwn thread (events ++ more)
-own-append thread [] more own others = others
-own-append thread (event ∷ events) more own others = (own.0, own-append thread events more own.1 others)
 
 own-entry : (stacks : Bool) (thread number : ℕ) (begun : Begun) (def : Option EventDef) → AreOwn thread (entry_if stacks thread number begun def)
 own-entry stacks thread number begun None = tt
@@ -40,7 +37,7 @@ pending-own events session thread (step.Show t s ∷ past) =
     let before = pending-own events session thread past in
     let shown = entry_shown events (has_stacks session past) thread (shows session thread past + 1) (last_begun thread past) in
     elim (eqb s session && eqb t thread && not (is_refused session thread past)) as (λ b. AreOwn thread (cond b (pending events session thread past ++ shown) (pending events session thread past))) [
-      | true ↦ own-append thread (pending events session thread past) _ before (own-entries events (has_stacks session past) thread (shows session thread past + 1) (last_begun thread past))
+      | true ↦ each-append (λ event. event.thread ≡ thread) (pending events session thread past) _ before (own-entries events (has_stacks session past) thread (shows session thread past + 1) (last_begun thread past))
       | false ↦ before
     ]
 pending-own events session thread (step.Steal s t ∷ past) =

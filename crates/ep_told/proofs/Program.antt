@@ -1,40 +1,29 @@
 -- What the program itself has told: of threads above 0, and of its own definitions.
-use Rattle.std.proofs.Common.{◌≡◌, ℕ, zero, suc, ◌+◌, Bool, true, false, cond, inl, inr, List, [], ◌∷◌, ◌++◌, map, Option, Some, None, eqb, refl, ap, sym, ◌∙◌, arith, IsTrue}
+use Rattle.std.proofs.Common.{◌≡◌, ℕ, zero, suc, ◌+◌, Bool, true, false, cond, List, [], ◌∷◌, ◌++◌, map, Option, Some, None, eqb, refl, ap, sym, ◌∙◌, arith, IsTrue}
 use Rattle.std.specs.Prelude.{not, ◌&&◌, ◌||◌}
 use Rattle.std.specs.List.{list_all, AllByRecursion}
 use Rattle.std.specs.Option.{option_map_or}
-use Rattle.std.proofs.lemmas.Bool.{and_parts, and_from, not-false, ne_eqb, cases_Bool, true≢false}
+use Rattle.std.proofs.lemmas.Bool.{and_parts, and_from, or_from, not-false, ne_eqb, true≢false}
 use Rattle.ep_defs.specs.declared.event.EventDef.{EventDef}
 use Rattle.ep_defs.specs.declared.session.Config.{Config}
 use Rattle.ep_defs.specs.Definitions.{definition_at}
 use Rattle.ep_defs.specs.Entry.{EventEntry, Entry, Event, Point}
 use Rattle.ep_defs.specs.Event.{is_same_event}
 use Rattle.ep_rundown.specs.Rundown.{rundown_def, lacks_rundown, with_section}
-use Rattle.ep_model.specs.declared.step.Step.{Step}
 use Rattle.ep_model.specs.declared.step.Step.TheVariants as step
 use Rattle.ep_model.specs.Chunks.{is_refused}
 use Rattle.ep_model.specs.Entries.{has_stacks, entries, entry_if, entry_shown, pending, point_entry}
 use Rattle.ep_model.specs.Faithful.{Share, AreFaithful, is_among, is_of, share_of, shares_of}
-use Rattle.ep_model.specs.History.{Past, Begun, config_of, entered, was_there, is_there, opened, insert_ascending, last_begun, shows, has_left}
+use Rattle.ep_model.specs.History.{Past, Begun, entered, was_there, is_there, opened, insert_ascending, last_begun, shows, has_left}
 use Rattle.ep_model.specs.Lawful.{IsLawful, objections, is_next_thread}
-use Rattle.ep_model.specs.Only.{concerns, only}
+use Rattle.ep_model.specs.Only.{only}
 use Rattle.ep_told.specs.Told.{has_rundown, told_entries, AreOfProgram}
 use Rattle.ep_model.proofs.Finished.{is_one_of}
-use Rattle.ep_model.proofs.Lists.{has, any_inserted, all_more}
+use Rattle.ep_model.proofs.Lists.{has, any_inserted, all_more, each-append}
 use Rattle.ep_model.proofs.Objections.{none_there}
+use Rattle.ep_model.proofs.Others.{config-only}
 
 -- ---- other sessions
-
-passes_over : {X : Type 0} (value : Past → X) (kept : Bool) (step : Step) (past : Past) → value (step ∷ past) ≡ value past → value (cond kept (step ∷ past) past) ≡ value past
-passes_over value true step past same = same
-passes_over value false step past same = refl
-
--- The session's configuration does not depend on the steps of others.
-config-only : (session : ℕ) (past : Past) → config_of session (only session past) ≡ config_of session past
-config-only session [] = refl
-config-only session (step.Accept s config ∷ past) =
-    elim (cases_Bool (eqb s session)) [ inl same ↦ rw same (rw same refl) | inr other ↦ rw other (config-only session past) ]
-config-only session (other ∷ past) = passes_over (λ p. config_of session p) (concerns session other) other (only session past) refl ∙ config-only session past
 
 -- What a session's stream tells does not depend on the steps of others.
 pub told-only : (events : List EventDef) (session : ℕ) (past : Past) → entries events session (only session past) ≡ entries events session past → told_entries events session (only session past) ≡ told_entries events session past
@@ -45,17 +34,12 @@ told-only events session past same =
 
 -- ---- threads
 
--- Where both tests fail, so does either.
-neither : (a b : Bool) → a ≡ false → b ≡ false → (a || b) ≡ false
-neither true b first second = first
-neither false b first second = second
-
 -- No thread that came has the number 0.
 entered-not_0 : (events : List EventDef) (past : Past) → IsLawful events past → has 0 (entered past) ≡ false
 entered-not_0 events [] lawful = refl
 entered-not_0 events (step.Enter t ∷ past) lawful =
     let next = not-false (is_next_thread t past) (none_there (objections events past (step.Enter t)) lawful.1).0 in
-    neither (eqb t 0) (has 0 (entered past)) (ne_eqb t 0 (λ same. above t same next)) (entered-not_0 events past lawful.0)
+    or_from (eqb t 0) (has 0 (entered past)) (ne_eqb t 0 (λ same. above t same next)) (entered-not_0 events past lawful.0)
   where
     above : (n : ℕ) → n ≡ 0 → is_next_thread n past ≡ true → ⊥
     above zero same later = cc
@@ -76,7 +60,7 @@ opened-not_0 events session (step.Open s t ∷ past) lawful =
     let before = opened-not_0 events session past lawful.0 in
     let there = not-false (is_there t past) (none_there (objections events past (step.Open s t)) lawful.1).1.0 in
     elim (eqb s session) as (λ b. is_one_of (cond b (insert_ascending t (opened session past)) (opened session past)) 0 ≡ false) [
-      | true ↦ any_inserted (λ x. eqb x 0) t (opened session past) ∙ neither (eqb t 0) (is_one_of (opened session past) 0) (there-not_0 events t past lawful.0 there) before
+      | true ↦ any_inserted (λ x. eqb x 0) t (opened session past) ∙ or_from (eqb t 0) (is_one_of (opened session past) 0) (there-not_0 events t past lawful.0 there) before
       | false ↦ before
     ]
 opened-not_0 events session (_ ∷ past) lawful = opened-not_0 events session past lawful.0
@@ -103,10 +87,6 @@ found-passes test (first ∷ events) (suc (suc n)) def all at-n = found-passes t
 abbrev HavePassing : (EventDef → Bool) → List EventEntry → Type 0
 HavePassing test events = AllByRecursion (λ event. test event.def ≡ true) events
 
-passing-append : (test : EventDef → Bool) (events more : List EventEntry) → HavePassing test events → HavePassing test more → HavePassing test (events ++ more)
-passing-append test [] more first later = later
-passing-append test (event ∷ events) more first later = (first.0, passing-append test events more first.1 later)
-
 passing-if : (test : EventDef → Bool) (stacks : Bool) (thread number : ℕ) (begun : Begun) (def : Option EventDef) → ((d : EventDef) → def ≡ Some d → test d ≡ true) → HavePassing test (entry_if stacks thread number begun def)
 passing-if test stacks thread number begun None passes = tt
 passing-if test stacks thread number begun (Some def) passes = (passes def refl, tt)
@@ -122,7 +102,7 @@ pending-passing test events session thread (step.Show t s ∷ past) all =
     let before = pending-passing test events session thread past all in
     let shown = entry_shown events (has_stacks session past) thread (shows session thread past + 1) (last_begun thread past) in
     elim (eqb s session && eqb t thread && not (is_refused session thread past)) as (λ b. HavePassing test (cond b (pending events session thread past ++ shown) (pending events session thread past))) [
-      | true ↦ passing-append test (pending events session thread past) _ before (passing-shown test events (has_stacks session past) thread (shows session thread past + 1) (last_begun thread past) all)
+      | true ↦ each-append (λ event. test event.def ≡ true) (pending events session thread past) _ before (passing-shown test events (has_stacks session past) thread (shows session thread past + 1) (last_begun thread past) all)
       | false ↦ before
     ]
 pending-passing test events session thread (step.Steal s t ∷ past) all =
@@ -141,21 +121,17 @@ passes_in test (Point point) = true
 abbrev AllPass : (EventDef → Bool) → List Entry → Type 0
 AllPass test lines = AllByRecursion (λ line. passes_in test line ≡ true) lines
 
-pass-append : (test : EventDef → Bool) (lines more : List Entry) → AllPass test lines → AllPass test more → AllPass test (lines ++ more)
-pass-append test [] more first later = later
-pass-append test (line ∷ lines) more first later = (first.0, pass-append test lines more first.1 later)
-
 pass-events : (test : EventDef → Bool) (events : List EventEntry) → HavePassing test events → AllPass test (map Event events)
 pass-events test [] passing = tt
 pass-events test (event ∷ events) passing = (passing.0, pass-events test events passing.1)
 
 pass-taken : (test : EventDef → Bool) (events : List EventDef) (session t : ℕ) (past : Past) (b : Bool) → list_all test events ≡ true → AllPass test (entries events session past) → AllPass test (cond b (entries events session past ++ map Event (pending events session t past)) (entries events session past))
 pass-taken test events session t past true all before =
-    pass-append test (entries events session past) _ before (pass-events test (pending events session t past) (pending-passing test events session t past all))
+    each-append (λ line. passes_in test line ≡ true) (entries events session past) _ before (pass-events test (pending events session t past) (pending-passing test events session t past all))
 pass-taken test events session t past false all before = before
 
 pass-point : (test : EventDef → Bool) (events : List EventDef) (session stamp : ℕ) (past : Past) (b : Bool) → AllPass test (entries events session past) → AllPass test (cond b (entries events session past ++ Point (point_entry session stamp past) ∷ []) (entries events session past))
-pass-point test events session stamp past true before = pass-append test (entries events session past) _ before (refl, tt)
+pass-point test events session stamp past true before = each-append (λ line. passes_in test line ≡ true) (entries events session past) _ before (refl, tt)
 pass-point test events session stamp past false before = before
 
 -- The events of a session's entries have definitions of the program.
