@@ -3,14 +3,9 @@ use Rattle.std.proofs.Common.{◌≡◌, ◌≢◌, ℕ, zero, suc, ◌+◌, ◌
 use Rattle.std.proofs.lemmas.Grind.{common_steps}
 use Rattle.std.proofs.lemmas.Bool.Decides.{eqb_tells}
 use Rattle.std.proofs.lemmas.Option.{slice_get_within, get_or_from_slice_get}
-use Rattle.std.proofs.lemmas.List.Sums.{sum_by-set, sum_by-append}
-use Rattle.ep_table.proofs.Places.{get-set, get-set_other}
+use Rattle.std.proofs.lemmas.List.Sums.{sum_by-set, sum_by_push}
+use Rattle.ep_table.proofs.Places.{get-append, get-set, get-set_other}
 use Rattle.ep_journal.specs.Items.{item, with_item, passes}
-
-pub get-snoc : {A : Type 0} (xs : List A) (k : ℕ) (x y : A) → slice_get xs k ≡ Some x → slice_get (xs ++ y ∷ []) k ≡ Some x
-get-snoc [] k x y e = cc
-get-snoc (z ∷ xs) zero x y e = e
-get-snoc (z ∷ xs) (suc k) x y e = get-snoc xs k x y e
 
 -- What stands in a list with one item more is that one or stood there before.
 pub get-snoc-is : {A : Type 0} (xs : List A) (k : ℕ) (x y : A) → slice_get (xs ++ y ∷ []) k ≡ Some x →
@@ -44,7 +39,7 @@ item-set-other xs (suc k) (suc m) x y e d = let p : suc k - 1 ≡ k = omega arit
 
 pub item-snoc : {A : Type 0} (xs : List A) (n : ℕ) (x y : A) → item xs n ≡ Some x → item (xs ++ y ∷ []) n ≡ Some x
 item-snoc xs zero x y e = cc
-item-snoc xs (suc k) x y e = get-snoc xs k x y e
+item-snoc xs (suc k) x y e = get-append xs (y ∷ []) k x e
 
 pub item-snoc-is : {A : Type 0} (xs : List A) (n : ℕ) (x y : A) → item (xs ++ y ∷ []) n ≡ Some x →
     ((n ≡ length xs + 1) × (x ≡ y)) ⊎ (item xs n ≡ Some x)
@@ -102,4 +97,4 @@ count-place p xs k x y e =
     let s = sum_by-set (λ z. cond (p z) 1 0) xs k y x (slice_get_within xs k x e) in rw g at s
 
 pub count-snoc : {A : Type 0} (p : A → Bool) (xs : List A) (y : A) → count_by p (xs ++ y ∷ []) ≡ count_by p xs + cond (p y) 1 0
-count-snoc p xs y = sum_by-append (λ z. cond (p z) 1 0) xs (y ∷ []) ∙ omega arith
+count-snoc p xs y = sum_by_push (λ z. cond (p z) 1 0) xs y

@@ -4,7 +4,7 @@ use Rattle.std.proofs.lemmas.Grind.{common_steps}
 use Rattle.std.proofs.lemmas.List.{length-set}
 use Rattle.std.proofs.lemmas.List.Sums.{sum_by-append}
 use Rattle.std.proofs.lemmas.List.Quantifiers.{position-Some}
-use Rattle.std.proofs.lemmas.Option.{slice_get_within, slice_get-get_or, get_or_from_slice_get}
+use Rattle.std.proofs.lemmas.Option.{same_Some, slice_get_within, slice_get-get_or, get_or_from_slice_get}
 use Rattle.std.proofs.lemmas.Bool.{and_parts, eqb-true, or_right}
 use Rattle.std.proofs.Math.Bool.{and-false}
 use Rattle.ep_table.specs.declared.limits.TheConstants.{SLOTS}
@@ -371,8 +371,8 @@ stopped-kept r id slot e k room h there =
         first = s.first;
         last = let l : e.conn ≤ length r.decisions = s.last in omega (arith, longer);
         asked = λ t. passes-snoc (accepts id) r.decisions e.conn (decision.Ticket id) (s.asked t);
-        later = λ conn t. let l : e.conn ≤ length r.decisions = s.last in let n : length r.decisions + 1 ≡ conn = some-number (length r.decisions + 1) conn t in omega arith;
-        stopped = λ conn t. let n : length r.decisions + 1 ≡ conn = some-number (length r.decisions + 1) conn t in rw (sym n) (rw last itself);
+        later = λ conn t. let l : e.conn ≤ length r.decisions = s.last in let n : length r.decisions + 1 ≡ conn = same_Some (length r.decisions + 1) conn t in omega arith;
+        stopped = λ conn t. let n : length r.decisions + 1 ≡ conn = same_Some (length r.decisions + 1) conn t in rw (sym n) (rw last itself);
         fate = can-fits r.ended (length r.decisions + 1) e.stage b.0;
         gone = gone-some (length r.decisions) e.gone ∙ sym (rw (and-false (is_serving e.stage)) refl);
         past =
@@ -382,9 +382,6 @@ stopped-kept r id slot e k room h there =
         seat = λ o. get-set r.table.seats e.slot (seat_of id f) (slice_get_within r.table.seats e.slot (seat_of id e) (s.seat on));
       };
     }))
-  where
-    some-number : (n m : ℕ) → Some n ≡ Some m → n ≡ m
-    some-number n m t = grind (arith, common_steps)
 
 -- ---- a stop is refused
 

@@ -22,8 +22,8 @@ numbered-set s next slot seat n l le given is apart = record {
 }
 
 -- The table stays numbered where the next session takes a free slot.
-pub numbered-accept : (s : Sessions) (slot : ℕ) → AreNumbered s → position is_free s.seats ≡ Some slot →
-    AreNumbered (record { seats = set s.seats slot (Some (record { id = s.next; live = true })); next = s.next + 1 })
+pub numbered-accept : (s : Sessions) (slot : ℕ) → AreNumbered s → position is_free s.seats ≡ Some slot
+    → AreNumbered (record { seats = set s.seats slot (Some (record { id = s.next; live = true })); next = s.next + 1 })
 numbered-accept s slot n h =
     let found = position-Some is_free s.seats slot None h in
     numbered-set s (s.next + 1) slot (Some (record { id = s.next; live = true })) n found.0 (omega arith) (given_more s.next s.seats n.given)
@@ -31,8 +31,8 @@ numbered-accept s slot n h =
     (λ id. omega (arith, next_is_new s.next id s.seats n.given (n.once id)))
 
 -- It stays so where a live session is stopped.
-pub numbered-stop : (s : Sessions) (id slot : ℕ) → AreNumbered s → position (is_live_as id) s.seats ≡ Some slot →
-    AreNumbered (record { seats = set s.seats slot (Some (record { id = id; live = false })); next = s.next })
+pub numbered-stop : (s : Sessions) (id slot : ℕ) → AreNumbered s → position (is_live_as id) s.seats ≡ Some slot
+    → AreNumbered (record { seats = set s.seats slot (Some (record { id = id; live = false })); next = s.next })
 numbered-stop s id slot n h =
     let found = position-Some (is_live_as id) s.seats slot None h in
     numbered-set s s.next slot (Some (record { id = id; live = false })) n found.0 (omega arith) n.given
@@ -40,13 +40,13 @@ numbered-stop s id slot n h =
     (λ other. rw (same_id id other (get_or s.seats slot None) found.1) (omega (arith, n.once other)))
 
 -- It stays so where a slot is freed.
-pub numbered-free : (s : Sessions) (slot : ℕ) → AreNumbered s → slot < length s.seats →
-    AreNumbered (record { seats = set s.seats slot None; next = s.next })
+pub numbered-free : (s : Sessions) (slot : ℕ) → AreNumbered s → slot < length s.seats
+    → AreNumbered (record { seats = set s.seats slot None; next = s.next })
 numbered-free s slot n l = numbered-set s s.next slot None n l (omega arith) n.given refl (λ id. omega (arith, n.once id))
 
 -- A stopped session is live no more.
-pub stopped-live : (s : Sessions) (id slot : ℕ) → AreNumbered s → position (is_live_as id) s.seats ≡ Some slot →
-    list_any (is_live_as id) (set s.seats slot (Some (record { id = id; live = false }))) ≡ false
+pub stopped-live : (s : Sessions) (id slot : ℕ) → AreNumbered s → position (is_live_as id) s.seats ≡ Some slot
+    → list_any (is_live_as id) (set s.seats slot (Some (record { id = id; live = false }))) ≡ false
 stopped-live s id slot n h =
     let found = position-Some (is_live_as id) s.seats slot None h in
     let changed = count-set (is_live_as id) s.seats slot (Some (record { id = id; live = false })) None found.0 in

@@ -1,5 +1,5 @@
 -- Lists of slots: how many hold something, and what a change of one of them does.
-use Rattle.std.proofs.Common.{◌≡◌, ◌≢◌, ℕ, ◌+◌, ◌<◌, ◌≤◌, Bool, true, false, not, Option, Some, None, List, [], ◌∷◌, length, get_or, slice_get, refl, ap, arith, cond, count_by, position, nat_eq, zero, suc, lit≤}
+use Rattle.std.proofs.Common.{◌≡◌, ◌≢◌, ℕ, ◌+◌, ◌<◌, ◌≤◌, Bool, true, false, not, Option, Some, None, List, [], ◌∷◌, ◌++◌, length, get_or, slice_get, refl, ap, arith, cond, count_by, position, nat_eq, zero, suc, lit≤}
 use Rattle.std.specs.List.{list_any, list_all, position_or_len}
 use Rattle.std.proofs.Math.ListN.{set}
 use Rattle.std.proofs.lemmas.Grind.{common_steps}
@@ -82,6 +82,12 @@ given_id id next (Some seat) live h g = grind (arith, common_steps)
 pub next_is_new : (next id : ℕ) (seats : List (Option Seat)) → list_all (is_given next) seats ≡ true → count_by (is_of id) seats ≤ 1 →
     count_by (is_of id) seats + cond (nat_eq next id) 1 0 ≤ 1
 next_is_new next id seats g once = let zero_of : count_by (is_of next) seats ≡ 0 = none_ahead next seats g in grind (arith, common_steps)
+
+-- What stands in a list stands there in a longer one.
+pub get-append : {X : Type 0} (xs ys : List X) (i : ℕ) (x : X) → slice_get xs i ≡ Some x → slice_get (xs ++ ys) i ≡ Some x
+get-append [] ys i x is = cc
+get-append (z ∷ zs) ys zero x is = is
+get-append (z ∷ zs) ys (suc i) x is = get-append zs ys i x is
 
 -- A place that was written has what was written.
 pub get-set : {X : Type 0} (xs : List X) (i : ℕ) (y : X) → i < length xs → slice_get (set xs i y) i ≡ Some y
