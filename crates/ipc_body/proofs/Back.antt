@@ -11,7 +11,7 @@ use Rattle.ep_defs.specs.declared.limits.TheConstants.{RULES}
 use Rattle.ep_defs.specs.declared.session.Rule.{Rule}
 use Rattle.ipc_body.specs.declared.commands.TheConstants.{EVENT_PIPE, STOP_TRACING, NETTRACE}
 use Rattle.ipc_body.specs.declared.request.Request.TheVariants as request
-use Rattle.ipc_body.specs.Asked.{can_ask, can_collect, asked_config, IsAsked}
+use Rattle.ipc_body.specs.Asked.{can_ask, can_collect, asked_config, SaysWhatIsAsked}
 use Rattle.ipc_body.specs.Asking.{provider_bytes}
 use Rattle.ipc_body.specs.Request.{name_at, rule_of, provider_at, providers_at, wish_of, wish_at, can_grant, request_of, collect_of}
 use Rattle.ipc_body.proofs.Provided.{name-is}
@@ -99,7 +99,7 @@ granted : (megabytes count : ℕ) → is_in_range 1 (2 ^ 32 - 1) megabytes ≡ t
     can_grant (wish_of megabytes NETTRACE false true count) ≡ true
 granted megabytes count m c = grind (arith, common_steps)
 
-pub collect-back : AreTaken → (megabytes : ℕ) (rules : List Rule) → can_collect megabytes rules ≡ true → IsAsked megabytes rules
+pub collect-back : AreTaken → (megabytes : ℕ) (rules : List Rule) → can_collect megabytes rules ≡ true → SaysWhatIsAsked megabytes rules
 collect-back t megabytes rules h =
     let b = and_parts _ (list_all can_ask rules) h in
     let a = and_parts (is_in_range 1 (2 ^ 32 - 1) megabytes) (is_in_range 1 RULES (length rules)) b.0 in

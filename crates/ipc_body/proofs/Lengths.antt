@@ -1,9 +1,10 @@
 -- How many bytes requests have.
-use Rattle.std.proofs.Common.{◌≡◌, ℕ, zero, suc, ◌+◌, ◌*◌, ◌<◌, ◌≤◌, List, [], ◌∷◌, ◌++◌, length, take, ap, sym, ◌∙◌, arith, length-append, append_assoc, append-nil, get_or, subst}
+use Rattle.std.proofs.Common.{◌≡◌, ℕ, ◌+◌, ◌*◌, ◌<◌, ◌≤◌, List, [], ◌∷◌, ◌++◌, length, take, ap, sym, ◌∙◌, arith, length-append, append_assoc, append-nil, get_or, subst}
 use Rattle.std.specs.List.{flat_map, concat}
 use Rattle.std.specs.Int.{w16, w32}
-use Rattle.std.proofs.lemmas.Grind.{common_steps}
 use Rattle.std.proofs.lemmas.List.{take_all}
+use Rattle.std.proofs.lemmas.List.Concat.{length-flat_map}
+use Rattle.std.proofs.lemmas.List.Sums.{sum_by_more, sum_by_more_le}
 use Rattle.ipc_frame.specs.declared.limits.TheConstants.{HEADER_BYTES, MESSAGE_BYTES}
 use Rattle.pt_num.specs.Numbers.{fixed}
 use Rattle.pt_num.specs.Texts.{text_c, units_bytes}
@@ -29,25 +30,18 @@ unfolding fixed
 collect-length megabytes rules = omega (arith, length-append (flat_map provider_bytes rules) [])
 
 -- The pieces of one item more.
-pub flat_map-more : (f : Rule → List ℕ) (rules : List Rule) (i : ℕ) (rule : Rule) → i < length rules → rule ≡ get_or rules i rule →
-    length (flat_map f (take (i + 1) rules)) ≡ length (flat_map f (take i rules)) + length (f rule)
-flat_map-more f [] i rule l e = absurd (omega arith)
-flat_map-more f (first ∷ rules) zero rule l e = rw e (omega (arith, length-append (f first) []))
-flat_map-more f (first ∷ rules) (suc i) rule l e =
-    let m : suc i + 1 ≡ suc (i + 1) = omega arith in
-    rw m (omega (arith, length-append (f first) (flat_map f (take (i + 1) rules)), length-append (f first) (flat_map f (take i rules)), flat_map-more f rules i rule (omega arith) e))
-
--- The pieces of the first items are a part of all.
-pub flat_map-part : (f : Rule → List ℕ) (rules : List Rule) (i : ℕ) → length (flat_map f (take i rules)) ≤ length (flat_map f rules)
-flat_map-part f [] i = grind (arith, common_steps)
-flat_map-part f (first ∷ rules) zero = omega arith
-flat_map-part f (first ∷ rules) (suc i) =
-    omega (arith, length-append (f first) (flat_map f (take i rules)), length-append (f first) (flat_map f rules), flat_map-part f rules i)
+pub flat_map-more : (f : Rule → List ℕ) (rules : List Rule) (i : ℕ) (rule : Rule) → i < length rules → rule ≡ get_or rules i rule
+    → length (flat_map f (take (i + 1) rules)) ≡ length (flat_map f (take i rules)) + length (f rule)
+flat_map-more f rules i rule l e =
+    let own : length (f rule) ≡ length (f (get_or rules i rule)) = ap (λ (r : Rule). length (f r)) e in
+    omega (arith, length-flat_map f (take (i + 1) rules), length-flat_map f (take i rules), sum_by_more (λ r. length (f r)) rules i rule l, own)
 
 -- One item more is no more than all.
-pub flat_map-next : (f : Rule → List ℕ) (rules : List Rule) (i : ℕ) (rule : Rule) → i < length rules → rule ≡ get_or rules i rule →
-    length (flat_map f (take i rules)) + length (f rule) ≤ length (flat_map f rules)
-flat_map-next f rules i rule l e = omega (arith, flat_map-more f rules i rule l e, flat_map-part f rules (i + 1))
+pub flat_map-next : (f : Rule → List ℕ) (rules : List Rule) (i : ℕ) (rule : Rule) → i < length rules → rule ≡ get_or rules i rule
+    → length (flat_map f (take i rules)) + length (f rule) ≤ length (flat_map f rules)
+flat_map-next f rules i rule l e =
+    let own : length (f rule) ≡ length (f (get_or rules i rule)) = ap (λ (r : Rule). length (f r)) e in
+    omega (arith, length-flat_map f rules, length-flat_map f (take i rules), sum_by_more_le (λ r. length (f r)) rules i rule l, own)
 
 -- Each provider takes some bytes.
 pub few-rules : (rules : List Rule) → length rules ≤ length (flat_map provider_bytes rules)

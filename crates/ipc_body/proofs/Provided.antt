@@ -18,8 +18,8 @@ pub name-is : (bytes name rest : List ℕ) → text_c_at bytes ≡ Ok (name, res
 name-is bytes name rest e some = let t : nat_lt 0 (length name) ≡ true = grind arith in rw (e, t) refl
 
 -- A name that was read has a unit.
-pub name-some : (bytes name : List ℕ) (count used : ℕ) → used ≤ length bytes → 4 + 2 * count ≤ used → 0 < count →
-    name ≡ units_in (take (4 + 2 * count - 4) (drop 4 bytes)) → 0 < length name
+pub name-some : (bytes name : List ℕ) (count used : ℕ) → used ≤ length bytes → 4 + 2 * count ≤ used → 0 < count
+    → name ≡ units_in (take (4 + 2 * count - 4) (drop 4 bytes)) → 0 < length name
 name-some bytes name count used within least some n =
     let k : 4 + 2 * count - 4 ≡ 2 * count = omega arith in
     let text : List ℕ = take (2 * count) (drop 4 bytes) in
@@ -28,9 +28,9 @@ name-some bytes name count used within least some n =
     rw same (some_unit text (omega arith))
 
 -- A text is a name where it has a unit.
-pub name-read : (bytes name : List ℕ) (count used : ℕ) → used ≤ length bytes → 4 + 2 * count ≤ used → 0 < count →
-    text_c_at bytes ≡ Ok (units_in (take (2 * count) (drop 4 bytes)), drop used bytes) →
-    name ≡ units_in (take (4 + 2 * count - 4) (drop 4 bytes)) → name_at bytes ≡ Ok (name, drop used bytes)
+pub name-read : (bytes name : List ℕ) (count used : ℕ) → used ≤ length bytes → 4 + 2 * count ≤ used → 0 < count
+    → text_c_at bytes ≡ Ok (units_in (take (2 * count) (drop 4 bytes)), drop used bytes)
+    → name ≡ units_in (take (4 + 2 * count - 4) (drop 4 bytes)) → name_at bytes ≡ Ok (name, drop used bytes)
 name-read bytes name count used within least some e n =
     let k : 4 + 2 * count - 4 ≡ 2 * count = omega arith in
     let same : name ≡ units_in (take (2 * count) (drop 4 bytes)) = n ∙ ap (λ (m : ℕ). units_in (take m (drop 4 bytes))) k in

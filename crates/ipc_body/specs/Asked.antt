@@ -30,6 +30,6 @@ asked_config megabytes rules =
     record { rules = rules; chunks = chunks_of megabytes; stackwalk = true; rundown = false }
 
 -- The body that is put says what was asked.
-abbrev pub IsAsked : ℕ → List Rule → Type 0
-IsAsked megabytes rules =
+abbrev pub SaysWhatIsAsked : ℕ → List Rule → Type 0
+SaysWhatIsAsked megabytes rules =
     request_of EVENT_PIPE COLLECT_TRACING2 (collect_body megabytes rules) ≡ Ok (request.Collect (asked_config megabytes rules))

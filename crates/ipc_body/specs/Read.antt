@@ -21,11 +21,11 @@ ReadsAt field whole None = IsErr field
 ReadsAt field whole (Some taken) = (taken.1 ≤ length whole) × (field ≡ Ok (taken.0, drop taken.1 whole))
 
 -- The answer is the wanted one, or out of memory, which may come at any place.
-abbrev pub Answers : {A : Type 0} → Result A RequestFault → Result A RequestFault → Type 0
-Answers wanted (Ok value) = wanted ≡ Ok value
-Answers wanted (Err e) = e ≢ fault.OutOfMemory → wanted ≡ Err e
+abbrev pub AnswersWanted : {A : Type 0} → Result A RequestFault → Result A RequestFault → Type 0
+AnswersWanted wanted (Ok value) = wanted ≡ Ok value
+AnswersWanted wanted (Err e) = e ≢ fault.OutOfMemory → wanted ≡ Err e
 
 -- The same of a field at the front of some bytes, with the number of its bytes.
-abbrev pub Gives : {A : Type 0} → Result (A × List ℕ) RequestFault → List ℕ → Result (A × ℕ) RequestFault → Type 0
-Gives field bytes (Ok taken) = (taken.1 ≤ length bytes) × (field ≡ Ok (taken.0, drop taken.1 bytes))
-Gives field bytes (Err e) = e ≢ fault.OutOfMemory → field ≡ Err e
+abbrev pub ReadsWanted : {A : Type 0} → Result (A × List ℕ) RequestFault → List ℕ → Result (A × ℕ) RequestFault → Type 0
+ReadsWanted field bytes (Ok taken) = (taken.1 ≤ length bytes) × (field ≡ Ok (taken.0, drop taken.1 bytes))
+ReadsWanted field bytes (Err e) = e ≢ fault.OutOfMemory → field ≡ Err e

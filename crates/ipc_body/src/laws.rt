@@ -4,7 +4,7 @@ ghost use Rattle.std.specs.Int.{w64};
 ghost use Rattle.pt_num.specs.Numbers.{fixed};
 ghost use Rattle.ep_defs.specs.declared.session.Rule.{Rule};
 ghost use Rattle.ipc_body.specs.declared.request.Request.TheVariants as request;
-ghost use Rattle.ipc_body.specs.Asked.{can_collect, IsAsked};
+ghost use Rattle.ipc_body.specs.Asked.{can_collect, SaysWhatIsAsked};
 ghost use Rattle.ipc_body.specs.Request.{request_of};
 
 use crate::commands::{EVENT_PIPE, PROCESS, PROCESS_INFO, STOP_TRACING};
@@ -14,7 +14,7 @@ use pt_num::what_is_put_is_taken;
 /// the request for what a process says of itself.
 pub fn what_is_put_is_read()
     ensures collect { (megabytes : ℕ) (rules : List Rule) → IsTrue (can_collect megabytes rules)
-        → IsAsked megabytes rules }
+        → SaysWhatIsAsked megabytes rules }
     ensures stop { (id : ℕ) → id < 2 ^ 64
         → request_of EVENT_PIPE STOP_TRACING (fixed w64 id) ≡ Ok (request.Stop id) }
     ensures info { request_of PROCESS PROCESS_INFO [] ≡ Ok request.Info }

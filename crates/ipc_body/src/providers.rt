@@ -1,7 +1,7 @@
 //! The providers of a request for a session.
 
 ghost use Rattle.std.specs.Prelude.{◌≡◌, ◌<◌, length, IsTrue, IfOk};
-ghost use Rattle.ipc_body.specs.Read.{Answers, Gives};
+ghost use Rattle.ipc_body.specs.Read.{AnswersWanted, ReadsWanted};
 ghost use Rattle.ipc_body.specs.Request.{name_at, provider_at, whole_providers, are_named};
 
 use crate::request::RequestFault;
@@ -11,7 +11,7 @@ use std::alloc::Global;
 
 /// This many providers, which take all of these bytes.
 pub fn read_providers(alloc: Global, bytes: &[u8], count: u32) -> Result<RuleList, RequestFault>
-    ensures exact { Answers (whole_providers count bytes.now) result }
+    ensures exact { AnswersWanted (whole_providers count bytes.now) result }
     ensures many { IfOk result (λ rules. length rules ≡ count) }
     ensures named { IfOk result (λ rules. IsTrue (are_named rules)) }
 {
@@ -34,7 +34,7 @@ pub fn read_providers(alloc: Global, bytes: &[u8], count: u32) -> Result<RuleLis
 
 // The provider at the front of the bytes, and the number of its bytes.
 fn read_provider(alloc: Global, bytes: &[u8]) -> Result<(Rule, usize), RequestFault>
-    ensures exact { Gives (provider_at bytes.now) bytes.now result }
+    ensures exact { ReadsWanted (provider_at bytes.now) bytes.now result }
     ensures named { IfOk result (λ taken. 0 < length taken.0.name) }
 {
     let Some(keywords) = take_u64(bytes) else {
@@ -60,7 +60,7 @@ fn read_provider(alloc: Global, bytes: &[u8]) -> Result<(Rule, usize), RequestFa
 
 // The name at the front of the bytes, which is not empty, and the number of its bytes.
 fn read_name(alloc: Global, bytes: &[u8]) -> Result<(Units, usize), RequestFault>
-    ensures exact { Gives (name_at bytes.now) bytes.now result }
+    ensures exact { ReadsWanted (name_at bytes.now) bytes.now result }
     ensures some { IfOk result (λ taken. 0 < length taken.0) }
 {
     match take_counted(bytes) {

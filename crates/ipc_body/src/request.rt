@@ -3,7 +3,7 @@
 ghost use Rattle.std.specs.Prelude.{◌≡◌, ◌≢◌, ◌≤◌, Ok, Err, length, drop, IfOk, IsTrue};
 ghost use Rattle.ipc_body.specs.declared.request.RequestFault.TheVariants.{BadEncoding, UnknownCommand, OutOfMemory};
 ghost use Rattle.ipc_body.specs.declared.commands.TheConstants.{EVENT_PIPE};
-ghost use Rattle.ipc_body.specs.Read.{Answers, Reads, ReadsAt};
+ghost use Rattle.ipc_body.specs.Read.{AnswersWanted, Reads, ReadsAt};
 ghost use Rattle.ipc_body.specs.Request as asked;
 ghost use Rattle.ipc_body.specs.Request.{request_of, is_collect, is_valid_request};
 
@@ -75,7 +75,7 @@ pub fn read_request(
     command: u8,
     body: &[u8],
 ) -> Result<Request, RequestFault>
-    ensures exact { Answers (request_of set command body.now) result }
+    ensures exact { AnswersWanted (request_of set command body.now) result }
     ensures valid { IfOk result (λ request. IsTrue (is_valid_request request)) }
     ensures memory { result ≡ Err OutOfMemory → IsTrue (is_collect set command) }
 {
@@ -89,7 +89,7 @@ pub fn read_request(
 }
 
 fn read_event_pipe(alloc: Global, command: u8, body: &[u8]) -> Result<Request, RequestFault>
-    ensures exact { Answers (asked.event_pipe_of command body.now) result }
+    ensures exact { AnswersWanted (asked.event_pipe_of command body.now) result }
     ensures valid { IfOk result (λ request. IsTrue (is_valid_request request)) }
     ensures memory { result ≡ Err OutOfMemory → IsTrue (is_collect EVENT_PIPE command) }
 {
@@ -135,7 +135,7 @@ fn read_collect(
     has_rundown: bool,
     has_stackwalk: bool,
 ) -> Result<Request, RequestFault>
-    ensures exact { Answers (asked.collect_of has_rundown has_stackwalk body.now) result }
+    ensures exact { AnswersWanted (asked.collect_of has_rundown has_stackwalk body.now) result }
     ensures valid { IfOk result (λ request. IsTrue (is_valid_request request)) }
 {
     let Some((wish, used)) = take_wish(body, has_rundown, has_stackwalk) else {
