@@ -355,9 +355,6 @@ start-tied d nothing book holds spare marks unclosed early late some = record {
 
 -- ---- what the calls ask
 
-pub shown-hold : (holds : List (Option (Option Hold))) (a b : Hold) → b ≡ a → slice_get holds (CONNECTIONS - a.id) ≡ Some (Some (Some a)) → slice_get holds (CONNECTIONS - b.id) ≡ Some (Some (Some b))
-shown-hold holds a b same h = rw same h
-
 pub seat-within : (r : Recorded) (slot id : ℕ) → IsKept r → accepted_by r.table ≡ accepted.Seat slot id → slot < SLOTS
 seat-within r slot id k h = by_place (position is_free r.table.seats) refl
   where

@@ -1,9 +1,8 @@
 -- Halves by their places.
 use Rattle.std.proofs.Common.{◌≡◌, ◌≢◌, ℕ, zero, suc, ◌+◌, ◌<◌, true, false, Option, Some, None, IfSome, List, [], ◌∷◌, ◌++◌, length, length-append, replicate, set, slice_get, get_or, eqb, refl, ap, sym, ◌∙◌, arith, ◌⊎◌, inl, inr}
-use Rattle.std.proofs.lemmas.Grind.{common_steps}
 use Rattle.std.proofs.lemmas.Bool.Decides.{eqb_tells}
 use Rattle.std.proofs.lemmas.List.{same_from_push, length-map, length-set, map-append, replicate-append-replicate}
-use Rattle.std.proofs.lemmas.Option.{slice_get_within, slice_get-map, slice_get-get_or}
+use Rattle.std.proofs.lemmas.Option.{same_Some, slice_get_within, slice_get-map, slice_get-get_or}
 use Rattle.std.proofs.Math.Seq.{map-set_same}
 use Rattle.std.specs.Prelude.{option_map}
 use Rattle.ep_table.proofs.Places.{get-set, get-set_other}
@@ -20,15 +19,12 @@ in-place-snoc halves half h p place x at = elim (get-snoc-is halves place x half
 pub in-place-set : {V : Type 0} (halves : List (Tied V)) (k : ℕ) (half : Tied V) → AreInPlace halves → half.place ≡ k → AreInPlace (set halves k half)
 in-place-set {V} halves k half h own place x at = by_test (eqb_tells place k)
   where
-    some-half : (a b : Tied V) → Some a ≡ Some b → a ≡ b
-    some-half a b e = grind (arith, common_steps)
-
     by_test : ((eqb place k ≡ true) × (place ≡ k)) ⊎ ((eqb place k ≡ false) × (place ≢ k)) → x.place ≡ place
     by_test (inl t) =
         let n = length-set halves k half in
         let l : place < length (set halves k half) = slice_get_within (set halves k half) place x at in
         let put : slice_get (set halves k half) k ≡ Some half = get-set halves k half (omega (arith, n, l, t.1)) in
-        let is : half ≡ x = some-half half x (sym put ∙ ap (slice_get (set halves k half)) (sym t.1) ∙ at) in
+        let is : half ≡ x = same_Some half x (sym put ∙ ap (slice_get (set halves k half)) (sym t.1) ∙ at) in
         ap (λ (y : Tied V). y.place) (sym is) ∙ own ∙ sym t.1
     by_test (inr t) = h place x (sym (get-set_other halves k place half t.1) ∙ at)
 
@@ -77,12 +73,6 @@ last-numbered n v rest last h = same_from_push rest (numbered n v) last (record 
 
 -- ---- sessions in the places of their slots
 
-some-hold : (x y : Hold) → Some x ≡ Some y → x ≡ y
-some-hold x y e = grind (arith, common_steps)
-
-some-place : (x y : Option Hold) → Some x ≡ Some y → x ≡ y
-some-place x y e = grind (arith, common_steps)
-
 pub in-slots-set : (places : List (Option Hold)) (k : ℕ) (o : Option Hold) → AreInSlots places → ((hold : Hold) → o ≡ Some hold → hold.slot ≡ k) → AreInSlots (set places k o)
 in-slots-set places k o h own place hold at = by_test (eqb_tells place k)
   where
@@ -91,12 +81,12 @@ in-slots-set places k o h own place hold at = by_test (eqb_tells place k)
         let n = length-set places k o in
         let l : place < length (set places k o) = slice_get_within (set places k o) place (Some hold) at in
         let put : slice_get (set places k o) k ≡ Some o = get-set places k o (omega (arith, n, l, t.1)) in
-        let is : o ≡ Some hold = some-place o (Some hold) (sym put ∙ ap (slice_get (set places k o)) (sym t.1) ∙ at) in
+        let is : o ≡ Some hold = same_Some o (Some hold) (sym put ∙ ap (slice_get (set places k o)) (sym t.1) ∙ at) in
         own hold is ∙ sym t.1
     by_test (inr t) = h place hold (sym (get-set_other places k place o t.1) ∙ at)
 
 pub in-slots-put : (places : List (Option Hold)) (slot : ℕ) (hold : Hold) → AreInSlots places → hold.slot ≡ slot → AreInSlots (set places slot (Some hold))
-in-slots-put places slot hold h same = in-slots-set places slot (Some hold) h (λ x q. ap (λ (k : Hold). k.slot) (sym (some-hold hold x q)) ∙ same)
+in-slots-put places slot hold h same = in-slots-set places slot (Some hold) h (λ x q. ap (λ (k : Hold). k.slot) (sym (same_Some hold x q)) ∙ same)
 
 pub in-slots-take : (places : List (Option Hold)) (slot : ℕ) → AreInSlots places → AreInSlots (set places slot None)
 in-slots-take places slot h = in-slots-set places slot None h (λ x q. absurd (let none : None ≡ Some x = q in cc))

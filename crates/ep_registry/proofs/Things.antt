@@ -1,8 +1,7 @@
 -- What is left of the sessions after each call, and who waits.
 use Rattle.std.proofs.Common.{◌≡◌, ◌≢◌, ℕ, zero, suc, ◌+◌, ◌<◌, ◌≤◌, Bool, true, false, Option, Some, None, List, [], ◌∷◌, ◌++◌, length, set, slice_get, replicate, eqb, if◌then◌else◌, refl, ap, sym, ◌∙◌, arith, ◌⊎◌, inl, inr, count_by}
 use Rattle.std.proofs.lemmas.Bool.Decides.{eqb_tells}
-use Rattle.std.proofs.lemmas.Option.{slice_get_past, slice_get_within}
-use Rattle.std.proofs.lemmas.Grind.{common_steps}
+use Rattle.std.proofs.lemmas.Option.{same_Some, slice_get_past, slice_get_within}
 use Rattle.std.proofs.lemmas.List.{set-set}
 use Rattle.ep_table.proofs.Places.{get-set}
 use Rattle.ep_registry.specs.Registered.{Registered}
@@ -98,39 +97,36 @@ held-on sessions hold h on =
 kept-on : (id : ℕ) (e f : Entry) → goes_on e.stage ≡ true → has_ended f.stage ≡ false → over_as id (Some f) ≡ over_as id (Some e)
 kept-on id e f on off = not-over id f off ∙ sym (not-over id e (on-not-over e.stage on))
 
-some-entry : (x y : Entry) → Some x ≡ Some y → x ≡ y
-some-entry x y e = grind (arith, common_steps)
-
 -- A change after which the session has not ended.
-pub held-over : (over : List (Option Hold)) (sessions : List Entry) (hold : Hold) (change : Entry → Entry) → AreOver over sessions → hold_at sessions hold.id ≡ Some hold →
-    goes_on hold.stage ≡ true → ((e : Entry) → goes_on e.stage ≡ true → has_ended (change e).stage ≡ false) → AreOver over (changed sessions hold.id change)
+pub held-over : (over : List (Option Hold)) (sessions : List Entry) (hold : Hold) (change : Entry → Entry) → AreOver over sessions → hold_at sessions hold.id ≡ Some hold
+    → goes_on hold.stage ≡ true → ((e : Entry) → goes_on e.stage ≡ true → has_ended (change e).stage ≡ false) → AreOver over (changed sessions hold.id change)
 held-over over sessions hold change h known on off =
     let e = held-on sessions hold known on in
     changed-over over sessions hold.id change (item sessions hold.id) h refl
-    (λ x q. let same : x ≡ e.0 = some-entry x e.0 (sym q ∙ e.1) in
+    (λ x q. let same : x ≡ e.0 = same_Some x e.0 (sym q ∙ e.1) in
     let goes : goes_on x.stage ≡ true = ap (λ (y : Entry). goes_on y.stage) same ∙ e.2 in kept-on hold.id x (change x) goes (off x goes))
 
-pub opened-over : (over : List (Option Hold)) (r : Recorded) (hold : Hold) (early : Bool) → AreOver over r.sessions → hold_at r.sessions hold.id ≡ Some hold →
-    goes_on hold.stage ≡ true → AreOver over (after_opening r hold.id early).sessions
+pub opened-over : (over : List (Option Hold)) (r : Recorded) (hold : Hold) (early : Bool) → AreOver over r.sessions → hold_at r.sessions hold.id ≡ Some hold
+    → goes_on hold.stage ≡ true → AreOver over (after_opening r hold.id early).sessions
 opened-over over r hold early h known on = held-over over r.sessions hold (with_rows early) h known on (λ e goes. on-not-over e.stage goes)
 
-pub failed-over : (over : List (Option Hold)) (r : Recorded) (hold : Hold) → AreOver over r.sessions → hold_at r.sessions hold.id ≡ Some hold →
-    goes_on hold.stage ≡ true → AreOver over (after_failing r hold.id).sessions
+pub failed-over : (over : List (Option Hold)) (r : Recorded) (hold : Hold) → AreOver over r.sessions → hold_at r.sessions hold.id ≡ Some hold
+    → goes_on hold.stage ≡ true → AreOver over (after_failing r hold.id).sessions
 failed-over over r hold h known on = held-over over r.sessions hold (staged stage.Failed (length r.decisions)) h known on (λ e goes. refl)
 
 pick-over : (over : List (Option Hold)) (b : Bool) (x y : Recorded) → AreOver over x.sessions → AreOver over y.sessions → AreOver over (if b then x else y).sessions
 pick-over over true x y p q = p
 pick-over over false x y p q = q
 
-looked-at-over : (over : List (Option Hold)) (r : Recorded) (hold : Hold) (o : Option ℕ) → AreOver over r.sessions → hold_at r.sessions hold.id ≡ Some hold →
-    goes_on hold.stage ≡ true → AreOver over (looked_at r hold.id o).sessions
+looked-at-over : (over : List (Option Hold)) (r : Recorded) (hold : Hold) (o : Option ℕ) → AreOver over r.sessions → hold_at r.sessions hold.id ≡ Some hold
+    → goes_on hold.stage ≡ true → AreOver over (looked_at r hold.id o).sessions
 looked-at-over over r hold (Some conn) h known on = held-over over r.sessions hold (staged (stage.Ending (fate.Requested conn)) (length r.decisions)) h known on (λ e goes. refl)
 looked-at-over over r hold None h known on =
     pick-over over r.ended (record r { table = after_stop r.table hold.id; sessions = ending r hold.id fate.ProgramEnd }) r
     (held-over over r.sessions hold (staged (stage.Ending fate.ProgramEnd) (length r.decisions)) h known on (λ e goes. refl)) h
 
-pub looked-over : (over : List (Option Hold)) (r : Recorded) (hold : Hold) → AreOver over r.sessions → hold_at r.sessions hold.id ≡ Some hold →
-    goes_on hold.stage ≡ true → AreOver over (after_looking r hold.id).sessions
+pub looked-over : (over : List (Option Hold)) (r : Recorded) (hold : Hold) → AreOver over r.sessions → hold_at r.sessions hold.id ≡ Some hold
+    → goes_on hold.stage ≡ true → AreOver over (after_looking r hold.id).sessions
 looked-over over r hold h known on = looked-at-over over r hold (ticket_of (item r.sessions hold.id)) h known on
 
 -- ---- a session ends

@@ -40,9 +40,10 @@ pub shown-known : (holds : List (Option (Option Hold))) (sessions : List Entry) 
     slice_get holds (CONNECTIONS - hold.id) ≡ Some (Some (Some hold)) → hold_at sessions hold.id ≡ Some hold
 shown-known holds sessions hold held first last h = ap hold_there (sym (held hold.id first last) ∙ h)
 
-pub held-known : (d : Desk) (hold : Hold) → IsTied d → 0 < hold.id → hold.id ≤ CONNECTIONS → slice_get d.holds (CONNECTIONS - hold.id) ≡ Some (Some (Some hold)) →
-    hold_at d.recorded.sessions hold.id ≡ Some hold
-held-known d hold t first last h = ap hold_there (sym (t.holds hold.id first last) ∙ h)
+-- So does a holder whose hold it is.
+pub holder-known : (holds : List (Option (Option Hold))) (sessions : List Entry) (shown hold : Hold) → AreHeld holds sessions → hold ≡ shown → (0 < hold.id) × (hold.id ≤ CONNECTIONS)
+    → slice_get holds (CONNECTIONS - shown.id) ≡ Some (Some (Some shown)) → hold_at sessions hold.id ≡ Some hold
+holder-known holds sessions shown hold held same known h = shown-known holds sessions hold held known.0 known.1 (rw same h)
 
 pub held-entry : (sessions : List Entry) (id : ℕ) (hold : Hold) → hold_at sessions id ≡ Some hold → (e : Entry) × (item sessions id ≡ Some e) × (hold ≡ hold_of id e)
 held-entry sessions id hold h = by_case (item sessions id) refl

@@ -52,7 +52,17 @@ impl<B: Named, S: Named, R: Named, P: Kinds<F, W, E, G>, F, W, E, G> Model
 
     ghost view = { λ r. record { recorded = r.journal; closed = r.closed; roles = r.roles; waiting = r.kept.waiting } };
 
-    ghost invariant = { λ r. IsRegistered (record { recorded = r.journal; book = r.halves.book; holds = r.halves.holds; spare = r.halves.spare.items; marks = r.halves.marks; roles = r.roles; closed = r.closed; early = r.early; late = r.late }) r.kept.frees r.kept.overs r.kept.gone };
+    ghost invariant = { λ r. IsRegistered (record {
+      recorded = r.journal;
+      book = r.halves.book;
+      holds = r.halves.holds;
+      spare = r.halves.spare.items;
+      marks = r.halves.marks;
+      roles = r.roles;
+      closed = r.closed;
+      early = r.early;
+      late = r.late;
+    }) r.kept.frees r.kept.overs r.kept.gone };
 }
 
 /// A registry with the halves of the others.

@@ -3,7 +3,6 @@ use Rattle.ep_journal.specs.declared.limits.TheConstants.{CONNECTIONS}
 use Rattle.ep_journal.specs.declared.decision.Decision.{Decision}
 use Rattle.ep_registry.specs.declared.hold.Hold.{Hold}
 use Rattle.ep_registry.specs.Places.{numbered}
-use Rattle.ep_registry.specs.Registered.{Desk}
 use Rattle.ep_registry.proofs.Tied.{book-is}
 use Rattle.ep_registry.proofs.Calls.{seated, next-id, seat-within}
 use Rattle.ep_registry.proofs.Leaves.{unclosed-by}
@@ -23,7 +22,6 @@ hand_out-holder-requires-clause-slot g c =
 
 pub invariant_of-self : goal.invariant_of-self
 invariant_of-self g c =
-    let d : Desk = record { recorded = c.self.inside.journal; book = c.self.inside.halves.book; holds = c.self.inside.halves.holds; spare = c.self.inside.halves.spare.items; marks = c.self.inside.halves.marks; roles = c.self.inside.roles; closed = c.self.inside.closed; early = c.self.inside.early; late = c.self.inside.late } in
     let answer = sym c.accept-answer.ensures.answer ∙ c.in-Seat.is in
     let kept = c.decided-conn.ensures.kept in
     let id = next-id c.self.inside.journal c.in-Seat.slot c.in-Seat.id kept answer in
@@ -36,7 +34,7 @@ invariant_of-self g c =
     c.hand_out-holder.ensures.spare ∙ ap (λ n. numbered (CONNECTIONS - n) None) number in
     record {
       tied = rw (c.tell.ensures.book, c.decisions.ensures, c.accept-answer.ensures.after, c.hand_out-holder.ensures.holds, c.begun-hold.ensures, c.decided-conn.ensures.value, c.meet.ensures.same.1, c.meet_mark.ensures.same.1)
-          (seated d c.in-Seat.slot c.in-Seat.id c.hand_out-holder.new.spare.items c.self.invariant.tied kept room unclosed answer spare);
+          (seated _ c.in-Seat.slot c.in-Seat.id c.hand_out-holder.new.spare.items c.self.invariant.tied kept room unclosed answer spare);
       free = rw c.accept-answer.ensures.after
           (c.take-free.ensures.after ∙ ap (λ (bs : List Bool). set bs c.in-Seat.slot false) c.self.invariant.free ∙ sym (accepted-free c.self.inside.journal c.in-Seat.slot c.in-Seat.id answer));
       over = rw c.accept-answer.ensures.after (accepted-over c.self.inside.kept.overs c.self.inside.journal c.self.invariant.over);

@@ -5,33 +5,30 @@ use Rattle.ep_journal.specs.declared.session.Opened.TheVariants as opened
 use Rattle.ep_journal.specs.Items.{with_item}
 use Rattle.ep_registry.specs.declared.hold.Hold.{Hold}
 use Rattle.ep_journal.specs.Recorded.{Recorded, is_serving}
-use Rattle.ep_registry.specs.Registered.{Desk}
-use Rattle.ep_registry.proofs.Tied.{held-known, book-is}
+use Rattle.ep_registry.proofs.Tied.{holder-known, book-is}
 use Rattle.ep_registry.proofs.Decides.{half-is}
-use Rattle.ep_registry.proofs.Calls.{shown-hold, failed-tied}
+use Rattle.ep_registry.proofs.Calls.{failed-tied}
 use Rattle.ep_registry.proofs.Slots.{hold-held, failed-free}
 use Rattle.ep_registry.proofs.Things.{failed-over}
 use Rattle.ep_registry.proofs.registry.Registry.fail.Goals as goal
 
 pub put-requires-clause-held : goal.put-requires-clause-held
 put-requires-clause-held g c =
-    let d : Desk = record { recorded = c.self.inside.journal; book = c.self.inside.halves.book; holds = c.self.inside.halves.holds; spare = c.self.inside.halves.spare.items; marks = c.self.inside.halves.marks; roles = c.self.inside.roles; closed = c.self.inside.closed; early = c.self.inside.early; late = c.self.inside.late } in
     let hold = c.hold-hold.result in
     let same = c.hold-hold.ensures.value ∙ c.meet-2.ensures.same.0 in
-    let known = held-known d hold c.self.invariant.tied c.hold-hold.ensures.known.0 c.hold-hold.ensures.known.1 (shown-hold c.self.inside.halves.holds c.args.holder hold same c.meet-2.ensures.equal) in
+    let known = holder-known _ _ c.args.holder hold c.self.invariant.tied.holds same c.hold-hold.ensures.known c.meet-2.ensures.equal in
     ap (λ (bs : List Bool). slice_get bs hold.slot) c.self.invariant.free ∙ hold-held c.self.inside.journal hold c.fail.ensures.kept known c.hold-hold.ensures.on
 
 pub invariant_of-self : goal.invariant_of-self
 invariant_of-self g c =
-    let d : Desk = record { recorded = c.self.inside.journal; book = c.self.inside.halves.book; holds = c.self.inside.halves.holds; spare = c.self.inside.halves.spare.items; marks = c.self.inside.halves.marks; roles = c.self.inside.roles; closed = c.self.inside.closed; early = c.self.inside.early; late = c.self.inside.late } in
     let hold = c.hold-hold.result in
     let same = c.hold-hold.ensures.value ∙ c.meet-2.ensures.same.0 in
-    let known = held-known d hold c.self.invariant.tied c.hold-hold.ensures.known.0 c.hold-hold.ensures.known.1 (shown-hold c.self.inside.halves.holds c.args.holder hold same c.meet-2.ensures.equal) in
+    let known = holder-known _ _ c.args.holder hold c.self.invariant.tied.holds same c.hold-hold.ensures.known c.meet-2.ensures.equal in
     let serves : is_serving hold.stage ≡ true = ap (λ (k : Hold). is_serving k.stage) same ∙ c.requires.serves in
     let fresh : hold.opened ≡ opened.No = ap (λ (k : Hold). k.opened) same ∙ c.requires.unopened in
     record {
       tied = rw (c.tell.ensures.book, c.decisions.ensures, c.fail.ensures.after, c.close.ensures, c.meet.ensures.same.1, c.meet-2.ensures.same.1)
-          (failed-tied d hold c.self.invariant.tied c.hold-hold.ensures.known.1 known serves fresh);
+          (failed-tied _ hold c.self.invariant.tied c.hold-hold.ensures.known.1 known serves fresh);
       free = rw c.fail.ensures.after (c.put.ensures ∙ ap (λ (bs : List Bool). set bs hold.slot true) c.self.invariant.free ∙ sym (failed-free c.self.inside.journal hold known));
       over = rw c.fail.ensures.after (failed-over c.self.inside.kept.overs c.self.inside.journal hold c.self.invariant.over known c.hold-hold.ensures.on);
       gone = rw c.fail.ensures.after c.self.invariant.gone;

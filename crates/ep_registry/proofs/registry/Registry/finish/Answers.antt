@@ -1,18 +1,15 @@
-use Rattle.ep_registry.specs.Registered.{Desk}
 use Rattle.ep_registry.proofs.Leaves.{none-on}
 use Rattle.ep_registry.proofs.registry.Registry.finish.Goals as goal
 
 pub meet_waiting-requires-clause-none : goal.meet_waiting-requires-clause-none
 meet_waiting-requires-clause-none g c =
-    let d : Desk = record { recorded = c.self.inside.journal; book = c.self.inside.halves.book; holds = c.self.inside.halves.holds; spare = c.self.inside.halves.spare.items; marks = c.self.inside.halves.marks; roles = c.self.inside.roles; closed = c.self.inside.closed; early = c.self.inside.early; late = c.self.inside.late } in
     let met = rw c.meet_mark.ensures.same.1 at c.meet_roles.ensures.met in
-    none-on d c.args.roles.items c.self.invariant.tied c.requires.roles met
+    none-on _ c.args.roles.items c.self.invariant.tied c.requires.roles met
 
 pub finish-decisions-requires : goal.finish-decisions-requires
 finish-decisions-requires g c =
-    let d : Desk = record { recorded = c.self.inside.journal; book = c.self.inside.halves.book; holds = c.self.inside.halves.holds; spare = c.self.inside.halves.spare.items; marks = c.self.inside.halves.marks; roles = c.self.inside.roles; closed = c.self.inside.closed; early = c.self.inside.early; late = c.self.inside.late } in
     let met = rw c.meet_mark.ensures.same.1 at c.meet_roles.ensures.met in
-    none-on d c.args.roles.items c.self.invariant.tied c.requires.roles met
+    none-on _ c.args.roles.items c.self.invariant.tied c.requires.roles met
 
 pub returns-clause-over : goal.returns-clause-over
 returns-clause-over g c = rw (c.into_places.ensures, c.finish-decisions.ensures.same.1) c.self.invariant.over

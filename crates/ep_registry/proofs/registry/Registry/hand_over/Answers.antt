@@ -1,17 +1,16 @@
 use Rattle.std.proofs.Common.{◌≡◌, Some, Option, List, set, ap, sym, ◌∙◌}
 use Rattle.ep_registry.specs.declared.hold.Hold.{Hold}
-use Rattle.ep_registry.specs.Registered.{Desk, Registered}
-use Rattle.ep_registry.proofs.Tied.{held-known}
+use Rattle.ep_registry.specs.Registered.{Registered}
+use Rattle.ep_registry.proofs.Tied.{shown-known}
 use Rattle.ep_registry.proofs.Things.{one-session, took-none, put-view}
 use Rattle.ep_registry.proofs.registry.Registry.hand_over.Goals as goal
 
 pub meet_both-requires-clause-same : goal.meet_both-requires-clause-same
 meet_both-requires-clause-same g c =
-    let d : Desk = record { recorded = c.self.inside.journal; book = c.self.inside.halves.book; holds = c.self.inside.halves.holds; spare = c.self.inside.halves.spare.items; marks = c.self.inside.halves.marks; roles = c.self.inside.roles; closed = c.self.inside.closed; early = c.self.inside.early; late = c.self.inside.late } in
     let a = c.open-other.result.0 in
     let b = c.open-holder.result.0 in
-    let known-a = held-known d a c.self.invariant.tied c.meet.ensures.known.0 c.meet.ensures.known.1 c.meet.ensures.equal in
-    let known-b = held-known d b c.self.invariant.tied c.meet-in-Some.ensures.known.0 c.meet-in-Some.ensures.known.1 (rw (← c.meet.ensures.same.1) c.meet-in-Some.ensures.equal) in
+    let known-a = shown-known _ _ a c.self.invariant.tied.holds c.meet.ensures.known.0 c.meet.ensures.known.1 c.meet.ensures.equal in
+    let known-b = shown-known _ _ b c.self.invariant.tied.holds c.meet-in-Some.ensures.known.0 c.meet-in-Some.ensures.known.1 (rw (← c.meet.ensures.same.1) c.meet-in-Some.ensures.equal) in
     let slot : a.slot ≡ b.slot =
     ap (λ (k : Hold). k.slot) c.open-other.ensures.0 ∙ c.in-Some.ensures.slot ∙ ap (λ (k : Hold). k.slot) (c.hold-slot.ensures.value ∙ sym c.open-holder.ensures.0) in
     let same : a.id ≡ b.id = one-session c.self.inside.journal a b c.decided-count.ensures.kept known-a known-b c.meet.ensures.on c.meet-in-Some.ensures.on slot in

@@ -2,7 +2,6 @@ use Rattle.std.proofs.Common.{List, [], ◌∷◌, ◌++◌, ap, sym, ◌∙◌}
 use Rattle.ep_journal.specs.declared.decision.Decision.{Decision}
 use Rattle.ep_journal.specs.declared.decision.Decision.TheVariants as decision
 use Rattle.ep_journal.specs.Recorded.{Recorded}
-use Rattle.ep_registry.specs.Registered.{Desk}
 use Rattle.ep_registry.proofs.Tied.{book-is}
 use Rattle.ep_registry.proofs.Calls.{passed}
 use Rattle.ep_registry.proofs.Decides.{half-is}
@@ -10,9 +9,8 @@ use Rattle.ep_registry.proofs.registry.Registry.pass.Goals as goal
 
 pub invariant_of-self : goal.invariant_of-self
 invariant_of-self g c =
-    let d : Desk = record { recorded = c.self.inside.journal; book = c.self.inside.halves.book; holds = c.self.inside.halves.holds; spare = c.self.inside.halves.spare.items; marks = c.self.inside.halves.marks; roles = c.self.inside.roles; closed = c.self.inside.closed; early = c.self.inside.early; late = c.self.inside.late } in
     record {
-      tied = rw (c.tell.ensures.book, c.decisions.ensures, c.pass.ensures, c.meet.ensures.same.1) (passed d decision.Nothing c.self.invariant.tied);
+      tied = rw (c.tell.ensures.book, c.decisions.ensures, c.pass.ensures, c.meet.ensures.same.1) (passed _ decision.Nothing c.self.invariant.tied);
       free = rw c.pass.ensures c.self.invariant.free;
       over = rw c.pass.ensures c.self.invariant.over;
       gone = rw c.pass.ensures c.self.invariant.gone;

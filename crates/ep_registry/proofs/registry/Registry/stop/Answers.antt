@@ -1,7 +1,6 @@
 use Rattle.std.proofs.Common.{[], ◌∷◌, ◌++◌, ap, sym, ◌∙◌}
 use Rattle.ep_journal.specs.Recorded.{Recorded, answer_to}
 use Rattle.ep_registry.specs.Held.{stop_decides}
-use Rattle.ep_registry.specs.Registered.{Desk}
 use Rattle.ep_registry.proofs.Tied.{book-is}
 use Rattle.ep_registry.proofs.Calls.{stopped-told}
 use Rattle.ep_registry.proofs.Decides.{half-is, decided-as, stopped-decides}
@@ -11,9 +10,8 @@ use Rattle.ep_registry.proofs.registry.Registry.stop.Goals as goal
 
 pub invariant_of-self : goal.invariant_of-self
 invariant_of-self g c =
-    let d : Desk = record { recorded = c.self.inside.journal; book = c.self.inside.halves.book; holds = c.self.inside.halves.holds; spare = c.self.inside.halves.spare.items; marks = c.self.inside.halves.marks; roles = c.self.inside.roles; closed = c.self.inside.closed; early = c.self.inside.early; late = c.self.inside.late } in
     record {
-      tied = rw (c.tell.ensures.book, c.decisions.ensures, c.stop-answer.ensures.after, c.meet.ensures.same.1) (stopped-told d c.args.id c.self.invariant.tied);
+      tied = rw (c.tell.ensures.book, c.decisions.ensures, c.stop-answer.ensures.after, c.meet.ensures.same.1) (stopped-told _ c.args.id c.self.invariant.tied);
       free = rw c.stop-answer.ensures.after (c.self.invariant.free ∙ sym (stopping-free c.self.inside.journal c.args.id));
       over = rw c.stop-answer.ensures.after (stopped-over c.self.inside.kept.overs c.self.inside.journal c.args.id c.self.invariant.over);
       gone = rw c.stop-answer.ensures.after (stopped-ended c.self.inside.journal c.args.id ∙ c.self.invariant.gone);
