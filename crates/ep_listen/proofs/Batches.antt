@@ -6,6 +6,7 @@ use Rattle.std.proofs.lemmas.Bool.{cases_eq, eq-eqb, ne_eqb}
 use Rattle.std.proofs.lemmas.List.{append-nil, length-map}
 use Rattle.std.proofs.lemmas.List.Elements.{All-head, All-tail, filter-append}
 use Rattle.ep_defs.specs.declared.session.Write.{Write}
+use Rattle.ep_model.proofs.Lists.{each-append, each-front}
 use Rattle.ep_chunk.specs.Record.{Record}
 use Rattle.ep_slot.specs.Slot as slot
 use Rattle.ep_row.specs.AtRest.{write_of}
@@ -13,14 +14,6 @@ use Rattle.ep_listen.specs.Heard.{HeardEvent, heard_in, heard_of}
 use Rattle.ep_listen.specs.Shares.{Account, AreHeard, AreNext, AreRising, IsHeardOf, IsInPlace, IsPartOf, heard_by, numbered, with_taken, write_contents}
 
 -- ---- lists
-
-each-append : {A : Type 0} (P : A → Type 0) (xs ys : List A) → AllByRecursion P xs → AllByRecursion P ys → AllByRecursion P (xs ++ ys)
-each-append P [] ys first later = later
-each-append P (x ∷ xs) ys first later = (first.0, each-append P xs ys first.1 later)
-
-each-front : {A : Type 0} (P : A → Type 0) (xs ys : List A) → AllByRecursion P (xs ++ ys) → AllByRecursion P xs
-each-front P [] ys all = tt
-each-front P (x ∷ xs) ys all = (all.0, each-front P xs ys all.1)
 
 rising-up : (below most : ℕ) (heard : List HeardEvent) → AreRising below most heard → below ≤ most
 rising-up below most [] rising = rising

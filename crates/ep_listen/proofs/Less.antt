@@ -3,6 +3,7 @@ use Rattle.std.proofs.Common.{◌≡◌, ℕ, zero, suc, ◌+◌, ◌-◌, ◌<�
 use Rattle.std.specs.Prelude.{slice_get}
 use Rattle.std.specs.List.{AllByRecursion}
 use Rattle.std.proofs.lemmas.Bool.{cases_eq}
+use Rattle.std.proofs.lemmas.Option.{same_Some}
 use Rattle.ep_defs.specs.declared.session.Write.{Write}
 use Rattle.ep_listen.specs.Heard.{HeardEvent}
 use Rattle.ep_listen.specs.Shares.{AreRising, Contents, IsLess, Kept, Missing, Nothing, contents_of, numbered, write_contents}
@@ -26,9 +27,6 @@ at-later first below most write rest (e ∷ heard) under rising at =
     let next : e.number - first ≡ suc (e.number - (first + 1)) = omega (arith, over) in
     (rw next at at.0, at-later first e.number most write rest heard (omega (arith, over)) rising.1 at.1)
 
-same : (a b : Contents) → Some a ≡ Some b → a ≡ b
-same a b e = cc
-
 pub all-less : (count first below most : ℕ) (admitted : List Write) (heard : List HeardEvent) → first ≡ below + 1 → AreRising below most heard → most < first + length admitted → AreAt first admitted heard
     → length heard + count ≡ length admitted → IsLess Contents count (numbered first admitted) (map contents_of heard)
 all-less count first below most [] [] e rising within at sum = subst (λ (n : ℕ). IsLess Contents n [] []) (omega (arith, sum)) Nothing
@@ -45,7 +43,7 @@ all-less count first below most (write ∷ rest) (h ∷ heard) e rising within a
           let is : Some (write_contents first write) ≡ Some (contents_of h) = rw zero_is at at.0 in
           let rest_rises : AreRising first most heard = rw here at rising.1 in
           let later = all-less count (first + 1) first most rest heard refl rest_rises (omega (arith, within)) (at-later first first most write rest heard (omega arith) rest_rises at.1) (omega (arith, sum)) in
-          subst (λ (c : Contents). IsLess Contents count (numbered first (write ∷ rest)) (c ∷ map contents_of heard)) (same (write_contents first write) (contents_of h) is)
+          subst (λ (c : Contents). IsLess Contents count (numbered first (write ∷ rest)) (c ∷ map contents_of heard)) (same_Some (write_contents first write) (contents_of h) is)
           (Kept count (write_contents first write) (numbered (first + 1) rest) (map contents_of heard) later)
       | inr other ↦
           let all_rise : AreRising first most (h ∷ heard) = (omega (arith, over, e, other), rising.1) in

@@ -1,16 +1,49 @@
--- A record more in a chain of chunks.
-use Rattle.std.proofs.Common.{◌≡◌, ℕ, ◌+◌, ◌-◌, ◌<◌, ◌≤◌, Bool, true, false, List, [], ◌∷◌, ◌++◌, length, refl, ap, sym, ◌∙◌, subst, append_assoc, arith, length-append}
-use Rattle.std.specs.Prelude.{nat_lt, ◌==◌, ◌||◌, ◌↔◌, not, if◌then◌else◌, slice_set, slice_index_or, IsTrue}
+-- A chain of chunks: its records chunk by chunk, and a record more in it.
+use Rattle.std.proofs.Common.{◌≡◌, ℕ, zero, suc, ◌+◌, ◌-◌, ◌<◌, ◌≤◌, Bool, true, false, List, [], ◌∷◌, ◌++◌, Some, length, take, drop, refl, ap, sym, ◌∙◌, subst, append_assoc, arith, length-append}
+use Rattle.std.specs.Prelude.{nat_lt, ◌==◌, ◌||◌, ◌↔◌, not, if◌then◌else◌, slice_get, slice_set, slice_index_or, IsTrue}
 use Rattle.std.specs.List.{All}
 use Rattle.std.proofs.lemmas.List.{append-nil, set_at, get_or_at}
-use Rattle.std.proofs.lemmas.List.Concat.{flat_map-append}
+use Rattle.std.proofs.lemmas.List.Concat.{flat_map-append, flat_map-cons}
 use Rattle.std.proofs.lemmas.List.Elements.{All-nil, All-cons, All-head, All-tail, All-push}
 use Rattle.std.proofs.lemmas.Bool.{true≢false, false≢true, or_parts, eqb-false, ltb-true, ltb-false, ne_eqb}
+use Rattle.std.proofs.lemmas.Option.{same_Some, none-some}
 use Rattle.ep_defs.specs.declared.limits.TheConstants.{CHUNK_BYTES}
 use Rattle.ep_chunk.specs.Record.{Record, size_of, total_size}
 use Rattle.ep_chunk.proofs.Holding.{total_size-push}
 use Rattle.ep_model.specs.Budget.{Pending, needs_chunk, pending_with}
 use Rattle.ep_slot.specs.Chain.{records_of, last_size, pending_of, with_last, HasRecords}
+
+-- ---- one of its chunks
+
+-- The records of a chain, about one of its chunks.
+pub split_chain : (chain : List (List Record)) (place : ℕ) (chunk : List Record) → slice_get chain place ≡ Some chunk → records_of chain ≡ records_of (take place chain) ++ (chunk ++ records_of (drop (place + 1) chain))
+split_chain [] place chunk is = absurd (none-some chunk is)
+split_chain (first ∷ chain) zero chunk is =
+    flat_map-cons (λ (c : List Record). c) first chain ∙ ap (λ (c : List Record). c ++ records_of chain) (same_Some first chunk is)
+split_chain (first ∷ chain) (suc place) chunk is =
+    let e : suc place + 1 ≡ suc (place + 1) = omega arith in
+    let later : records_of chain ≡ records_of (take place chain) ++ (chunk ++ records_of (drop (place + 1) chain)) = split_chain chain place chunk is in
+    flat_map-cons (λ (c : List Record). c) first chain
+    ∙ ap (λ (rs : List Record). first ++ rs) later
+    ∙ sym (append_assoc first (records_of (take place chain)) (chunk ++ records_of (drop (place + 1) chain)))
+    ∙ ap (λ (rs : List Record). rs ++ (chunk ++ records_of (drop (place + 1) chain))) (sym (flat_map-cons (λ (c : List Record). c) first (take place chain)))
+    ∙ ap (λ (n : ℕ). records_of (take (suc place) (first ∷ chain)) ++ (chunk ++ records_of (drop n (first ∷ chain)))) (sym e)
+
+-- The records up to and with one of its chunks.
+pub take_chain : (chain : List (List Record)) (place : ℕ) (chunk : List Record) → slice_get chain place ≡ Some chunk → records_of (take (place + 1) chain) ≡ records_of (take place chain) ++ chunk
+take_chain [] place chunk is = absurd (none-some chunk is)
+take_chain (first ∷ chain) zero chunk is =
+    flat_map-cons (λ (c : List Record). c) first (take 0 chain) ∙ append-nil first ∙ same_Some first chunk is
+take_chain (first ∷ chain) (suc place) chunk is =
+    let e : suc place + 1 ≡ suc (place + 1) = omega arith in
+    let later : records_of (take (place + 1) chain) ≡ records_of (take place chain) ++ chunk = take_chain chain place chunk is in
+    ap (λ (n : ℕ). records_of (take n (first ∷ chain))) e
+    ∙ flat_map-cons (λ (c : List Record). c) first (take (place + 1) chain)
+    ∙ ap (λ (rs : List Record). first ++ rs) later
+    ∙ sym (append_assoc first (records_of (take place chain)) chunk)
+    ∙ ap (λ (rs : List Record). rs ++ chunk) (sym (flat_map-cons (λ (c : List Record). c) first (take place chain)))
+
+-- ---- its last chunk
 
 -- A chain by its last chunk.
 pub record Ends (chain : List (List Record)) : Type 0 where

@@ -4,7 +4,8 @@ use Rattle.std.proofs.lemmas.Result.{err_from_is_err_and}
 use Rattle.ep_chunk.specs.Record.{Record}
 use Rattle.ep_slot.specs.Chain.{records_of}
 use Rattle.ep_listen.specs.Heard.{HeardEvent, heard_in, heard_of}
-use Rattle.ep_listen.proofs.Chains.{chunk-few, heard-behind, split_chain, take_chain}
+use Rattle.ep_slot.proofs.Chains.{split_chain, take_chain}
+use Rattle.ep_listen.proofs.Chains.{chunk-few, heard-behind}
 use Rattle.ep_listen.proofs.hand_over.hand_chain.Goals as goal
 
 pub loop-place-init : goal.loop-place-init
