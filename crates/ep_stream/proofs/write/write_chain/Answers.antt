@@ -6,7 +6,8 @@ use Rattle.ep_chunk.specs.Record.{Record}
 use Rattle.ep_slot.specs.Chain.{records_of}
 use Rattle.ep_stream.specs.Telling.{IsTelling, IsWritable, entries_of}
 use Rattle.ep_stream.proofs.Telling.{told_after}
-use Rattle.ep_stream.proofs.Reading.{split_chain, take_chain, all_between, entries_of-append}
+use Rattle.ep_slot.proofs.Chains.{split_chain, take_chain}
+use Rattle.ep_stream.proofs.Reading.{all_between, entries_of-append}
 use Rattle.std.specs.Prelude.{Result, Ok, Err}
 use Rattle.nt_write.specs.declared.fault.Fault.{Fault}
 use Rattle.nt_write.specs.declared.fault.Fault.TheVariants.{WriteFault}
