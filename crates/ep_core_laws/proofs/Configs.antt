@@ -15,7 +15,8 @@ use Rattle.ep_row.specs.Bits.{one_if}
 use Rattle.ep_row.specs.Row.{RowState, slot_of, gets}
 use Rattle.ep_row.specs.declared.row.Opening.{Opening}
 use Rattle.ep_row.specs.AtRest.{RowAtRest, SlotAtRest, OpenAtRest, gets_last, with_config, write_of}
-use Rattle.ep_core_laws.proofs.RestLists.{get-append, drop-append}
+use Rattle.ep_table.proofs.Places.{get-append}
+use Rattle.ep_core_laws.proofs.RestLists.{drop-append}
 
 -- ---- the configuration of a slot
 

@@ -31,6 +31,12 @@ own_other : (own here : Bool) (old new : Budget) (thread : ℕ) → (own && here
 own_other false here old new thread off same = refl
 own_other true here old new thread off same = same off
 
+-- A thread keeps what it has pending where that of another is taken.
+taken_other : (session thread : ℕ) (past : Past) (s t : ℕ) → ((s == session) && (t == thread)) ≡ false
+    → (if s == session then with_steal (budget_of session past) t else budget_of session past).pending thread ≡ (budget_of session past).pending thread
+taken_other session thread past s t off =
+    own_other (s == session) (t == thread) (budget_of session past) _ thread off (steal_other (budget_of session past) thread t)
+
 -- ---- all that stays
 
 -- The session has of the thread what it had.
@@ -60,27 +66,9 @@ same_on events session thread past (step.Show t s) off =
       waiting_are = rw (and_more (s == session) (t == thread) (not (is_refused session thread past)) off) refl;
     }
 same_on events session thread past (step.Steal s t) off =
-    record {
-      open_is = refl;
-      from_is = refl;
-      shows_are = refl;
-      refused_are = refl;
-      written_are = refl;
-      told_is = rw off refl;
-      pending_is = own_other (s == session) (t == thread) (budget_of session past) _ thread off (steal_other (budget_of session past) thread t);
-      waiting_are = rw off refl;
-    }
+    record { open_is = refl; from_is = refl; shows_are = refl; refused_are = refl; written_are = refl; told_is = rw off refl; pending_is = taken_other session thread past s t off; waiting_are = rw off refl }
 same_on events session thread past (step.Close s t) off =
-    record {
-      open_is = rw off refl;
-      from_is = refl;
-      shows_are = refl;
-      refused_are = refl;
-      written_are = refl;
-      told_is = rw off refl;
-      pending_is = own_other (s == session) (t == thread) (budget_of session past) _ thread off (steal_other (budget_of session past) thread t);
-      waiting_are = rw off refl;
-    }
+    record { open_is = rw off refl; from_is = refl; shows_are = refl; refused_are = refl; written_are = refl; told_is = rw off refl; pending_is = taken_other session thread past s t off; waiting_are = rw off refl }
 same_on events session thread past (step.Give s) off =
     record {
       open_is = refl;
@@ -94,13 +82,8 @@ same_on events session thread past (step.Give s) off =
           [ true ↦ refl | false ↦ refl ];
       waiting_are = refl;
     }
-same_on events session thread past (step.Accept s config) off = record { open_is = refl; from_is = refl; shows_are = refl; refused_are = refl; written_are = refl; told_is = refl; pending_is = refl; waiting_are = refl }
-same_on events session thread past (step.Enter t) off = record { open_is = refl; from_is = refl; shows_are = refl; refused_are = refl; written_are = refl; told_is = refl; pending_is = refl; waiting_are = refl }
-same_on events session thread past (step.Leave t) off = record { open_is = refl; from_is = refl; shows_are = refl; refused_are = refl; written_are = refl; told_is = refl; pending_is = refl; waiting_are = refl }
-same_on events session thread past (step.Begin t stamp write) off = record { open_is = refl; from_is = refl; shows_are = refl; refused_are = refl; written_are = refl; told_is = refl; pending_is = refl; waiting_are = refl }
-same_on events session thread past (step.End t) off = record { open_is = refl; from_is = refl; shows_are = refl; refused_are = refl; written_are = refl; told_is = refl; pending_is = refl; waiting_are = refl }
-same_on events session thread past (step.Point s stamp) off = record { open_is = refl; from_is = refl; shows_are = refl; refused_are = refl; written_are = refl; told_is = refl; pending_is = refl; waiting_are = refl }
-same_on events session thread past (step.Finish s stamp) off = record { open_is = refl; from_is = refl; shows_are = refl; refused_are = refl; written_are = refl; told_is = refl; pending_is = refl; waiting_are = refl }
+same_on events session thread past _ off =
+    record { open_is = refl; from_is = refl; shows_are = refl; refused_are = refl; written_are = refl; told_is = refl; pending_is = refl; waiting_are = refl }
 
 -- ---- the configuration
 
@@ -113,32 +96,12 @@ config_stays events session thread past (step.Accept s config) lawful on =
     let here = present_reached s past (open_present events s thread past lawful.0 (subst P (sym (eqb-true s session same)) on)) in
     false≢true (sym (accept_unreached events past s config lawful.1) ∙ here)) in
     rw off refl
-config_stays events session thread past (step.Enter t) lawful on = refl
-config_stays events session thread past (step.Leave t) lawful on = refl
-config_stays events session thread past (step.Open s t) lawful on = refl
-config_stays events session thread past (step.Begin t stamp write) lawful on = refl
-config_stays events session thread past (step.Show t s) lawful on = refl
-config_stays events session thread past (step.End t) lawful on = refl
-config_stays events session thread past (step.Steal s t) lawful on = refl
-config_stays events session thread past (step.Give s) lawful on = refl
-config_stays events session thread past (step.Point s stamp) lawful on = refl
-config_stays events session thread past (step.Close s t) lawful on = refl
-config_stays events session thread past (step.Finish s stamp) lawful on = refl
+config_stays events session thread past _ lawful on = refl
 
 -- A step that does not change a pool accepts no session anew.
 pub config_kept : (session : ℕ) (past : Past) (step : Step) → changes_pool session step ≡ false → config_of session (step ∷ past) ≡ config_of session past
 config_kept session past (step.Accept s config) off = rw off refl
-config_kept session past (step.Enter t) off = refl
-config_kept session past (step.Leave t) off = refl
-config_kept session past (step.Open s t) off = refl
-config_kept session past (step.Begin t stamp write) off = refl
-config_kept session past (step.Show t s) off = refl
-config_kept session past (step.End t) off = refl
-config_kept session past (step.Steal s t) off = refl
-config_kept session past (step.Give s) off = refl
-config_kept session past (step.Point s stamp) off = refl
-config_kept session past (step.Close s t) off = refl
-config_kept session past (step.Finish s stamp) off = refl
+config_kept session past _ off = refl
 
 -- ---- what is held
 
@@ -152,11 +115,4 @@ held_stays session past (step.Show t s) off = rw off refl
 held_stays session past (step.Give s) off = rw off refl
 held_stays session past (step.Steal s t) off = taken_held (s == session) (budget_of session past) t
 held_stays session past (step.Close s t) off = taken_held (s == session) (budget_of session past) t
-held_stays session past (step.Accept s config) off = refl
-held_stays session past (step.Enter t) off = refl
-held_stays session past (step.Leave t) off = refl
-held_stays session past (step.Open s t) off = refl
-held_stays session past (step.Begin t stamp write) off = refl
-held_stays session past (step.End t) off = refl
-held_stays session past (step.Point s stamp) off = refl
-held_stays session past (step.Finish s stamp) off = refl
+held_stays session past _ off = refl

@@ -1,5 +1,5 @@
 -- What a session makes that comes or goes.
-use Rattle.std.proofs.Common.{◌≡◌, ℕ, suc, true, false, List, ◌∷◌, map, length, refl, ap, sym, ◌∙◌, subst}
+use Rattle.std.proofs.Common.{◌≡◌, ℕ, suc, true, false, List, ◌∷◌, map, length, Some, refl, ap, sym, ◌∙◌, subst}
 use Rattle.std.specs.Prelude.{◌||◌, not, filter, is_some, remove, nat_lt, nat_le, ◌==◌}
 use Rattle.std.specs.Int.{bit_at}
 use Rattle.std.specs.List.{list_any, AllByRecursion}
@@ -10,10 +10,11 @@ use Rattle.ep_defs.specs.declared.limits.TheConstants.{THREADS}
 use Rattle.ep_defs.specs.declared.event.EventDef.{EventDef}
 use Rattle.ep_defs.specs.declared.session.Config.{Config}
 use Rattle.ep_defs.specs.declared.session.TraceInfo.{TraceInfo}
+use Rattle.ep_model.specs.declared.step.Step.{Step}
 use Rattle.ep_model.specs.declared.step.Step.TheVariants as step
 use Rattle.ep_model.specs.Fold.{budget_of, Budget}
-use Rattle.ep_model.specs.History.{Past, accepted, opened, is_open, is_due}
-use Rattle.ep_model.specs.Lawful.{IsLawful, objections, is_next_session, was_opened}
+use Rattle.ep_model.specs.History.{Past, accepted, entered, opened, was_there, is_open, is_due}
+use Rattle.ep_model.specs.Lawful.{IsLawful, objections, begins, is_next_session, was_opened}
 use Rattle.ep_model.proofs.Objections.{none_there}
 use Rattle.ep_model.proofs.Sessions.{open_somewhere, accept_new, untouched}
 use Rattle.ep_model.proofs.Due.{due_within}
@@ -24,8 +25,8 @@ use Rattle.ep_stream.specs.Steps.{ToldRows}
 use Rattle.ep_rows.specs.Rows.{told_of}
 use Rattle.ep_tables.specs.declared.tables.Present.{Present}
 use Rattle.ep_tables.specs.declared.tables.Tables.{Tables}
-use Rattle.ep_tables.specs.Tables.{TablesFollow, PresentFollows, RowFollows, OnFollows, has_slot, number_of}
-use Rattle.ep_tables.specs.Made.{MakesAccept, MakesFinish}
+use Rattle.ep_tables.specs.Tables.{TablesFollow, PresentFollows, RowFollows, PlaceFollows, OnFollows, IsGone, has_slot, number_of}
+use Rattle.ep_tables.specs.Made.{KeepsThreads, MakesAccept, MakesFinish}
 use Rattle.ep_tables.proofs.Items.{All-each, All-remove, map-remove, any-remove, length-remove}
 use Rattle.ep_core_laws.proofs.FollowPasts.{never_on, present_accept, present_finish, last_more, last_less}
 use Rattle.ep_core_laws.proofs.Follow.{place_stays, session_at, numbers_distinct, seats_distinct}
@@ -40,6 +41,34 @@ false_bit n not = ne_eqb n 1 not
 -- Nothing is due to a session that is not open.
 undue : (events : List EventDef) (session thread : ℕ) (past : Past) → IsLawful events past → is_open session thread past ≡ false → is_due events session thread past ≡ false
 undue events session thread past lawful off = false_from_ne_true (is_due events session thread past) (λ due. false≢true (sym off ∙ (due_within events session thread past lawful due).on))
+
+-- ---- threads
+
+-- What the tables say of threads and of their rows.
+record ThreadsFollow (past : Past) (tables : Tables) : Type 0 where
+  last_thread : (thread : ℕ) → nat_lt THREADS thread ≡ true → list_any (λ t. nat_le thread t) (entered past) ≡ nat_le thread tables.last_thread
+  begins_are : begins past ≡ tables.begins
+  rows : (r : ℕ) → IsRow THREADS r → RowFollows past ((told_of tables.rows).row r)
+  places : (thread : ℕ) → PlaceFollows past (told_of tables.rows) thread (get nat_cmp tables.threads thread)
+  place_of : (r : ℕ) → IsRow THREADS r → get nat_cmp tables.threads ((told_of tables.rows).row r).thread ≡ Some r
+
+-- It stays in a step that brings and takes no thread and changes no row.
+threads_follow : (events : List EventDef) (past : Past) (s : Step) (old new : Tables) → TablesFollow events past old → KeepsThreads old new → new.begins ≡ old.begins
+    → ((r : ℕ) → (told_of new.rows).row r ≡ (told_of old.rows).row r) → entered (s ∷ past) ≡ entered past → begins (s ∷ past) ≡ begins past
+    → ((thread : ℕ) → was_there thread (s ∷ past) ≡ was_there thread past)
+    → ((thread : ℕ) → IsGone thread past → IsGone thread (s ∷ past))
+    → ((R : RowState) → RowFollows past R → RowFollows (s ∷ past) R)
+    → ThreadsFollow (s ∷ past) new
+threads_follow events past s old new h keeps begun same same_entered same_begins came gone kept =
+    let before = told_of old.rows in
+    let after = told_of new.rows in
+    record {
+      last_thread = λ t over. ap (list_any (λ n. nat_le t n)) same_entered ∙ h.last_thread t over ∙ ap (nat_le t) (sym keeps.last_thread);
+      begins_are = same_begins ∙ h.begins_are ∙ sym begun;
+      rows = λ r is_row. same_rows before after (RowFollows (s ∷ past)) same r (kept (before.row r) (h.rows r is_row));
+      places = λ t. rw keeps.threads (place_stays past (s ∷ past) before after t (get nat_cmp old.threads t) (came t) (gone t) (λ r. ap (λ (R : RowState). R.thread) (same r)) (h.places t));
+      place_of = λ r is_row. rw keeps.threads (ap (λ (R : RowState). get nat_cmp old.threads R.thread) (same r) ∙ h.place_of r is_row);
+    }
 
 -- ---- a session comes
 
@@ -72,18 +101,19 @@ after_accept_step events past session config info old new lawful h m =
       count = m.count ∙ sym (ap (λ n. length (opened n past)) m.number ∙ ap length fresh.nowhere);
       in_hand = ap (λ (r : _). r.in_hand) rest ∙ sym (ap (λ n. (budget_of n past).in_hand) m.number ∙ ap (λ (b : Budget). b.in_hand) fresh.nothing);
     } in
+    let threads = threads_follow events past (step.Accept session config) old new h m.threads m.begins m.rows.rows refl refl (λ t. refl) (λ t gone. record { gone = gone.gone; closed = gone.closed })
+    (λ R f. record { came = f.came; count = f.count; writing = f.writing; gone = f.gone }) in
     let All : List Present → Type 0 = AllByRecursion (PresentFollows events later after) in
     record {
       lawful = lawful;
       events_are = rw m.events_stay.events h.events_are;
       known = m.events_stay.known ∙ h.known;
       last_session = λ s over. last_more s old.last_session session (accepted past) (h.last_session s over) less ∙ ap (nat_le s) (sym m.last_session);
-      last_thread = λ t over. h.last_thread t over ∙ ap (nat_le t) (sym m.threads.last_thread);
-      begins_are = h.begins_are ∙ sym m.begins;
-      rows = λ r is_row. let f = h.rows r is_row in
-          same_rows before after (RowFollows later) m.rows.rows r (record { came = f.came; count = f.count; writing = f.writing; gone = f.gone });
-      places = λ t. rw m.threads.threads (place_stays past later before after t (get nat_cmp old.threads t) refl (λ gone. record { gone = gone.gone; closed = gone.closed }) (λ r. ap (λ (R : RowState). R.thread) (m.rows.rows r)) (h.places t));
-      place_of = λ r is_row. rw m.threads.threads (ap (λ (R : RowState). get nat_cmp old.threads R.thread) (m.rows.rows r) ∙ h.place_of r is_row);
+      last_thread = threads.last_thread;
+      begins_are = threads.begins_are;
+      rows = threads.rows;
+      places = threads.places;
+      place_of = threads.place_of;
       present_are = present_accept session config past anew ∙ ap (λ ns. session ∷ ns) h.present_are ∙ ap (λ n. n ∷ map number_of old.present.items) (sym m.number) ∙ sym (ap (map number_of) m.sessions);
       sessions = subst All (sym m.sessions) (
         follows_now,
@@ -123,18 +153,19 @@ after_finish events past session stamp old new lawful h m =
     let parts : (s : ℕ) → has_slot s old.present.items ≡ ((slot == s) || has_slot s rest) = λ s. any-remove (λ (p : Present). p.slot == s) old.present.items m.place m.was m.stands.there in
     let numbers = numbers_distinct events past old h in
     let slots = seats_distinct events past old h in
+    let threads = threads_follow events past (step.Finish session stamp) old new h m.threads m.begins m.rows.rows refl refl (λ t. refl) (λ t gone. record { gone = gone.gone; closed = gone.closed })
+    (λ R f. record { came = f.came; count = f.count; writing = f.writing; gone = f.gone }) in
     let All : List Present → Type 0 = AllByRecursion (PresentFollows events later after) in
     record {
       lawful = lawful;
       events_are = rw m.events.events h.events_are;
       known = m.events.known ∙ h.known;
       last_session = λ s over. h.last_session s over ∙ ap (nat_le s) (sym m.last_session);
-      last_thread = λ t over. h.last_thread t over ∙ ap (nat_le t) (sym m.threads.last_thread);
-      begins_are = h.begins_are ∙ sym m.begins;
-      rows = λ r is_row. let f = h.rows r is_row in
-          same_rows before after (RowFollows later) m.rows.rows r (record { came = f.came; count = f.count; writing = f.writing; gone = f.gone });
-      places = λ t. rw m.threads.threads (place_stays past later before after t (get nat_cmp old.threads t) refl (λ gone. record { gone = gone.gone; closed = gone.closed }) (λ r. ap (λ (R : RowState). R.thread) (m.rows.rows r)) (h.places t));
-      place_of = λ r is_row. rw m.threads.threads (ap (λ (R : RowState). get nat_cmp old.threads R.thread) (m.rows.rows r) ∙ h.place_of r is_row);
+      last_thread = threads.last_thread;
+      begins_are = threads.begins_are;
+      rows = threads.rows;
+      places = threads.places;
+      place_of = threads.place_of;
       present_are = present_finish session stamp past ∙ ap (filter (λ x. not (session == x))) h.present_are ∙ sym (map-remove number_of old.present.items m.place m.was session m.stands.there found.number numbers) ∙ sym (ap (map number_of) m.sessions);
       sessions = subst All (sym m.sessions)
           (All-remove number_of (λ (p : Present). p.slot) (PresentFollows events past before) (PresentFollows events later after) old.present.items m.place m.was m.stands.there numbers slots (λ p apart f. record {

@@ -32,6 +32,7 @@ use Rattle.ep_tables.specs.Made.{ChangesOne, OpensOn, StealsOn, ClosesOn, Gives,
 use Rattle.ep_core_laws.specs.Given.{PendingFollows}
 use Rattle.ep_tables.proofs.Items.{All-set, get-set_other}
 use Rattle.ep_core_laws.proofs.Follow.{each_row, OwnRow, own_row, one_seated, sessions_are, session_at, numbers_distinct, seats_distinct, follows_on}
+use Rattle.ep_core_laws.proofs.Sets.{set_here}
 
 -- ---- the session that changes
 
@@ -98,6 +99,39 @@ after_turn events past s session Changes old new lawful h one same_accepted same
     (λ r slot is_row is. h.on_known r slot is_row (ap (λ (R : RowState). is_some (slot_of R slot)) (sym (rows r)) ∙ is))
     (λ r slot is_row is. h.due_known r slot is_row (ap (λ (R : RowState). bit_at R.due slot) (sym (rows r)) ∙ is))
 
+-- A step in which no session is opened or closed, and nothing becomes due.
+record OpensNone (events : List EventDef) (past : Past) (s : Step) : Type 0 where
+  open_same : (n t : ℕ) → is_open n t (s ∷ past) ≡ is_open n t past
+  due_same : (n t : ℕ) → is_due events n t (s ∷ past) ≡ is_due events n t past
+  opened_same : (n : ℕ) → opened n (s ∷ past) ≡ opened n past
+
+still_on : (events : List EventDef) (past : Past) (s : Step) (other at : ℕ) (R : RowState) → OpensNone events past s → OnFollows events past other at R → OnFollows events (s ∷ past) other at R
+still_on events past s other at R quiet h =
+    record { on = h.on ∙ sym (quiet.open_same other R.thread); owed = h.owed ∙ sym (quiet.due_same other R.thread) }
+
+-- A session whose hand stays.
+still_follows : (events : List EventDef) (past : Past) (s : Step) (told : ToldRows) (p : Present) → OpensNone events past s → (budget_of p.number (s ∷ past)).in_hand ≡ (budget_of p.number past).in_hand
+    → PresentFollows events past told p → PresentFollows events (s ∷ past) told p
+still_follows events past s told p quiet hand f =
+    record {
+      seat = f.seat;
+      rows = λ r is_row. still_on events past s p.number p.slot (told.row r) quiet (f.rows r is_row);
+      ever = λ t. f.ever t ∙ sym (ap (list_any (λ x. x == t)) (quiet.opened_same p.number));
+      count = f.count ∙ sym (ap length (quiet.opened_same p.number));
+      in_hand = f.in_hand ∙ sym hand;
+    }
+
+-- The session whose step it is.
+still_says : (events : List EventDef) (past : Past) (s : Step) (told : ToldRows) (was now : Present) → OpensNone events past s → now.opened ≡ was.opened
+    → (rest_of now.session).in_hand ≡ (budget_of was.number (s ∷ past)).in_hand → PresentFollows events past told was → Says events (s ∷ past) told was now
+still_says events past s told was now quiet same hand f =
+    record {
+      rows = λ r is_row. still_on events past s was.number was.slot (told.row r) quiet (f.rows r is_row);
+      ever = λ t. ap (λ o. is_some (get nat_cmp o t)) same ∙ f.ever t ∙ sym (ap (list_any (λ x. x == t)) (quiet.opened_same was.number));
+      count = ap btree_map_len same ∙ f.count ∙ sym (ap length (quiet.opened_same was.number));
+      in_hand = hand;
+    }
+
 -- ---- a session gives back
 
 give_rows : (slot chunks : ℕ) (old new : ToldRows) → TellsGive slot chunks (Some old) (Some new) → (r : ℕ) → new.row r ≡ old.row r
@@ -108,47 +142,26 @@ pub after_give : (events : List EventDef) (past : Past) (session : ℕ) (old new
 after_give events past session old new lawful h one =
     let before = told_of old.rows in
     let after = told_of new.rows in
-    let later = step.Give session ∷ past in
+    let quiet : OpensNone events past (step.Give session) = record { open_same = λ n t. refl; due_same = λ n t. refl; opened_same = λ n. refl } in
     let hand : Bool → ℕ → ℕ = λ b n. (if b then with_give (budget_of n past) else budget_of n past).in_hand in
     after_turn events past (step.Give session) session Gives old new lawful h one refl refl refl refl (λ t. refl) (λ t gone. record { gone = gone.gone; closed = gone.closed })
     (λ R f. record { came = f.came; count = f.count; writing = f.writing; gone = f.gone })
     (give_rows one.was.slot (rest_of one.was.session).in_hand before after one.changes.told)
-    (λ p off f. record {
-      seat = f.seat;
-      rows = λ r is_row. let on = f.rows r is_row in record { on = on.on; owed = on.owed };
-      ever = f.ever;
-      count = f.count;
-      in_hand = f.in_hand ∙ sym (ap (λ b. hand b p.number) off);
-    })
-    (λ on number f. record {
-      rows = λ r is_row. let on = f.rows r is_row in record { on = on.on; owed = on.owed };
-      ever = λ thread. rw one.changes.opened (f.ever thread);
-      count = rw one.changes.opened f.count;
-      in_hand = ap (λ (r : Rest). r.in_hand) one.changes.rest ∙ (sym (ap (λ b. hand b one.was.number) on));
-    })
+    (λ p off f. still_follows events past (step.Give session) before p quiet (ap (λ b. hand b p.number) off) f)
+    (λ on number f. still_says events past (step.Give session) before one.was one.now quiet one.changes.opened
+    (ap (λ (r : Rest). r.in_hand) one.changes.rest ∙ (sym (ap (λ b. hand b one.was.number) on))) f)
 
 -- ---- a session tells a point
 
 pub after_point : (events : List EventDef) (past : Past) (session stamp : ℕ) (old new : Tables) → IsLawful events (step.Point session stamp ∷ past) → TablesFollow events past old → MakesPoint session stamp old new → TablesFollow events (step.Point session stamp ∷ past) new
 after_point events past session stamp old new lawful h one =
     let before = told_of old.rows in
-    let after = told_of new.rows in
+    let quiet : OpensNone events past (step.Point session stamp) = record { open_same = λ n t. refl; due_same = λ n t. refl; opened_same = λ n. refl } in
     after_turn events past (step.Point session stamp) session (Points old.events.items stamp) old new lawful h one refl refl refl refl (λ t. refl) (λ t gone. record { gone = gone.gone; closed = gone.closed })
     (λ R f. record { came = f.came; count = f.count; writing = f.writing; gone = f.gone })
     (λ r. ap (λ (t : ToldRows). t.row r) one.changes.told)
-    (λ p off f. record {
-      seat = f.seat;
-      rows = λ r is_row. let on = f.rows r is_row in record { on = on.on; owed = on.owed };
-      ever = f.ever;
-      count = f.count;
-      in_hand = f.in_hand;
-    })
-    (λ on number f. record {
-      rows = λ r is_row. let on = f.rows r is_row in record { on = on.on; owed = on.owed };
-      ever = λ thread. rw one.changes.opened (f.ever thread);
-      count = rw one.changes.opened f.count;
-      in_hand = ap (λ (r : Rest). r.in_hand) one.changes.rest ∙ f.in_hand;
-    })
+    (λ p off f. still_follows events past (step.Point session stamp) before p quiet refl f)
+    (λ on number f. still_says events past (step.Point session stamp) before one.was one.now quiet one.changes.opened (ap (λ (r : Rest). r.in_hand) one.changes.rest ∙ f.in_hand) f)
 
 -- ---- a session takes what is pending
 
@@ -160,28 +173,18 @@ pub after_steal : (events : List EventDef) (past : Past) (session thread : ℕ) 
     → PendingFollows past session thread (told_of old.rows) makes.row makes.one.was.slot → TablesFollow events (step.Steal session thread ∷ past) new
 after_steal events past session thread old new lawful h m pending =
     let before = told_of old.rows in
-    let after = told_of new.rows in
     let one = m.one in
+    let quiet : OpensNone events past (step.Steal session thread) = record { open_same = λ n t. refl; due_same = λ n t. refl; opened_same = λ n. refl } in
     let hand : Bool → ℕ → ℕ = λ b n. (if b then with_steal (budget_of n past) thread else budget_of n past).in_hand in
     after_turn events past (step.Steal session thread) session (StealsOn old.events.items m.row) old new lawful h one refl refl refl refl (λ t. refl) (λ t gone. record { gone = gone.gone; closed = gone.closed })
     (λ R f. record { came = f.came; count = f.count; writing = f.writing; gone = f.gone })
     one.changes.told.rows
-    (λ p off f. record {
-      seat = f.seat;
-      rows = λ r is_row. let on = f.rows r is_row in record { on = on.on; owed = on.owed };
-      ever = f.ever;
-      count = f.count;
-      in_hand = f.in_hand ∙ sym (ap (λ b. hand b p.number) off);
-    })
+    (λ p off f. still_follows events past (step.Steal session thread) before p quiet (ap (λ b. hand b p.number) off) f)
     (λ on number f.
     let budget = budget_of one.was.number past in
     let is : one.changes.told.buffer.pending.chunks ≡ (budget.pending thread).chunks = rw (pending one.changes.told.buffer one.changes.told.was) (ap (λ n. ((budget_of n past).pending thread).chunks) (sym number)) in
-    record {
-      rows = λ r is_row. let on = f.rows r is_row in record { on = on.on; owed = on.owed };
-      ever = λ thread. rw one.changes.opened (f.ever thread);
-      count = rw one.changes.opened f.count;
-      in_hand = ap (λ (r : Rest). r.in_hand) one.changes.rest ∙ (in_hand_after budget thread one.changes.chunks one.changes.told.buffer.pending.chunks (sym f.in_hand ∙ one.changes.empty) one.changes.told.all.chunks_are is ∙ sym (ap (λ b. hand b one.was.number) on));
-    })
+    still_says events past (step.Steal session thread) before one.was one.now quiet one.changes.opened
+    (ap (λ (r : Rest). r.in_hand) one.changes.rest ∙ (in_hand_after budget thread one.changes.chunks one.changes.told.buffer.pending.chunks (sym f.in_hand ∙ one.changes.empty) one.changes.told.all.chunks_are is ∙ sym (ap (λ b. hand b one.was.number) on))) f)
 
 -- ---- a session is opened or closed on a row
 
@@ -346,9 +349,8 @@ after_open events past session thread old new lawful h m =
     let told = one.changes.told in
     let Sets : RowState → RowState → Type 0 = OpensRow old.events.items slot (rest_of one.was.session).seat.id (rest_of one.was.session).config in
     let there = not-false (is_there thread past) (none_there (objections events past (step.Open session thread)) lawful.1).1.0 in
-    let here : ((row == row) && (slot == slot)) ≡ true = and_from (row == row) (slot == slot) (eq-eqb row row refl) (eq-eqb slot slot refl) in
     let buffer = opened_slot (rest_of one.was.session).seat.id (before.row row).thread (before.row row).index (rest_of one.was.session).config.chunks in
-    let set : after.slot row slot ≡ Some buffer = told.slots row slot ∙ ap (λ b. if b then Some buffer else before.slot row slot) here in
+    let set = set_here row slot (Some buffer) before.slot after.slot told.slots in
     let both : ((session == session) && (thread == thread)) ≡ true = and_from (session == session) (thread == thread) (eq-eqb session session refl) (eq-eqb thread thread refl) in
     after_slot events past (step.Open session thread) session thread row (OpensOn old.events.items thread row) Sets old new lawful h (own_row events past old thread row h m.own) one told.rows
     refl refl refl refl (λ t. refl)
@@ -380,14 +382,11 @@ closed_leaves events past session thread =
 pub after_close : (events : List EventDef) (past : Past) (session thread : ℕ) (old new : Tables) → IsLawful events (step.Close session thread ∷ past) → TablesFollow events past old → (makes : MakesClose session thread old new)
     → PendingFollows past session thread (told_of old.rows) makes.row makes.one.was.slot → TablesFollow events (step.Close session thread ∷ past) new
 after_close events past session thread old new lawful h m pending =
-    let before = told_of old.rows in
-    let after = told_of new.rows in
-    let one = m.one in
     let row = m.row in
+    let one = m.one in
     let slot = one.was.slot in
     let told = one.changes.told in
-    let here : ((row == row) && (slot == slot)) ≡ true = and_from (row == row) (slot == slot) (eq-eqb row row refl) (eq-eqb slot slot refl) in
-    let set : after.slot row slot ≡ None = told.slots row slot ∙ ap (λ b. if b then None else before.slot row slot) here in
+    let set = set_here row slot None (told_of old.rows).slot (told_of new.rows).slot told.slots in
     let both : ((session == session) && (thread == thread)) ≡ true = and_from (session == session) (thread == thread) (eq-eqb session session refl) (eq-eqb thread thread refl) in
     after_slot events past (step.Close session thread) session thread row (ClosesOn old.events.items row) (ClosesRow slot) old new lawful h (own_row events past old thread row h m.own) one told.rows
     refl refl refl refl (λ t. refl)

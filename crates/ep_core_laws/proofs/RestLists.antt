@@ -8,12 +8,6 @@ use Rattle.std.proofs.lemmas.Option.{slice_get_read}
 
 -- ---- lists that grow
 
--- What stands in a list stands there in a longer one.
-pub get-append : {A : Type 0} (xs ys : List A) (i : ℕ) (x : A) → slice_get xs i ≡ Some x → slice_get (xs ++ ys) i ≡ Some x
-get-append [] ys i x is = cc
-get-append (z ∷ zs) ys zero x is = is
-get-append (z ∷ zs) ys (suc i) x is = get-append zs ys i x is
-
 -- The item that was added is the last.
 pub get_last-push : {A : Type 0} (xs : List A) (x : A) → slice_get (xs ++ x ∷ []) (length (xs ++ x ∷ []) - 1) ≡ Some x
 get_last-push xs x =

@@ -3,6 +3,7 @@ use Rattle.std.proofs.Common.{◌≡◌, ℕ, zero, suc, ◌+◌, ◌≤◌, Boo
 use Rattle.std.specs.Prelude.{◌⊎◌, ◌==◌, min, option_map, if◌then◌else◌}
 use Rattle.std.specs.Option.{option_map_or}
 use Rattle.std.proofs.lemmas.Bool.{and_right, eq-eqb, ne_eqb}
+use Rattle.std.proofs.lemmas.Option.{none-some, same_Some}
 use Rattle.std.proofs.Math.Nat.{min-eq_right}
 use Rattle.ep_defs.specs.declared.limits.TheConstants.{THREADS}
 use Rattle.ep_defs.specs.Definitions.{definition_at}
@@ -26,7 +27,7 @@ use Rattle.ep_model.specs.Marks.{marks_on}
 use Rattle.ep_slot.specs.Hand.{HandState, hand_of}
 use Rattle.ep_slot.specs.Slot.{SlotState, opened, with_steal, marks_of}
 use Rattle.ep_stream.specs.Named.{first_named, insert_by, with_number, with_marks, still_open, numbers_of}
-use Rattle.ep_stream.specs.Rows.{IsRow}
+use Rattle.ep_stream.specs.Rows.{IsRow, IsSetAt}
 use Rattle.ep_stream.specs.Session.{Rest, rest_of, writer_of, hand_on}
 use Rattle.ep_stream.specs.Steps.{ToldRows, IsAllOf, given_back}
 use Rattle.ep_stream.specs.Sweep.{TellsGive}
@@ -35,7 +36,7 @@ use Rattle.ep_rows.specs.declared.rows.Rows.{Rows}
 use Rattle.ep_rows.specs.Rows.{told_of}
 use Rattle.ep_tables.specs.declared.tables.Present.{Present}
 use Rattle.ep_tables.specs.declared.tables.Tables.{Tables}
-use Rattle.ep_core_laws.specs.Changes.{changes_slot}
+use Rattle.ep_core_laws.specs.Changes.{changes_slot, changes_pool}
 use Rattle.ep_core_laws.specs.Kept.{SlotFollows, PoolFollows}
 use Rattle.ep_stream_laws.specs.Kept.{RestFollows}
 use Rattle.ep_tables.specs.Made.{MakesOpen, MakesSteal, MakesClose, MakesGive, MakesPoint, TellsIn}
@@ -156,7 +157,8 @@ EntriesSteal =
     → entries events session (step.Steal session thread ∷ past) ≡ entries events session past ++ map Event (pending events session thread past)
 
 -- What a session takes of the row of a thread, with its hand, is what the steps so far say.
-record TakenOf (events : List EventDef) (past : Past) (session thread : ℕ) (rest : Rest) (hand : HandState) (buffer : SlotState) (last chunks : ℕ) : Type 0 where
+record TakenOf (events : List EventDef) (past : Past) (old : Tables) (session thread row : ℕ) (rest : Rest) (hand : HandState) (buffer : SlotState) (last chunks : ℕ) : Type 0 where
+  own : OwnRow past old thread row
   on : buffer.thread ≡ thread
   hand_is : hand.thread ≡ thread
   follows : SlotFollows events past session buffer
@@ -166,12 +168,13 @@ record TakenOf (events : List EventDef) (past : Past) (session thread : ℕ) (re
 
 taken_of : (events : List EventDef) (info : TraceInfo) (past : Past) (old : Tables) (session thread row : ℕ) (was : Present) (hand : HandState) (buffer : SlotState) (records : List Record) (last chunks : ℕ)
     → OwnRow past old thread row → Placed events info past old session was → hand_on was.session row ≡ Some hand → (told_of old.rows).slot row was.slot ≡ Some buffer → IsAllOf buffer records last chunks
-    → TakenOf events past session thread (rest_of was.session) hand buffer last chunks
+    → TakenOf events past old session thread row (rest_of was.session) hand buffer last chunks
 taken_of events info past old session thread row was hand buffer records last chunks own here held was_is all =
     let on : buffer.thread ≡ thread = row_thread old.rows row was.slot buffer was_is ∙ own.thread_is in
     let follows : SlotFollows events past session buffer = here.stands.slots row own.is_row buffer was_is in
     let id = sym here.id in
     record {
+      own = own;
       on = on;
       hand_is = hand_thread old.rows was row hand buffer here.tied held was_is ∙ on;
       follows = follows;
@@ -179,6 +182,24 @@ taken_of events info past old session thread row was hand buffer records last ch
       last_is = all.last_is ∙ follows.used_are ∙ ap (λ (t : ℕ). shows session t past) on ∙ ap (λ (n : ℕ). shows n thread past) id;
       chunks_are = all.chunks_are ∙ ap (λ (p : Pending). p.chunks) follows.pending_is ∙ ap (λ (t : ℕ). ((budget_of session past).pending t).chunks) on
           ∙ ap (λ (n : ℕ). ((budget_of n past).pending thread).chunks) id;
+    }
+
+-- The session after a step that takes all that it has on a row, and leaves this in its slot there.
+after_taking : SlotStays → PoolStays → (events : List EventDef) (info : TraceInfo) (s : Step) (past : Past) (session thread row : ℕ) (old new : Tables) (was now : Present) {hand : HandState} (buffer : SlotState) (records : List Record) {last chunks : ℕ} (left : Option SlotState)
+    → StandBefore events info s past old → Placed events info past old session was → TakenOf events past old session thread row (rest_of was.session) hand buffer last chunks
+    → ((n : ℕ) → (thread == n) ≡ false → changes_slot session n s ≡ false) → changes_pool session s ≡ false
+    → IsSetAt row was.slot left (told_of old.rows).slot (told_of new.rows).slot → ((p : ℕ) → (told_of new.rows).pool p ≡ (told_of old.rows).pool p)
+    → ((b : SlotState) → left ≡ Some b → SlotFollows events (s ∷ past) session b) → RestFollows (s ∷ past) (rest_of now.session)
+    → records ≡ buffer.records → entries events session (s ∷ past) ≡ entries events session past ++ map Event (pending events session thread past)
+    → TellsIn old.events.items (entries_of old.events.items (rest_of was.session).config.stackwalk records) was now
+    → StandsAs events info (s ∷ past) (told_of new.rows) session was.slot now
+after_taking slot_stays pool_stays events info s past session thread row old new was now buffer records left h here taken off same_pool sets pools leaves rests all grows tells =
+    record {
+      slots = each_slot row was.slot left (told_of old.rows) (told_of new.rows) (λ b. SlotFollows events (s ∷ past) session b) sets leaves
+          (other_rows slot_stays events info s past old session thread row was.slot was h taken.own off here.stands);
+      pool = pool_stays past session ((told_of new.rows).pool was.slot) s same_pool (subst (PoolFollows past session) (sym (pools was.slot)) here.stands.pool);
+      rest = rests;
+      telling = told_more events info past old session thread was now records (entries events session (s ∷ past)) buffer h.follow.events_are taken.config taken.follows taken.on all grows here.stands.telling tells;
     }
 
 pub stolen_now : SlotStays → PoolStays → SlotSteals → RestSteals → EntriesSteal → (events : List EventDef) (info : TraceInfo) (past : Past) (session thread : ℕ) (old new : Tables)
@@ -189,10 +210,8 @@ stolen_now slot_stays pool_stays slot_steals rest_steals entries_steal events in
     let was = m.one.was in
     let changes = m.one.changes in
     let told = changes.told in
-    let after = told_of new.rows in
     let rest : Rest = rest_of was.session in
-    let own = own_row events past old thread m.row h.follow m.own in
-    let taken = taken_of events info past old session thread m.row was changes.hand told.buffer changes.records changes.last changes.chunks own here changes.held told.was told.all in
+    let taken = taken_of events info past old session thread m.row was changes.hand told.buffer changes.records changes.last changes.chunks (own_row events past old thread m.row h.follow m.own) here changes.held told.was told.all in
     let Follows : SlotState → Type 0 = λ b. SlotFollows events (s ∷ past) session b in
     let On : ℕ → Type 0 = λ t. SlotFollows events (step.Steal session t ∷ past) session (with_steal told.buffer) in
     let steals : Follows (with_steal told.buffer) = subst On taken.on (slot_steals events past session told.buffer taken.follows) in
@@ -200,15 +219,9 @@ stolen_now slot_stays pool_stays slot_steals rest_steals entries_steal events in
     let named : ℕ → Rest = λ t. record rest { named = with_number t changes.last true rest.named; in_hand = changes.chunks } in
     let Rests : ℕ → Type 0 = λ n. RestFollows (step.Steal n thread ∷ past) (named thread) in
     let rests = subst Rests here.id (rest_steals events past rest thread changes.last changes.chunks here.stands.rest (subst Lawful (sym here.id) h.lawful) taken.last_is taken.chunks_are) in
-    record {
-      slots = each_slot m.row was.slot (Some (with_steal told.buffer)) (told_of old.rows) after Follows told.slots
-          (λ b is. let same : with_steal told.buffer ≡ b = cc in subst Follows same steals)
-          (other_rows slot_stays events info s past old session thread m.row was.slot was h own (λ n off. and_right (session == session) (thread == n) off) here.stands);
-      pool = pool_stays past session (after.pool was.slot) s refl (subst (PoolFollows past session) (sym (told.pools was.slot)) here.stands.pool);
-      rest = subst (RestFollows (s ∷ past)) (sym (changes.rest ∙ ap named taken.hand_is)) rests;
-      telling = told_more events info past old session thread was m.one.now changes.records (entries events session (s ∷ past)) told.buffer h.follow.events_are taken.config taken.follows taken.on told.all.records_are
-          (entries_steal events session thread past) here.stands.telling changes.tells;
-    }
+    after_taking slot_stays pool_stays events info s past session thread m.row old new was m.one.now told.buffer changes.records (Some (with_steal told.buffer)) h here taken
+    (λ n off. and_right (session == session) (thread == n) off) refl told.slots told.pools (λ b is. subst Follows (same_Some (with_steal told.buffer) b is) steals)
+    (subst (RestFollows (s ∷ past)) (sym (changes.rest ∙ ap named taken.hand_is)) rests) told.all.records_are (entries_steal events session thread past) changes.tells
 
 -- ---- a session is closed on a thread
 
@@ -236,13 +249,10 @@ closed_now slot_stays pool_stays slot_marks rest_closes entries_close events inf
     let was = m.one.was in
     let changes = m.one.changes in
     let told = changes.told in
-    let after = told_of new.rows in
     let rest : Rest = rest_of was.session in
-    let own = own_row events past old thread m.row h.follow m.own in
-    let taken = taken_of events info past old session thread m.row was changes.hand told.buffer changes.records changes.last changes.chunks own here changes.held told.was told.all in
-    let Follows : SlotState → Type 0 = λ b. SlotFollows events (s ∷ past) session b in
+    let taken = taken_of events info past old session thread m.row was changes.hand told.buffer changes.records changes.last changes.chunks (own_row events past old thread m.row h.follow m.own) here changes.held told.was told.all in
     let marks : changes.marks ≡ marks_on rest.seat.id thread (step.Close rest.seat.id thread ∷ past) =
-    told.marks_are ∙ ap (marks_of told.buffer) (own.follows.count ∙ ap (λ (t : ℕ). length (writes_of t past)) (own.thread_is ∙ sym taken.on))
+    told.marks_are ∙ ap (marks_of told.buffer) (taken.own.follows.count ∙ ap (λ (t : ℕ). length (writes_of t past)) (taken.own.thread_is ∙ sym taken.on))
     ∙ slot_marks events past session told.buffer taken.follows
     ∙ ap (λ (t : ℕ). marks_on session t (step.Close session t ∷ past)) taken.on ∙ ap (λ (n : ℕ). marks_on n thread (step.Close n thread ∷ past)) (sym here.id) in
     let Lawful : ℕ → Type 0 = λ n. IsLawful events (step.Close n thread ∷ past) in
@@ -250,14 +260,9 @@ closed_now slot_stays pool_stays slot_marks rest_closes entries_close events inf
     let Rests : ℕ → Type 0 = λ n. RestFollows (step.Close n thread ∷ past) (named thread) in
     let rests = subst Rests here.id
     (rest_closes events past rest thread changes.last changes.chunks changes.marks here.stands.rest (subst Lawful (sym here.id) h.lawful) taken.last_is taken.chunks_are marks) in
-    record {
-      slots = each_slot m.row was.slot None (told_of old.rows) after Follows told.slots (λ b is. absurd (cc))
-          (other_rows slot_stays events info s past old session thread m.row was.slot was h own (λ n off. and_right (session == session) (thread == n) off) here.stands);
-      pool = pool_stays past session (after.pool was.slot) s refl (subst (PoolFollows past session) (sym (told.pools was.slot)) here.stands.pool);
-      rest = subst (RestFollows (s ∷ past)) (sym (changes.rest ∙ ap named taken.hand_is)) rests;
-      telling = told_more events info past old session thread was m.one.now changes.records (entries events session (s ∷ past)) told.buffer h.follow.events_are taken.config taken.follows taken.on told.all.records_are
-          (entries_close events session thread past) here.stands.telling changes.tells;
-    }
+    after_taking slot_stays pool_stays events info s past session thread m.row old new was m.one.now told.buffer changes.records None h here taken
+    (λ n off. and_right (session == session) (thread == n) off) refl told.slots told.pools (λ b is. absurd (none-some b is))
+    (subst (RestFollows (s ∷ past)) (sym (changes.rest ∙ ap named taken.hand_is)) rests) told.all.records_are (entries_close events session thread past) changes.tells
 
 -- ---- chunks are given back
 

@@ -14,7 +14,8 @@ use Rattle.ep_rows.specs.Told.{IsKnown, open_at, slot_in}
 
 -- ---- one place is set
 
-set_here : (row slot : ℕ) (value : Option SlotState) (old new : ℕ → ℕ → Option SlotState) → IsSetAt row slot value old new → new row slot ≡ value
+-- The place that is set has the value.
+pub set_here : (row slot : ℕ) (value : Option SlotState) (old new : ℕ → ℕ → Option SlotState) → IsSetAt row slot value old new → new row slot ≡ value
 set_here row slot value old new sets =
     sets row slot ∙ ap (λ (b : Bool). if b then value else old row slot) (and_from (row == row) (slot == slot) (eq-eqb row row refl) (eq-eqb slot slot refl))
 
