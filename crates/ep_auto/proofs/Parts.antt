@@ -1,5 +1,5 @@
 -- How long the parts of a text are together.
-use Rattle.std.proofs.Common.{◌≡◌, ◌+◌, ◌≤◌, ℕ, suc, Bool, ◌==◌, List, [], ◌∷◌, length, get_or, refl, ap, ◌∙◌, arith, inl, inr}
+use Rattle.std.proofs.Common.{◌≡◌, ◌+◌, ◌^◌, ◌<◌, ◌≤◌, ℕ, suc, Bool, ◌==◌, List, [], ◌∷◌, length, get_or, refl, ap, sym, ◌∙◌, arith, inl, inr}
 use Rattle.std.specs.List.{slice_split, onto_first}
 use Rattle.ep_plan.specs.Words.{colon, parts_at}
 use Rattle.ep_auto.specs.Fields.{field_at}
@@ -32,6 +32,11 @@ span-split test (x ∷ text) =
 pub span-more : (column size : ℕ) (part : List ℕ) (parts : List (List ℕ)) → column + span (part ∷ parts) ≡ size → column + length part + 1 + span parts ≡ size
 unfolding span
 span-more column size part parts is = omega (arith, is)
+
+-- A part that is left leaves room for its bytes, and a comma behind it.
+pub part_fits : (column : ℕ) (text part : List ℕ) (left parts : List (List ℕ)) → left ≡ part ∷ parts → column + span left ≡ length text + 2 → length text < 2 ^ 63 → column + length part + 2 < 2 ^ 64
+part_fits column text part left parts next places short =
+    let more = span-more column (length text + 2) part parts (ap (λ ps. column + span ps) (sym next) ∙ places) in omega (arith, more, short)
 
 two-within : (parts : List (List ℕ)) → 1 ≤ span parts → length (get_or parts 0 []) + length (get_or parts 1 []) + 1 ≤ span parts
 unfolding span
