@@ -1,24 +1,18 @@
 -- What stands under ids in the order in which they were put in, where each id's place is found.
-use Rattle.std.proofs.Common.{◌≡◌, ℕ, zero, suc, ◌<◌, Bool, true, false, cond, eqb, ◌⊎◌, inl, inr, List, [], ◌∷◌, ◌++◌, length, Option, Some, None, refl, sym, ap, ◌∙◌, subst, arith}
+use Rattle.std.proofs.Common.{◌≡◌, ℕ, zero, suc, Bool, true, false, cond, eqb, ◌⊎◌, inl, inr, List, [], ◌∷◌, ◌++◌, length, Option, Some, None, refl, sym, ap, ◌∙◌, subst}
 use Rattle.std.proofs.lemmas.Bool.{cases_Bool, eqb-true, eqb-false, ne_eqb}
-use Rattle.std.proofs.lemmas.Option.{slice_get_read}
+use Rattle.std.proofs.lemmas.Option.{none-some, same_Some, slice_get_read}
 use Rattle.std.proofs.Math.ListN.{set, get_or}
 use Rattle.std.specs.List.{slice_get}
 use Rattle.nt_check.specs.state.Scattered.{under, AreFound, IsAt}
-use Rattle.nt_check.proofs.Under.{get-set_same, get-set_other}
-
-some-same : {A : Type 0} (x y : A) → ◌≡◌ {A = Option A} (Some x) (Some y) → x ≡ y
-some-same x y e = cc
-
-some-none : {A : Type 0} (x : A) → ◌≡◌ {A = Option A} (Some x) None → ⊥
-some-none x e = cc
+use Rattle.nt_check.proofs.Under.{get-set_other, put-there}
 
 -- What stands under an id has a place.
 pub place-of : {V : Type 0} (id : ℕ) (values : List (ℕ × V)) (value : V) → under id values ≡ Some value → (place : ℕ) × (slice_get values place ≡ Some (id, value))
 place-of id [] value e = absurd cc
 place-of {V} id (held ∷ more) value e =
     elim (cases_Bool (eqb held.0 id)) [
-      | inl same ↦ (zero, first (eqb-true held.0 id same) (some-same held.1 value (rw same at e)))
+      | inl same ↦ (zero, first (eqb-true held.0 id same) (same_Some held.1 value (rw same at e)))
       | inr apart ↦ let later = place-of id more value (rw apart at e) in (suc later.0, later.1)
     ]
   where
@@ -29,49 +23,45 @@ place-of {V} id (held ∷ more) value e =
 pub no-place : {V : Type 0} (id : ℕ) (values : List (ℕ × V)) (place : ℕ) (value : V) → under id values ≡ None → slice_get values place ≡ Some (id, value) → ⊥
 no-place id [] place value none e = cc
 no-place id (held ∷ more) zero value none e =
-    let own : held ≡ (id, value) = some-same held (id, value) e in
+    let own : held ≡ (id, value) = same_Some held (id, value) e in
     let there : under id ((id, value) ∷ more) ≡ None = subst (λ h. under id (h ∷ more) ≡ None) own none in
     elim (cases_Bool (eqb id id)) [
-      | inl same ↦ some-none value (rw same at there)
+      | inl same ↦ none-some value (sym (rw same at there))
       | inr apart ↦ eqb-false id id apart refl
     ]
 no-place id (held ∷ more) (suc place) value none e =
     elim (cases_Bool (eqb held.0 id)) [
-      | inl same ↦ some-none held.1 (rw same at none)
+      | inl same ↦ none-some held.1 (sym (rw same at none))
       | inr apart ↦ no-place id more place value (rw apart at none) e
     ]
 
-option-cases : {A : Type 0} (o : Option A) → (o ≡ None) ⊎ ((x : A) × (o ≡ Some x))
-option-cases None = inl refl
-option-cases (Some x) = inr (x, refl)
-
 -- Nothing stands under an id of which no place is found that is its own.
 pub none-found : {V : Type 0} (find : ℕ → Option ℕ) (id : ℕ) (values : List (ℕ × V)) → AreFound find values → ((place : ℕ) (value : V) → find id ≡ Some place → slice_get values place ≡ Some (id, value) → ⊥) → under id values ≡ None
-none-found find id values found never =
-    elim (option-cases (under id values)) [
-      | inl none ↦ none
-      | inr some ↦ let there = place-of id values some.0 some.1 in absurd (never there.0 some.0 (found there.0 (id, some.0) there.1) there.1)
-    ]
+none-found {V} find id values found never = by-value (under id values) refl
+  where
+    by-value : (held : Option V) → under id values ≡ held → under id values ≡ None
+    by-value None none = none
+    by-value (Some value) some =
+        let there = place-of id values value some in absurd (never there.0 value (found there.0 (id, value) there.1) there.1)
 
 pub found-at : {V : Type 0} (find : ℕ → Option ℕ) (id : ℕ) (values : List (ℕ × V)) (there : ℕ) → Some there ≡ find id → ((value : V) → slice_get values there ≡ Some (id, value) → ⊥) → (place : ℕ) (value : V) → find id ≡ Some place → slice_get values place ≡ Some (id, value) → ⊥
 found-at find id values there is never place value finds e =
-    never value (ap (slice_get values) (some-same there place (is ∙ finds)) ∙ e)
+    never value (ap (slice_get values) (same_Some there place (is ∙ finds)) ∙ e)
 
 pub found-none : {V : Type 0} (find : ℕ → Option ℕ) (id : ℕ) (values : List (ℕ × V)) → None ≡ find id → (place : ℕ) (value : V) → find id ≡ Some place → slice_get values place ≡ Some (id, value) → ⊥
-found-none find id values is place value finds e =
-    let both : ◌≡◌ {A = Option ℕ} None (Some place) = is ∙ finds in cc
+found-none find id values is place value finds e = none-some place (is ∙ finds)
 
 -- At an id's place stands what stands under it.
 pub under-at : {V : Type 0} (find : ℕ → Option ℕ) (id : ℕ) (values : List (ℕ × V)) (place : ℕ) (value : V) → AreFound find values → slice_get values place ≡ Some (id, value) → under id values ≡ Some value
-under-at {V} find id values place value found e =
-    elim (option-cases (under id values)) [
-      | inl none ↦ absurd (no-place id values place value none e)
-      | inr some ↦
-          let there = place-of id values some.0 some.1 in
-          let same : there.0 ≡ place = some-same there.0 place (sym (found there.0 (id, some.0) there.1) ∙ found place (id, value) e) in
-          let both : (id, some.0) ≡ (id, value) = some-same (id, some.0) (id, value) (sym there.1 ∙ ap (slice_get values) same ∙ e) in
-          some.1 ∙ ap (λ (held : ℕ × V). Some held.1) both
-    ]
+under-at {V} find id values place value found e = by-value (under id values) refl
+  where
+    by-value : (held : Option V) → under id values ≡ held → under id values ≡ Some value
+    by-value None none = absurd (no-place id values place value none e)
+    by-value (Some other) some =
+        let there = place-of id values other some in
+        let same : there.0 ≡ place = same_Some there.0 place (sym (found there.0 (id, other) there.1) ∙ found place (id, value) e) in
+        let both : (id, other) ≡ (id, value) = same_Some (id, other) (id, value) (sym there.1 ∙ ap (slice_get values) same ∙ e) in
+        some ∙ ap (λ (held : ℕ × V). Some held.1) both
 
 at-is : {V : Type 0} (id : ℕ) (values : List (ℕ × V)) (place : ℕ) (held : ℕ × V) → IsAt id place values → held ≡ get_or values place held → slice_get values place ≡ Some (id, held.1)
 at-is id values place held at is =
@@ -89,22 +79,17 @@ at-value find values now place held same found is =
 under-set_other : {V : Type 0} (id other : ℕ) (values : List (ℕ × V)) (place : ℕ) (before value : V) → slice_get values place ≡ Some (id, before) → eqb id other ≡ false → under other (set values place (id, value)) ≡ under other values
 under-set_other id other [] place before value e apart = absurd cc
 under-set_other id other (held ∷ more) zero before value e apart =
-    let own : held ≡ (id, before) = some-same held (id, before) e in
+    let own : held ≡ (id, before) = same_Some held (id, before) e in
     rw (own, apart) refl
 under-set_other id other (held ∷ more) (suc place) before value e apart =
     ap (cond (eqb held.0 other) (Some held.1)) (under-set_other id other more place before value e apart)
-
-within : {A : Type 0} (xs : List A) (place : ℕ) (x : A) → slice_get xs place ≡ Some x → place < length xs
-within [] place x e = absurd cc
-within (y ∷ xs) zero x e = omega arith
-within (y ∷ xs) (suc place) x e = omega (arith, within xs place x e)
 
 pub set-found : {V : Type 0} (find : ℕ → Option ℕ) (id : ℕ) (values : List (ℕ × V)) (place : ℕ) (before value : V) → AreFound find values → slice_get values place ≡ Some (id, before) → AreFound find (set values place (id, value))
 set-found {V} find id values place before value found e = λ other held there.
     elim (cases_Bool (eqb place other)) [
       | inl same ↦
           let at : place ≡ other = eqb-true place other same in
-          let own : held ≡ (id, value) = some-same held (id, value) (sym there ∙ ap (slice_get (set values place (id, value))) (sym at) ∙ get-set_same values place (id, value) (within values place (id, before) e)) in
+          let own : held ≡ (id, value) = same_Some held (id, value) (sym there ∙ ap (slice_get (set values place (id, value))) (sym at) ∙ put-there values place (id, before) (id, value) e) in
           ap (λ (h : ℕ × V). find h.0) own ∙ found place (id, before) e ∙ ap Some at
       | inr apart ↦ found other held (sym (get-set_other values place other (id, value) (eqb-false place other apart)) ∙ there)
     ]
@@ -112,7 +97,7 @@ set-found {V} find id values place before value found e = λ other held there.
 pub under-set : {V : Type 0} (find : ℕ → Option ℕ) (id other : ℕ) (values : List (ℕ × V)) (place : ℕ) (before value : V) → AreFound find values → slice_get values place ≡ Some (id, before) → under other (set values place (id, value)) ≡ cond (eqb id other) (Some value) (under other values)
 under-set find id other values place before value found e =
     elim (cases_Bool (eqb id other)) [
-      | inl same ↦ rw same (ap (λ n. under n (set values place (id, value))) (sym (eqb-true id other same)) ∙ under-at find id (set values place (id, value)) place value (set-found find id values place before value found e) (get-set_same values place (id, value) (within values place (id, before) e)))
+      | inl same ↦ rw same (ap (λ n. under n (set values place (id, value))) (sym (eqb-true id other same)) ∙ under-at find id (set values place (id, value)) place value (set-found find id values place before value found e) (put-there values place (id, before) (id, value) e))
       | inr apart ↦ rw apart (under-set_other id other values place before value e apart)
     ]
 
@@ -132,7 +117,7 @@ pub under-add : {V : Type 0} (id other : ℕ) (values : List (ℕ × V)) (value 
 under-add id other [] value none = refl
 under-add {V} id other (held ∷ more) value none =
     elim (cases_Bool (eqb held.0 id)) [
-      | inl same ↦ absurd (some-none held.1 (rw same at none))
+      | inl same ↦ absurd (none-some held.1 (sym (rw same at none)))
       | inr apart ↦
           elim (cases_Bool (eqb held.0 other)) [
             | inl there ↦ rw (there, ne_eqb id other (λ e. eqb-false held.0 id apart (eqb-true held.0 other there ∙ sym e))) refl
@@ -141,7 +126,7 @@ under-add {V} id other (held ∷ more) value none =
     ]
 
 get-append : {A : Type 0} (xs : List A) (x y : A) (place : ℕ) → slice_get (xs ++ x ∷ []) place ≡ Some y → (slice_get xs place ≡ Some y) ⊎ ((place ≡ length xs) × (x ≡ y))
-get-append [] x y zero e = inr (refl, some-same x y e)
+get-append [] x y zero e = inr (refl, same_Some x y e)
 get-append [] x y (suc place) e = absurd cc
 get-append (z ∷ xs) x y zero e = inl e
 get-append (z ∷ xs) x y (suc place) e =

@@ -1,17 +1,20 @@
 -- What stands under ids after one is put.
-use Rattle.std.proofs.Common.{◌≡◌, ℕ, zero, suc, ◌-◌, ◌<◌, ◌≤◌, Bool, true, false, cond, eqb, leb, inl, inr, List, [], ◌∷◌, length, Option, Some, None, refl, sym, ap, arith, is_some}
+use Rattle.std.proofs.Common.{◌≡◌, ℕ, zero, suc, ◌-◌, ◌<◌, ◌≤◌, Bool, true, false, cond, eqb, leb, inl, inr, List, [], ◌∷◌, length, get_or, Option, Some, None, refl, sym, ap, arith}
 use Rattle.std.proofs.lemmas.Bool.{cases_Bool, eqb-true, eqb-false, leb-true, le-leb}
 use Rattle.std.proofs.Math.ListN.{set}
 use Rattle.std.proofs.lemmas.Bool.Decides.{nat_tests}
+use Rattle.std.proofs.lemmas.List.{get_or-set_same, length-set}
+use Rattle.std.proofs.lemmas.Option.{slice_get-get_or, slice_get_read, slice_get_within}
 use Rattle.std.specs.List.{slice_get}
 use Rattle.std.specs.Ordering.{nat_cmp, is_eq}
 use Rattle.std.specs.Option.{option_or}
 use Rattle.nt_check.specs.state.Ids.{held_in, in_row}
 
-pub get-set_same : {A : Type 0} (xs : List A) (place : ℕ) (x : A) → place < length xs → slice_get (set xs place x) place ≡ Some x
-get-set_same [] place x within = absurd (omega arith)
-get-set_same (y ∷ xs) zero x within = refl
-get-set_same (y ∷ xs) (suc place) x within = get-set_same xs place x (omega arith)
+-- What is put in the place of another stands there, and others stay.
+pub put-there : {A : Type 0} (xs : List A) (place : ℕ) (before put : A) → slice_get xs place ≡ Some before → slice_get (set xs place put) place ≡ Some put
+put-there xs place before put e =
+    let within = slice_get_within xs place before e in
+    slice_get_read (set xs place put) (length xs) place put (sym (length-set xs place put)) within (sym (get_or-set_same xs place put put within))
 
 pub get-set_other : {A : Type 0} (xs : List A) (place other : ℕ) (x : A) → (place ≡ other → ⊥) → slice_get (set xs place x) other ≡ slice_get xs other
 get-set_other [] place other x apart = refl
@@ -35,7 +38,8 @@ row-set first row id place other value above is within =
     own q same =
         let above_q : first ≤ q = omega (arith, above, same) in
         let place_is : q - first ≡ place = omega (arith, is, same) in
-        rw (le-leb first q above_q, place_is) (ap held_in (get-set_same row place (Some value) within))
+        let there = put-there row place (get_or row place None) (Some value) (slice_get-get_or row place None within) in
+        rw (le-leb first q above_q, place_is) (ap held_in there)
 
     differ : leb first other ≡ true → eqb id other ≡ false → place ≡ other - first → ⊥
     differ there apart e = eqb-false id other apart (omega (arith, leb-true first other there, above, is, e))
@@ -56,7 +60,3 @@ put-other id other value row others none =
       | inl same ↦ rw same (rw (sym (eqb-true id other same), none) refl)
       | inr apart ↦ rw apart refl
     ]
-
-pub not-some : {A : Type 0} (o : Option A) → is_some o ≡ false → o ≡ None
-not-some None e = refl
-not-some (Some x) e = absurd cc

@@ -13,7 +13,7 @@ use Rattle.std.specs.Map.{keys_of, lookup}
 use Rattle.std.specs.BTreeMap.{BTreeMap, get, keys, insert_entry, is_at}
 use Rattle.std.specs.BTreeSet.{insert_key}
 use Rattle.nt_check.specs.Numbers.{held}
-use Rattle.nt_check.proofs.Under.{get-set_same, get-set_other}
+use Rattle.nt_check.proofs.Under.{get-set_other, put-there}
 use Rattle.pt_report.specs.declared.tally.Tally.{Tally}
 use Rattle.pt_report.specs.Order.{with_key, in_order, uses_of}
 use Rattle.pt_report.specs.state.Counts.{Counts}
@@ -118,7 +118,7 @@ module _ {K : Type 0} (cmp : K → K → Ordering) (total : IsTotalOrder cmp) wh
           let was = h.counted key place is in
           ap (λ l. slice_get l p) now
           ∙ ap (λ i. slice_get (set old.counts.items place (one_more old.counts.items place)) i) (sym p-is)
-          ∙ get-set_same old.counts.items place (one_more old.counts.items place) (slice_get_within old.counts.items place (uses_of cmp uses key) was)
+          ∙ put-there old.counts.items place (uses_of cmp uses key) (one_more old.counts.items place) was
           ∙ ap (λ n. Some (min (n + 1) (2 ^ 64 - 1))) (get_or_from_slice_get old.counts.items place (uses_of cmp uses key) 0 was)
           ∙ ap Some (uses-tied uses key q e)
       counted q p found false e =
