@@ -50,8 +50,8 @@ pub fn take_head(bytes: &[u8]) -> ObjectHead
     named(bytes, name_len)
 }
 
-// The number of four bytes at this place.
-fn number_at(bytes: &[u8], place: usize) -> u32
+/// The number of the four bytes at this place, the low byte first.
+pub fn number_at(bytes: &[u8], place: usize) -> u32
     requires { place + 4 ≤ length bytes.now }
     ensures { result ≡ number_in bytes.now place }
 {
@@ -66,7 +66,8 @@ fn begins_well(bytes: &[u8]) -> bool
     bytes[1] == BEGIN_OBJECT && bytes[2] == NULL_REFERENCE && is_name_length(number_at(bytes, 11))
 }
 
-fn is_name_length(len: u32) -> bool
+/// Whether the name of one of the five objects has this many bytes.
+pub fn is_name_length(len: u32) -> bool
     ensures { result ≡ is_name_length len }
 {
     len == 5 || len == 7 || len == 10 || len == 13
@@ -87,7 +88,8 @@ fn named(bytes: &[u8], name_len: usize) -> ObjectHead
     versions(bytes, kind, 16 + name_len)
 }
 
-fn kind_named(name: &[u8]) -> Option<ObjectKind>
+/// The object whose type has this name, if one has.
+pub fn kind_named(name: &[u8]) -> Option<ObjectKind>
     ensures { result ≡ kind_named name.now }
 {
     if name == b"Trace".as_slice() {
@@ -118,7 +120,8 @@ fn versions(bytes: &[u8], kind: ObjectKind, used: usize) -> ObjectHead
     ObjectHead::Head { kind, used }
 }
 
-fn version_of(kind: ObjectKind) -> u32
+/// The version of an object of this kind, and the least that a reader must know.
+pub fn version_of(kind: ObjectKind) -> u32
     ensures { result ≡ version_of kind }
 {
     match kind {

@@ -17,6 +17,8 @@ mod laws;
 pub mod limits;
 mod object;
 
-pub use head::{ObjectHead, ObjectKind, take_head};
+pub use head::{
+    ObjectHead, ObjectKind, is_name_length, kind_named, number_at, take_head, version_of,
+};
 pub use laws::{no_form_begins_another, what_is_put_is_taken};
 pub use object::{BlockKind, padding, put_block, put_start};
