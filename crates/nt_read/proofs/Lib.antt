@@ -1,4 +1,5 @@
 pub mod Begins
+pub mod Feeding
 pub mod Fuel
 pub mod Objects
 pub mod Pieces

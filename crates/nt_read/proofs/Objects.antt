@@ -5,22 +5,23 @@ use Rattle.std.proofs.lemmas.List.{append-nil, length-take-le, take-append-drop,
 use Rattle.ep_defs.specs.declared.item.Item.{Item}
 use Rattle.ep_defs.specs.declared.item.ItemKind.TheVariants as item
 use Rattle.nt_object.specs.declared.object.BlockKind.{BlockKind}
-use Rattle.nt_blocks.specs.Refusals.{body_at}
-use Rattle.nt_blocks.specs.Verdict.{Good, info_in, verdict}
+use Rattle.nt_blocks.specs.Refusals.{Refusal, body_at}
+use Rattle.nt_blocks.specs.Verdict.{Bad, Good, info_in, verdict}
 use Rattle.nt_read.specs.declared.fault.ReadFault.{ReadFault}
 use Rattle.nt_read.specs.declared.fault.ReadFault.TheVariants as fault
 use Rattle.nt_read.specs.declared.fault.ReadKind.TheVariants as kind
 use Rattle.nt_read.specs.declared.object_reader.ObjectReader.{ObjectReader}
 use Rattle.nt_read.specs.declared.stage.Stage.{Stage}
 use Rattle.nt_read.specs.declared.stage.Stage.TheVariants as stage
-use Rattle.nt_read.specs.Answers.{IsKept, answer_of, end_answer, items_of}
-use Rattle.nt_read.specs.Objects.{GoesOn, HasJudged, HasRead, Takes, used}
-use Rattle.nt_read.specs.Reading.{IsRefused}
+use Rattle.nt_read.specs.Answers.{IsKept, answer_of, end_answer, fault_of, items_of}
+use Rattle.nt_read.specs.Objects.{GoesOn, HasJudged, HasRead, IsRefused, Takes, used}
 use Rattle.nt_read.specs.Stages.{goes_on, needs, waiting}
 use Rattle.nt_read.specs.Telling.{IsTold}
 use Rattle.nt_read.specs.state.Objects.{Comes, Ends, JudgesTold, Refused, Steps, StopsObjects, TurnsAll, TurnsTold, from}
-use Rattle.nt_read.specs.state.Units.{Faults, Judges, Turns, given, left, turns_left}
-use Rattle.nt_read.proofs.Pieces.{answer-waiting, items-waiting, refused-answer, refused-verdict, unit-front, waiting-more}
+use Rattle.nt_read.specs.state.Units.{Faults, Judges, given, left, turns_left}
+use Rattle.nt_read.specs.state.Reads.{Begins}
+use Rattle.nt_read.proofs.Begins.{goes-begins}
+use Rattle.nt_read.proofs.Pieces.{answer-waiting, items-waiting, refused-answer, refused-verdict, same-refusal, unit-front, waiting-more, waiting-not-bad}
 use Rattle.nt_read.proofs.Steps.{body-turns, trace-turns, verdict-starts, waits}
 
 -- Two units at most can follow at once.
@@ -35,17 +36,6 @@ turns-few (stage.Padding kind size) = omega arith
 turns-few (stage.Body kind size) = omega arith
 turns-few stage.Close = omega arith
 turns-few stage.Ended = omega arith
-
--- What is told, where items are kept.
-pub items-judges : {T : Type 0} (before after : T) (kept : T → List Item) (here : Stage) (at : ℕ) (unit : List ℕ) (answer : Result Stage ReadFault) → JudgesTold (λ told items. items ≡ kept told) here at before unit answer after → Judges here at (kept before) unit answer (kept after)
-items-judges before after kept here at unit (Ok next) judges =
-    let told = judges.told (kept before) refl in
-    subst (λ (items : List Item). Turns here at (kept before) unit next items) told.tells told.turns
-items-judges before after kept here at unit (Err refused) judges = judges (kept before)
-
-pub empty-front : (kept last : List ℕ) → length kept ≡ 0 → kept ++ last ≡ last
-empty-front [] last none = refl
-empty-front (b ∷ kept) last none = absurd (omega arith)
 
 module _ {T : Type 0} (Tells : T → List Item → Type 0) where
   -- ---- a unit
@@ -291,6 +281,48 @@ module _ {T : Type 0} (Tells : T → List Item → Type 0) where
           tells = nothing;
         };
       }
+
+  -- ---- however the bytes go on
+
+  -- A reader without a fault has refused nothing.
+  pub none-refused : {A : Type 0} (bytes : List ℕ) (reader : ObjectReader T) (why : Refusal) (items : List Item) → reader.fault ≡ None → HasRead Tells bytes reader → verdict bytes ≡ Bad why items → A
+  none-refused bytes reader why items none read bad =
+      let goes = no-fault bytes reader none read in
+      absurd (waiting-not-bad reader.stage goes.before items why (sym (objects-verdict bytes reader goes) ∙ bad))
+
+  -- A fault is the refusal of the verdict.
+  pub same-fault : (bytes : List ℕ) (reader : ObjectReader T) (refused : ReadFault) (why : Refusal) (items : List Item) → reader.fault ≡ Some refused → HasRead Tells bytes reader → verdict bytes ≡ Bad why items → refused ≡ fault_of why
+  same-fault bytes reader refused why items some read bad =
+      let is = with-fault bytes reader refused some read in
+      is.is ∙ ap fault_of (same-refusal is.why why is.told items (sym (refused-verdict bytes refused is) ∙ bad))
+
+  -- What is refused stays refused.
+  pub still-bad : (bytes more : List ℕ) (reader : ObjectReader T) (why : Refusal) (items : List Item) → HasRead Tells bytes reader → verdict bytes ≡ Bad why items → verdict (bytes ++ more) ≡ Bad why items
+  still-bad bytes more reader why items read bad = by-fault reader.fault refl
+    where
+      by-fault : (found : Option ReadFault) → reader.fault ≡ found → verdict (bytes ++ more) ≡ Bad why items
+      by-fault None none = none-refused bytes reader why items none read bad
+      by-fault (Some refused) some =
+          let is = with-fault bytes reader refused some read in is.goes more ∙ sym (refused-verdict bytes refused is) ∙ bad
+
+  -- The items of the objects that ended stand first.
+  pub read-begins : (bytes more : List ℕ) (reader : ObjectReader T) → HasRead Tells bytes reader → Begins (items_of (verdict bytes)) (items_of (verdict (bytes ++ more)))
+  read-begins bytes more reader read = by-fault reader.fault refl
+    where
+      by-fault : (found : Option ReadFault) → reader.fault ≡ found → Begins (items_of (verdict bytes)) (items_of (verdict (bytes ++ more)))
+      by-fault None none =
+          let goes = no-fault bytes reader none read in
+          let begins = goes-begins reader.stage reader.at goes.held goes.before (reader.kept.items ++ more) in
+          record {
+            rest = begins.rest;
+            is = ap items_of (goes.goes more) ∙ begins.is ∙ ap (λ (l : List Item). l ++ begins.rest) (sym (objects-items bytes reader goes));
+          }
+      by-fault (Some refused) some =
+          let is = with-fault bytes reader refused some read in
+          record {
+            rest = [];
+            is = ap items_of (is.goes more ∙ sym (refused-verdict bytes refused is)) ∙ sym (append-nil (items_of (verdict bytes)));
+          }
 
   -- ---- the end
 

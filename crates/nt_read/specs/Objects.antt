@@ -1,12 +1,12 @@
 -- What a reader has read that tells object by object. `Tells` says which items stand for what is told.
 use Rattle.std.specs.Prelude.{◌≡◌, ℕ, ◌+◌, ◌<◌, List, ◌++◌, length, Option, Some, None, Result}
 use Rattle.ep_defs.specs.declared.item.Item.{Item}
-use Rattle.nt_blocks.specs.Verdict.{verdict}
+use Rattle.nt_blocks.specs.Refusals.{Refusal}
+use Rattle.nt_blocks.specs.Verdict.{Bad, verdict}
 use Rattle.nt_read.specs.declared.fault.ReadFault.{ReadFault}
 use Rattle.nt_read.specs.declared.fault.ReadFault.TheVariants as fault
 use Rattle.nt_read.specs.declared.object_reader.ObjectReader.{ObjectReader}
-use Rattle.nt_read.specs.Answers.{answer_of, items_of}
-use Rattle.nt_read.specs.Reading.{IsRefused}
+use Rattle.nt_read.specs.Answers.{answer_of, fault_of, items_of}
 use Rattle.nt_read.specs.Stages.{goes_on, needs}
 
 -- How many bytes were read so far, whole units and what is kept of the next one.
@@ -25,6 +25,13 @@ pub record GoesOn {T : Type 0} (Tells : T → List Item → Type 0) (bytes : Lis
   pub used : length bytes ≡ used reader
   pub few : length reader.kept.items < needs reader.stage reader.at
   pub goes : (more : List ℕ) → verdict (bytes ++ more) ≡ goes_on reader.stage reader.at held before (reader.kept.items ++ more)
+
+-- A unit was refused: however the bytes go on, this is the verdict.
+pub record IsRefused (bytes : List ℕ) (refused : ReadFault) : Type 0 where
+  pub why : Refusal
+  pub told : List Item
+  pub is : refused ≡ fault_of why
+  pub goes : (more : List ℕ) → verdict (bytes ++ more) ≡ Bad why told
 
 -- A reader that was fed these bytes goes on, or has refused them so.
 abbrev pub HasJudged : {T : Type 0} → (T → List Item → Type 0) → List ℕ → ObjectReader T → Option ReadFault → Type 0

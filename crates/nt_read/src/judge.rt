@@ -4,7 +4,7 @@ ghost use Rattle.std.specs.Cmp.Lexicographic.{pointwise};
 ghost use Rattle.byteorder.specs.Endian.{little_number};
 ghost use Rattle.ep_defs.specs.declared.item.Item.{Item};
 ghost use Rattle.ep_defs.specs.Text.{units_in};
-ghost use Rattle.nt_object.specs.Reading.{is_name_length, kind_named, number_in, version_of};
+ghost use Rattle.nt_object.specs.Reading.{is_name_length, number_in};
 ghost use Rattle.nt_object.specs.Object.{to_multiple_of_4};
 ghost use Rattle.nt_object.specs.Stream.{stream_head};
 ghost use Rattle.nt_blocks.specs.Taking.{StandsWithin};
@@ -23,8 +23,8 @@ use byteorder::{ByteOrder, LittleEndian};
 use ep_defs::{Item, ItemKind, TraceInfo};
 use nt_blocks::BodyFault;
 use nt_blocks::limits::READ_BYTES;
-use nt_object::limits::{BEGIN_OBJECT, BLOCK_VERSION, END_OBJECT, NULL_REFERENCE, TRACE_VERSION};
-use nt_object::{BlockKind, ObjectKind};
+use nt_object::limits::{BEGIN_OBJECT, END_OBJECT, NULL_REFERENCE};
+use nt_object::{BlockKind, ObjectKind, is_name_length, kind_named, number_at, version_of};
 use std::alloc::Global;
 
 /// The stage after a unit that stands at this offset of the stream, or why the unit is refused.
@@ -116,9 +116,7 @@ fn begins_well(unit: &[u8]) -> bool
     requires { length unit.now ≡ 14 }
     ensures { result ≡ (pointwise nat_eq (take 2 unit.now) (5 ∷ 1 ∷ []) && is_name_length (number_in unit.now 10)) }
 {
-    let len = number_at(unit, 10);
-    &unit[..2] == [BEGIN_OBJECT, NULL_REFERENCE].as_slice()
-        && (len == 5 || len == 7 || len == 10 || len == 13)
+    &unit[..2] == [BEGIN_OBJECT, NULL_REFERENCE].as_slice() && is_name_length(number_at(unit, 10))
 }
 
 fn begun(has_trace: bool, at: u64, unit: &[u8]) -> Result<Stage, ReadFault>
@@ -146,33 +144,6 @@ fn version_in(unit: &[u8], at: u64, place: usize) -> Version
     Version {
         at: at + place as u64,
         number: number_at(unit, place),
-    }
-}
-
-fn kind_named(name: &[u8]) -> Option<ObjectKind>
-    ensures { result ≡ kind_named name.now }
-{
-    if name == b"Trace".as_slice() {
-        Some(ObjectKind::Trace)
-    } else if name == b"EventBlock".as_slice() {
-        Some(ObjectKind::Block(BlockKind::Event))
-    } else if name == b"MetadataBlock".as_slice() {
-        Some(ObjectKind::Block(BlockKind::Metadata))
-    } else if name == b"StackBlock".as_slice() {
-        Some(ObjectKind::Block(BlockKind::Stack))
-    } else if name == b"SPBlock".as_slice() {
-        Some(ObjectKind::Block(BlockKind::Point))
-    } else {
-        None
-    }
-}
-
-fn version_of(kind: ObjectKind) -> u32
-    ensures { result ≡ version_of kind }
-{
-    match kind {
-        ObjectKind::Trace => TRACE_VERSION,
-        ObjectKind::Block(_) => BLOCK_VERSION,
     }
 }
 
@@ -254,14 +225,6 @@ fn long_at(bytes: &[u8], place: usize) -> u64
     ensures { result ≡ little_number 8 (drop place bytes.now) }
 {
     LittleEndian::read_u64(&bytes[place..])
-}
-
-// The number of four bytes in this place.
-fn number_at(bytes: &[u8], place: usize) -> u32
-    requires { place + 4 ≤ length bytes.now }
-    ensures { result ≡ number_in bytes.now place }
-{
-    LittleEndian::read_u32(&bytes[place..])
 }
 
 fn trace<T: Telling>(at: u64, unit: &[u8], pending: &mut T) -> Result<Stage, ReadFault>

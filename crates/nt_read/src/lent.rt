@@ -29,9 +29,9 @@ impl Lent {
 }
 
 impl Telling for Lent {
-    ghost use Rattle.nt_read.specs.Lent.{Tells};
+    ghost use Rattle.nt_read.specs.Lent.{TellsInPlace};
 
-    ghost tells = { Tells };
+    ghost tells = { TellsInPlace };
 
     fn nothing(alloc: Global) -> Lent {
         Lent::new(alloc)

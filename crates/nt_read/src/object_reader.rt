@@ -9,10 +9,12 @@ use crate::telling::Telling;
 use std::alloc::Global;
 use std::mem::swap;
 
-/// Reads a stream that comes in any pieces, as `TraceReader` does, and tells object by object what stands for its items: so
-/// no item of an event is made where less will do. A reader stands for the bytes that it was fed.
+/// Reads a stream that comes in any pieces, and tells object by object what stands for its items: so no item of an event is
+/// made where less will do. A reader stands for the bytes that it was fed.
 ///
-/// It keeps the bytes of at most one unit, and what one object tells.
+/// It keeps the bytes of at most one unit, of which the largest is a body of `nt_blocks::limits::READ_BYTES`, and what one
+/// object tells. Memory is taken for bytes that have come, and not for a size that the stream claims. A unit that a piece
+/// holds whole is read where it stands.
 #[derive(Drop)]
 pub struct ObjectReader<T> {
     alloc: Global,
@@ -31,10 +33,11 @@ pub struct ObjectReader<T> {
 
 impl<T: Telling> ObjectReader<T> {
     ghost use Rattle.ep_defs.specs.declared.item.Item.{Item};
-    ghost use Rattle.nt_blocks.specs.Verdict.{verdict};
+    ghost use Rattle.nt_blocks.specs.Refusals.{Refusal};
+    ghost use Rattle.nt_blocks.specs.Verdict.{Bad, verdict};
     ghost use Rattle.nt_read.specs.declared.fault.ReadFault.TheVariants.{OutOfMemory};
     ghost use Rattle.nt_read.specs.declared.stage.Stage.TheVariants.{Close, Tag};
-    ghost use Rattle.nt_read.specs.Answers.{IsKept, end_answer};
+    ghost use Rattle.nt_read.specs.Answers.{IsKept, end_answer, fault_of};
     ghost use Rattle.nt_read.specs.Objects.{HasFailed, HasRead, Takes, used};
     ghost use Rattle.nt_read.specs.state.Objects.{Ends, JudgesTold, Steps, StopsObjects};
     ghost use Rattle.nt_read.specs.state.Units.{turns_left};
@@ -68,6 +71,9 @@ impl<T: Telling> ObjectReader<T> {
         ensures used { IfOk result (λ n. used self.new ≤ used self.old + n) }
         ensures refused { IfErr result (λ fault. IsKept (Err fault) → (bytes : List ℕ) → HasRead T.tells bytes self.old
             → Takes T.tells bytes piece.now (Err fault) self.new told.new) }
+        ensures nothing { OnErr result (T.tells told.new []) }
+        ensures stays { (bytes : List ℕ) (why : Refusal) (items : List Item) → HasRead T.tells bytes self.old
+            → verdict bytes ≡ Bad why items → result ≡ Err (fault_of why) }
         ensures used_all { used self.new ≤ used self.old + length piece.now }
         ensures memory { result ≡ Err OutOfMemory → HasFailed self.new }
         ensures fails { HasFailed self.old → result ≡ Err OutOfMemory }
@@ -101,6 +107,16 @@ impl<T: Telling> ObjectReader<T> {
                 kind: ReadKind::Truncated,
             }),
         }
+    }
+
+    // The caller has no memory for what was told: so the reader answers from here on, as if it had none itself.
+    pub(crate) fn give_up(&mut self) -> ReadFault
+        ensures fault { result ≡ OutOfMemory }
+        ensures failed { HasFailed self.new }
+        ensures used { used self.new ≡ used self.old }
+    {
+        self.fault = Some(ReadFault::OutOfMemory);
+        ReadFault::OutOfMemory
     }
 
     // Takes units up to the end of an object, or all that are whole, and then keeps what is left.

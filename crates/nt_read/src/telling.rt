@@ -43,9 +43,9 @@ pub trait Telling {
 }
 
 impl Telling for Vec<Item> {
-    ghost use Rattle.std.specs.Prelude.{◌≡◌};
+    ghost use Rattle.nt_read.specs.Telling.{TellsItems};
 
-    ghost tells = { λ told items. items ≡ told.items };
+    ghost tells = { TellsItems };
 
     fn nothing(alloc: Global) -> Vec<Item> {
         Vec::new(alloc)

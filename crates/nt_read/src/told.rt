@@ -29,9 +29,9 @@ impl Told {
 }
 
 impl Telling for Told {
-    ghost use Rattle.nt_read.specs.Names.{Tells};
+    ghost use Rattle.nt_read.specs.Names.{TellsNames};
 
-    ghost tells = { Tells };
+    ghost tells = { TellsNames };
 
     fn nothing(alloc: Global) -> Told {
         Told::new(alloc)

@@ -2,8 +2,8 @@
 ghost use Rattle.std.specs.Prelude.{◌≡◌, ◌+◌, ◌^◌, ◌<◌, ◌≤◌, ◌++◌, ℕ, [], ◌∷◌, List, length, take, IfOk, OnOk};
 ghost use Rattle.ep_defs.specs.declared.item.Item.{Item};
 ghost use Rattle.nt_blocks.specs.Placed.{items_in};
-ghost use Rattle.nt_read.specs.Lent as lent_reader;
-ghost use Rattle.nt_read.specs.Lent.{told_by};
+ghost use Rattle.nt_read.specs.Lent.{TellsInPlace, told_by};
+ghost use Rattle.nt_read.specs.Objects as objects;
 ghost use Rattle.pt_lines.specs.Appends.{Appends};
 ghost use Rattle.pt_events.specs.state.Read.{IsChecked, IsFed, HasRead, EndsSo, item_of, used};
 
@@ -94,13 +94,13 @@ impl Reading {
 
 // Feeds a reader up to the end of an object, or all of the piece, whether or not the bytes are refused.
 fn feed(reader: &mut LentReader, piece: &[u8], lent: &mut Lent) -> Result<usize, AllocError>
-    requires few { lent_reader.used reader.old + length piece.now < 2 ^ 63 }
-    ensures read { IfOk result (λ n. (bytes : List ℕ) → lent_reader.HasRead bytes reader.old
+    requires few { objects.used reader.old + length piece.now < 2 ^ 63 }
+    ensures read { IfOk result (λ n. (bytes : List ℕ) → objects.HasRead TellsInPlace bytes reader.old
         → IsFed bytes (take n piece.now) reader.new lent.new) }
     ensures within { IfOk result (λ n. n ≤ length piece.now) }
     ensures some { IfOk result (λ n. 0 < length piece.now → 0 < n) }
-    ensures used { IfOk result (λ n. lent_reader.used reader.new ≤ lent_reader.used reader.old + n) }
-    ensures used_all { lent_reader.used reader.new ≤ lent_reader.used reader.old + length piece.now }
+    ensures used { IfOk result (λ n. objects.used reader.new ≤ objects.used reader.old + n) }
+    ensures used_all { objects.used reader.new ≤ objects.used reader.old + length piece.now }
 {
     match reader.feed(piece, lent) {
         Ok(count) => Ok(count),

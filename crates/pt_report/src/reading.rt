@@ -3,8 +3,8 @@ ghost use Rattle.std.specs.Prelude.{◌≡◌, ◌+◌, ◌^◌, ◌<◌, ◌≤
 ghost use Rattle.ep_defs.specs.declared.item.Item.{Item};
 ghost use Rattle.nt_check.specs.Events.{EventRest};
 ghost use Rattle.nt_names.specs.Told.{AreEvents, item_of};
-ghost use Rattle.nt_read.specs.Names as names;
-ghost use Rattle.nt_read.specs.Names.{Tells};
+ghost use Rattle.nt_read.specs.Names.{TellsNames};
+ghost use Rattle.nt_read.specs.Objects as objects;
 ghost use Rattle.pt_report.specs.state.Read.{IsChecked, IsFed, HasRead, IsOutcome, used};
 
 use crate::errors::{Flaw, Refusal};
@@ -94,12 +94,12 @@ impl Reads for Reading {
 
 // Feeds a reader up to the end of an object, or all of the piece, whether or not the bytes are refused.
 fn feed(reader: &mut NamesReader, piece: &[u8], told: &mut Told) -> Result<usize, AllocError>
-    requires few { names.used reader.old + length piece.now < 2 ^ 63 }
-    ensures read { IfOk result (λ n. (bytes : List ℕ) → names.HasRead bytes reader.old
+    requires few { objects.used reader.old + length piece.now < 2 ^ 63 }
+    ensures read { IfOk result (λ n. (bytes : List ℕ) → objects.HasRead TellsNames bytes reader.old
         → IsFed bytes (take n piece.now) reader.new told.new) }
     ensures within { IfOk result (λ n. n ≤ length piece.now) }
     ensures some { IfOk result (λ n. 0 < length piece.now → 0 < n) }
-    ensures used { IfOk result (λ n. names.used reader.new ≤ names.used reader.old + n) }
+    ensures used { IfOk result (λ n. objects.used reader.new ≤ objects.used reader.old + n) }
 {
     match reader.feed(piece, told) {
         Ok(count) => Ok(count),
@@ -114,7 +114,7 @@ fn check_all(
     told: &Told,
     misplaced: &mut Option<Misplaced>,
 ) -> Result<(), AllocError>
-    ensures { (before items : List Item) → Tells told.now items → IsChecked before report.old misplaced.old
+    ensures { (before items : List Item) → TellsNames told.now items → IsChecked before report.old misplaced.old
         → OnOk result (IsChecked (before ++ items) report.new misplaced.new) }
 {
     check_items(report, told.items.as_slice(), misplaced)?;

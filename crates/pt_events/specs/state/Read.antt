@@ -7,7 +7,8 @@ use Rattle.nt_read.specs.Answers.{items_of}
 use Rattle.nt_read.specs.declared.fault.ReadFault.{ReadFault}
 use Rattle.nt_read.specs.declared.lent.Lent.{Lent}
 use Rattle.nt_read.specs.declared.object_reader.ObjectReader.{ObjectReader}
-use Rattle.nt_read.specs.Lent as reader
+use Rattle.nt_read.specs.Lent.{TellsInPlace}
+use Rattle.nt_read.specs.Objects as reader
 use Rattle.pt_report.specs.declared.errors.Refusal.{Refusal}
 use Rattle.pt_lines.specs.declared.form.Form.{Form}
 use Rattle.pt_events.specs.declared.listing.Listing.{Listing}
@@ -24,12 +25,12 @@ IsChecked form items text listing (Some misplaced) = StandsBefore form items mis
 
 -- These bytes were read, and this text was put, in this form.
 pub record HasRead (form : Form) (bytes text : List ℕ) (reading : Reading) : Type 0 where
-  pub read : reader.HasRead bytes reading.reader
+  pub read : reader.HasRead TellsInPlace bytes reading.reader
   pub checked : IsChecked form (items_of (verdict bytes)) text reading.listing reading.misplaced
 
 -- After these bytes the reader was fed more, and this is what an object tells that ends with them, if one does.
 abbrev pub IsFed : List ℕ → List ℕ → ObjectReader Lent → Lent → Type 0
-IsFed bytes more fed lent = (answer : Result (Unit {0}) ReadFault) × reader.Takes bytes more answer fed lent
+IsFed bytes more fed lent = (answer : Result (Unit {0}) ReadFault) × reader.Takes TellsInPlace bytes more answer fed lent
 
 -- The item of an event of a body.
 abbrev pub item_of : BodyEvent → Item

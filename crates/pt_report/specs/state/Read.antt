@@ -7,7 +7,8 @@ use Rattle.nt_read.specs.Answers.{items_of}
 use Rattle.nt_read.specs.declared.fault.ReadFault.{ReadFault}
 use Rattle.nt_read.specs.declared.object_reader.ObjectReader.{ObjectReader}
 use Rattle.nt_read.specs.declared.told.Told.{Told}
-use Rattle.nt_read.specs.Names as reader
+use Rattle.nt_read.specs.Names.{TellsNames}
+use Rattle.nt_read.specs.Objects as reader
 use Rattle.pt_report.specs.declared.report.Report.{Report}
 use Rattle.pt_report.specs.state.Taken.{HasTaken}
 use Rattle.pt_report.specs.declared.reading.Misplaced.{Misplaced}
@@ -23,12 +24,12 @@ IsChecked items report (Some misplaced) = IsMisplaced items misplaced.at misplac
 
 -- These bytes were read.
 pub record HasRead (bytes : List ℕ) (reading : Reading) : Type 0 where
-  pub read : reader.HasRead bytes reading.reader
+  pub read : reader.HasRead TellsNames bytes reading.reader
   pub checked : IsChecked (items_of (verdict bytes)) reading.report reading.misplaced
 
 -- After these bytes the reader was fed more, and this is what an object tells that ends with them, if one does.
 abbrev pub IsFed : List ℕ → List ℕ → ObjectReader Told → Told → Type 0
-IsFed bytes more fed told = (answer : Result (Unit {0}) ReadFault) × reader.Takes bytes more answer fed told
+IsFed bytes more fed told = (answer : Result (Unit {0}) ReadFault) × reader.Takes TellsNames bytes more answer fed told
 
 -- How many bytes were read.
 abbrev pub used : Reading → ℕ

@@ -1,5 +1,6 @@
-use Rattle.std.proofs.Common.{refl}
-use Rattle.nt_read.proofs.Objects.{objects-refused, objects-still, objects-take}
+use Rattle.std.proofs.Common.{Err, refl, ap}
+use Rattle.nt_read.specs.declared.fault.ReadFault.{ReadFault}
+use Rattle.nt_read.proofs.Objects.{none-refused, objects-refused, objects-still, objects-take, same-fault}
 use Rattle.nt_read.proofs.object_reader.ObjectReader.feed.Goals as goal
 
 pub returns-in-Some-clause-refused : goal.returns-in-Some-clause-refused
@@ -13,3 +14,13 @@ returns-in-Ok-clause-ok g c = λ bytes read.
 pub returns-in-Err-clause-refused : goal.returns-in-Err-clause-refused
 returns-in-Err-clause-refused g c = λ kept bytes read.
     objects-refused g.T.Telling.tells c.args.self.now _ bytes c.args.piece.now c.in-Err.fault c.read.new.told c.in_default.is refl kept c.in-Err.ensures.err c.in-Err.ensures.none read
+
+pub returns-in-Some-clause-stays : goal.returns-in-Some-clause-stays
+returns-in-Some-clause-stays g c = λ bytes why items read bad.
+    ap (λ (fault : ReadFault). Err fault) (same-fault g.T.Telling.tells bytes c.args.self.now c.in-Some.fault why items c.in-Some.is read bad)
+
+pub returns-in-Ok-clause-stays : goal.returns-in-Ok-clause-stays
+returns-in-Ok-clause-stays g c = λ bytes why items read bad. none-refused g.T.Telling.tells bytes c.args.self.now why items c.in_default.is read bad
+
+pub returns-in-Err-clause-stays : goal.returns-in-Err-clause-stays
+returns-in-Err-clause-stays g c = λ bytes why items read bad. none-refused g.T.Telling.tells bytes c.args.self.now why items c.in_default.is read bad
