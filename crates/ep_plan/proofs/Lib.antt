@@ -2,6 +2,7 @@ pub mod Separated
 pub mod NumberTexts
 pub mod Numerals
 pub mod CursorWords
+mod Ahead
 pub mod PrintThenReadWord
 pub mod RuleWords
 pub mod Forms

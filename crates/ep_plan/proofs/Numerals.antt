@@ -69,7 +69,7 @@ at_most-at_most most more (Some number) h =
           ap (at_most most) (at_most-above more number above) ∙ sym (at_most-above most number (omega arith))
     ]
 
-digits-from_test : (base : ℕ) (word : List ℕ) → list_all (λ digit. is_digit digit base) word ≡ true → AllDigits base word
+pub digits-from_test : (base : ℕ) (word : List ℕ) → list_all (λ digit. is_digit digit base) word ≡ true → AllDigits base word
 digits-from_test base [] h = tt
 digits-from_test base (digit ∷ word) h =
     let parts = and_parts (is_digit digit base) (list_all (λ d. is_digit d base) word) h in

@@ -1,7 +1,9 @@
 -- What a cursor has still to read of a line.
-use Rattle.std.specs.Prelude.{◌≡◌, ◌≢◌, ℕ, ◌+◌, ◌-◌, Bool, true, false, List, [], ◌∷◌, ◌++◌, length, Option, Some, Result, Err, IfOk, option_copied, unwrap_or}
+use Rattle.std.specs.Prelude.{◌≡◌, ◌≢◌, ◌==◌, ℕ, ◌+◌, ◌-◌, ◌<◌, ◌≤◌, Bool, true, false, List, [], ◌∷◌, ◌++◌, length, take, slice_index, Option, Some, Result, Ok, Err, IfOk, option_copied, unwrap_or}
+use Rattle.std.specs.List.{All}
 use Rattle.std.specs.Borrow.{Bor}
 use Rattle.std.specs.declared.alloc.AllocError.{AllocError}
+use Rattle.hex.specs.Hex.{decode_of}
 use Rattle.ep_plan.specs.declared.cursor.Cursor.{Cursor}
 use Rattle.ep_plan.specs.declared.line.LineFault.{LineFault}
 use Rattle.ep_plan.specs.declared.line.LineFault.TheVariants.{Bad as BadLine}
@@ -83,3 +85,29 @@ TakesPart part spell old new value = (word : List ℕ) × Took part old new word
 pub record Reads {T : Type 0} (part : Part) (spell : List ℕ → Option T) (kind : LineKind) (Gives : Bor (List ℕ) → Result (Option T) AllocError → Type 0) : Type 0 where
   pub fault : (word : List ℕ) → spelling_fault part word ≡ unless (spell word) kind
   pub value : (word : Bor (List ℕ)) (result : Result (Option T) AllocError) → Gives word result → IfOk result (λ read. read ≡ spell word.now)
+
+-- ---- a word that is read where it stands
+
+-- A space stands after so many bytes of a text, or nothing.
+abbrev pub EndsAt : List ℕ → ℕ → Type 0
+EndsAt text count = count < length text → slice_index text count ≡ space
+
+-- The first word of a text has so many bytes, one at least.
+pub record IsWordOf (text : List ℕ) (count : ℕ) : Type 0 where
+  pub some : 0 < count
+  pub within : count ≤ length text
+  pub whole : All (λ byte. (byte == space) ≡ false) (take count text)
+  pub ends : EndsAt text count
+
+-- The next word has so many bytes.
+pub record IsNext (cursor : Cursor) (count : ℕ) : Type 0 where
+  pub text : Bor (List ℕ)
+  pub rest : cursor.rest ≡ Some text
+  pub word : IsWordOf text.now count
+
+-- All that is left of the line is pairs of digits, one at least, which spell these bytes.
+pub record SpellsAll (cursor : Cursor) (bytes : List ℕ) : Type 0 where
+  pub text : Bor (List ℕ)
+  pub rest : cursor.rest ≡ Some text
+  pub some : 0 < length text.now
+  pub spelled : decode_of text.now ≡ Ok bytes

@@ -1,5 +1,6 @@
 //! The words of a schedule's text: what each spells, and how each value is written.
 
+mod ahead;
 mod field_list;
 mod frame_list;
 mod hex_bytes;
@@ -8,6 +9,7 @@ mod numbers;
 mod rules;
 mod split;
 
+pub(crate) use ahead::{bytes_ahead, ends, frames_ahead, leading};
 pub(crate) use field_list::fields;
 pub(crate) use frame_list::{frames, put_frames};
 pub(crate) use hex_bytes::{id, payload, put_id, put_payload};

@@ -1,23 +1,26 @@
 //! Taking the words of a line, one after another, each as a part of the line.
-ghost use Rattle.std.specs.Prelude.{◌≡◌, ◌≢◌, ◌+◌, ◌^◌, ◌<◌, ◌≤◌, ℕ, List, [], length, false, Option, None, IfOk, OnOk};
+ghost use Rattle.std.specs.Prelude.{◌≡◌, ◌≢◌, ◌+◌, ◌^◌, ◌<◌, ◌≤◌, ℕ, List, [], length, take, false, Option, None, Some, IfOk, IfSome, OnOk};
 ghost use Rattle.std.specs.Bool.{OnTrue, OnFalse};
 ghost use Rattle.ep_defs.specs.declared.limits.TheConstants.{EVENTS};
 ghost use Rattle.ep_plan.specs.declared.limits.TheConstants.{LINE_BYTES};
 ghost use Rattle.ep_plan.specs.declared.line.LineKind.TheVariants.{Word};
 ghost use Rattle.ep_plan.specs.declared.line.LineFault.TheVariants.{Bad as BadLine};
 ghost use Rattle.ep_plan.specs.Lines.{Part, Index, Number, Flag, Stamp, Provider, Name, Keywords, Fields as FieldsPart, Rule as RulePart, Id, Frames as FramesPart, Payload, number_of, flag_of, stamp_of};
-ghost use Rattle.ep_plan.specs.Words.{words_of, hex_in, id_in, frames_in, payload_in, provider_in, event_name_in, rule_in, fields_in};
-ghost use Rattle.ep_plan.specs.Cursor.{left, column_of, bad_left, has_word, TookWord, Took, TakesPart, IsBad, IsBadAt, IfBad, Reads};
+ghost use Rattle.ep_plan.specs.Words.{words_of, number_in, hex_in, id_in, frames_in, payload_in, provider_in, event_name_in, rule_in, fields_in};
+ghost use Rattle.ep_plan.specs.Cursor.{left, column_of, bad_left, has_word, TookWord, Took, TakesPart, IsBad, IsBadAt, IfBad, IsNext, Reads, SpellsAll};
 
 use super::Cursor;
 use crate::line::{LineFault, LineKind};
 use crate::words;
 use ep_defs::limits::EVENTS;
-use ep_defs::{Bytes, FieldList, Frames, Rule, Units};
+use ep_defs::{Bytes, FieldList, Frames, Items, Rule, Units};
 use std::alloc::{AllocError, Global};
 
 // What a number is at most.
 const MOST: u64 = u32::MAX as u64;
+
+// So many decimal digits spell a number of 64 bits, whichever they are.
+const SAFE_DIGITS: usize = 19;
 
 impl<'a> Cursor<'a> {
     /// The words of a line, given with its number.
@@ -124,8 +127,47 @@ impl<'a> Cursor<'a> {
         ensures took { IfOk result (TakesPart Number number_of self.old self.new) }
         ensures bad { IfBad result (IsBad Number self.old) }
     {
+        if let Some((number, count)) = self.number_ahead(MOST) {
+            self.pass(count);
+            return Ok(number as u32);
+        }
         let number = self.part(LineKind::Number, |word| Ok(words::number(word, MOST)))?;
         Ok(number as u32)
+    }
+
+    // The number that the next word spells, and the word's bytes, if it has few digits and is at most `most`.
+    fn number_ahead(&self, most: u64) -> Option<(u64, usize)>
+        ensures word { IfSome result (λ read. (next : IsNext self.now read.1)
+            × (number_in most (take read.1 next.text.now) ≡ Some read.0)) }
+        ensures most { IfSome result (λ read. read.0 ≤ most) }
+    {
+        let Some(text) = self.rest else {
+            return None;
+        };
+        let (number, count) = words::leading(text, 10, SAFE_DIGITS);
+        if count == 0 || number > most {
+            return None;
+        }
+        if words::ends(text, count) {
+            Some((number, count))
+        } else {
+            None
+        }
+    }
+
+    // Passes over the next word, which has so many bytes.
+    fn pass(&mut self, count: usize)
+        requires { IsNext self.old count }
+        ensures { (next : IsNext self.old count) → TookWord self.old self.new (take count next.text.now) }
+    {
+        let Some(text) = self.rest else {
+            unreachable!();
+        };
+        if count == text.len() {
+            self.rest = None;
+            return;
+        }
+        self.rest = Some(&text[count + 1..]);
     }
 
     /// A flag, 0 or 1.
@@ -143,6 +185,10 @@ impl<'a> Cursor<'a> {
         ensures took { IfOk result (TakesPart Stamp stamp_of self.old self.new) }
         ensures bad { IfBad result (IsBad Stamp self.old) }
     {
+        if let Some((stamp, count)) = self.number_ahead(u64::MAX) {
+            self.pass(count);
+            return Ok(stamp);
+        }
         self.part(LineKind::Number, |word| Ok(words::number(word, u64::MAX)))
     }
 
@@ -199,7 +245,24 @@ impl<'a> Cursor<'a> {
         ensures took { IfOk result (TakesPart FramesPart frames_in self.old self.new) }
         ensures bad { IfBad result (IsBad FramesPart self.old) }
     {
+        let mut frames = Vec::new(alloc);
+        if let Some(count) = self.frames_ahead(&mut frames)? {
+            self.pass(count);
+            return Ok(Items::new(frames));
+        }
         self.part(LineKind::Hex, |word| words::frames(alloc, word))
+    }
+
+    // Appends the return addresses that the next word spells, and answers its bytes, if another word is behind it.
+    fn frames_ahead(&self, frames: &mut Vec<u64>) -> Result<Option<usize>, AllocError>
+        requires { frames.old.items ≡ [] }
+        ensures { IfOk result (λ found. IfSome found (λ count. (next : IsNext self.now count)
+            × (frames_in (take count next.text.now) ≡ Some frames.new.items))) }
+    {
+        match self.rest {
+            Some(text) => words::frames_ahead(text, frames),
+            None => Ok(None),
+        }
     }
 
     /// A payload.
@@ -207,7 +270,21 @@ impl<'a> Cursor<'a> {
         ensures took { IfOk result (TakesPart Payload payload_in self.old self.new) }
         ensures bad { IfBad result (IsBad Payload self.old) }
     {
+        if let Some(bytes) = self.bytes_ahead(alloc)? {
+            self.rest = None;
+            return Ok(bytes);
+        }
         self.part(LineKind::Hex, |word| words::payload(alloc, word))
+    }
+
+    // The bytes of a payload that is all that is left of the line, if it has digits alone.
+    fn bytes_ahead(&self, alloc: Global) -> Result<Option<Bytes>, AllocError>
+        ensures { IfOk result (λ found. IfSome found (SpellsAll self.now)) }
+    {
+        match self.rest {
+            Some(text) => words::bytes_ahead(alloc, text),
+            None => Ok(None),
+        }
     }
 
     /// The number of an event, which has to be the one after `defined` others, and at most `EVENTS`.
