@@ -13,6 +13,7 @@ pub mod PresentLists
 pub mod Ties
 pub mod TiedComings
 pub mod Opened
+mod Near
 pub mod Turning
 pub mod Telling
 mod Ready

@@ -109,7 +109,7 @@ open_now old new was now row thread hand number slot seat count len ever rows_ar
 
 -- ---- a thread more on which it was opened
 
-at_key : (key n : ℕ) → is_at (nat_cmp key) n ≡ (n == key)
+pub at_key : (key n : ℕ) → is_at (nat_cmp key) n ≡ (n == key)
 at_key key n =
     elim (nat_lt key n) as (λ v. nat_lt key n ≡ v → is_eq (if v then Less else (if (key == n) then Equal else Greater)) ≡ (n == key)) [
       | true ↦ λ below. sym (ne_eqb n key (λ same. let less : key < n = ltb-true key n below in omega (arith, same, less)))

@@ -1,18 +1,21 @@
 //! The tables of sessions, threads and rows.
-ghost use Rattle.std.specs.Prelude.{◌≡◌, ◌<◌, ◌==◌, ℕ, Some, is_none, is_some, IfSome, position};
+ghost use Rattle.std.specs.Prelude.{◌≡◌, ◌<◌, ◌==◌, ◌%◌, ℕ, Some, is_none, is_some, IfSome, position, slice_get, vec_len};
 ghost use Rattle.std.specs.BTreeMap.{get};
 ghost use Rattle.std.specs.Ordering.{nat_cmp};
 ghost use Rattle.ep_defs.specs.Definitions.{definition_at};
 ghost use Rattle.ep_defs.specs.declared.limits.TheConstants.{SESSIONS as SLOTS, THREADS as ROWS};
 ghost use Rattle.ep_model.specs.History.{is_there};
 ghost use Rattle.ep_stream.specs.Rows.{IsRow};
+ghost use Rattle.ep_tables.specs.declared.judged.OnRow.{OnRow};
 
 mod judge;
 mod sessions;
 mod start;
 mod threads;
 
+use crate::judged::OnRow;
 use ep_defs::EventDef;
+use ep_defs::limits::THREADS;
 use ep_rows::Rows;
 use ep_stream::Session;
 use ep_table::Table;
@@ -39,6 +42,9 @@ pub struct Tables {
     rows: Rows,
     // The row that each thread was given when it came. Rows are numbered from 1.
     threads: BTreeMap<u32, u32>,
+    // Some of these threads, each in the place that its number chooses, so that its row is found without the map. Where
+    // several choose one place, it has the one that came last.
+    near: Vec<OnRow>,
     // The sessions that are present, the newest first.
     present: Vec<Present>,
     // The slots that they hold.
@@ -50,18 +56,32 @@ pub struct Tables {
     // How many writes were begun.
     begins: u32,
     ghost given: { (thread row : ℕ) → get nat_cmp threads thread ≡ Some row → IsRow ROWS row },
+    ghost places: { vec_len near ≡ ROWS },
+    ghost known: { (place : ℕ) (on : OnRow) → slice_get near.items place ≡ Some on
+        → (on.thread % ROWS ≡ place) × (get nat_cmp threads on.thread ≡ Some on.row) },
 }
 
 impl Tables {
     ghost use Rattle.ep_tables.specs.Judged.{Tells};
     ghost use Rattle.ep_tables.specs.Tables.{row_of};
 
+    // The row that a thread was given when it came.
+    fn row_given(&self, thread: u32) -> Option<u32>
+        ensures { result ≡ get nat_cmp self.now.threads thread }
+    {
+        let near = self.near[near_place(thread)];
+        if near.thread == thread {
+            return Some(near.row);
+        }
+        self.threads.get(&thread).copied()
+    }
+
     // The row of a thread, until another thread takes it.
     fn row_of(&self, thread: u32) -> Option<u32>
         ensures own { result ≡ row_of self.now thread }
         ensures row { IfSome result (IsRow ROWS) }
     {
-        let row = *self.threads.get(&thread)?;
+        let row = self.row_given(thread)?;
         if self.rows.thread(row) == u64::from(thread) {
             Some(row)
         } else {
@@ -97,4 +117,11 @@ impl Tables {
         }
         self.events.get(number as usize - 1).is_none()
     }
+}
+
+// The place that a thread's number chooses.
+fn near_place(thread: u32) -> usize
+    ensures { result ≡ thread % ROWS }
+{
+    (thread % THREADS) as usize
 }

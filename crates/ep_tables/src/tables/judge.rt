@@ -27,6 +27,7 @@ impl Tables {
         self.judged(step)
     }
 
+    // Nearly all steps of a long schedule begin, show or end a write; the others are judged out of line.
     fn judged(&self, step: Step) -> Result<Judged, Kind>
         ensures { Judges self.now step result }
     {
@@ -50,6 +51,7 @@ impl Tables {
         }
     }
 
+    #[inline(never)]
     fn to_accept(&self, session: u32, config: Config) -> Result<Judged, Kind>
         ensures { Judges self.now (Accept session config) result }
     {
@@ -61,6 +63,7 @@ impl Tables {
         unless(&objections, Judged::Accept { session, config })
     }
 
+    #[inline(never)]
     fn to_enter(&self, thread: u32) -> Result<Judged, Kind>
         ensures { Judges self.now (Enter thread) result }
     {
@@ -73,6 +76,7 @@ impl Tables {
         }
     }
 
+    #[inline(never)]
     fn to_leave(&self, thread: u32) -> Result<Judged, Kind>
         ensures { Judges self.now (Leave thread) result }
     {
@@ -83,6 +87,7 @@ impl Tables {
         unless(&objections, Judged::Leave(OnRow { thread, row }))
     }
 
+    #[inline(never)]
     fn to_open(&self, session: u32, thread: u32) -> Result<Judged, Kind>
         ensures { Judges self.now (Open session thread) result }
     {
@@ -182,6 +187,7 @@ impl Tables {
         Ok(both(session, place, thread, row))
     }
 
+    #[inline(never)]
     fn to_steal(&self, session: u32, thread: u32) -> Result<Judged, Kind>
         ensures { Judges self.now (Steal session thread) result }
     {
@@ -194,6 +200,7 @@ impl Tables {
         unless(&[(in_hand, Kind::HandFull)], Judged::Steal(both))
     }
 
+    #[inline(never)]
     fn to_give(&self, session: u32) -> Result<Judged, Kind>
         ensures { Judges self.now (Give session) result }
     {
@@ -203,6 +210,7 @@ impl Tables {
         }
     }
 
+    #[inline(never)]
     fn to_point(&self, session: u32, stamp: u64) -> Result<Judged, Kind>
         ensures { Judges self.now (Point session stamp) result }
     {
@@ -215,6 +223,7 @@ impl Tables {
         }
     }
 
+    #[inline(never)]
     fn to_close(&self, session: u32, thread: u32) -> Result<Judged, Kind>
         ensures { Judges self.now (Close session thread) result }
     {
@@ -231,6 +240,7 @@ impl Tables {
         unless(&objections, Judged::Close(both))
     }
 
+    #[inline(never)]
     fn to_finish(&self, session: u32, stamp: u64) -> Result<Judged, Kind>
         ensures { Judges self.now (Finish session stamp) result }
     {

@@ -6,7 +6,7 @@ ghost use Rattle.ep_tables.specs.Made.{MakesBegin, MakesEnd, MakesLeave, MakesEn
 ghost use Rattle.ep_tables.specs.Tied.{AreTied};
 
 use crate::judged::{OnBoth, OnRow};
-use crate::tables::Tables;
+use crate::tables::{Tables, near_place};
 use ep_defs::Write;
 use std::alloc::AllocError;
 
@@ -19,6 +19,7 @@ impl Tables {
         ensures tied { OnOk result (AreTied self.new) }
     {
         self.threads.insert(on.thread, on.row)?;
+        self.near[near_place(on.thread)] = on;
         self.rows.enter(on.row, u64::from(on.thread));
         self.last_thread = on.thread;
         Ok(())

@@ -1,8 +1,11 @@
 use Rattle.std.proofs.Common.{ap, sym, ◌∙◌, subst, length}
 use Rattle.std.specs.List.{AllByRecursion}
+use Rattle.std.specs.BTreeMap.{get}
+use Rattle.std.specs.Ordering.{nat_cmp}
 use Rattle.ep_table.specs.Sessions.{is_held, held_count}
 use Rattle.ep_tables.specs.Tables.{has_slot}
 use Rattle.ep_tables.specs.Tied.{IsTied, HaveOwnSlots}
+use Rattle.ep_tables.proofs.Near.{first_near}
 use Rattle.ep_tables.proofs.TiedComings.{none_held}
 use Rattle.ep_tables.proofs.tables.Tables.new.Goals as goal
 
@@ -19,3 +22,10 @@ returns-clause-tied c =
       seats = ap (λ t. length t.seats) c.new-3.ensures;
       off = λ r s _. c.in_ok-rows.ensures.fresh.slots r s;
     }
+
+pub invariant_of-result-clause-places : goal.invariant_of-result-clause-places
+invariant_of-result-clause-places c = c.in_ok-first_near.field-0.ok.0 ∙ c.in_ok-first_near.ensures.count
+
+pub invariant_of-result-clause-known : goal.invariant_of-result-clause-known
+invariant_of-result-clause-known c =
+    first_near (get nat_cmp c.in_ok-threads.threads) c.in_ok-first_near.field-0.items c.in_ok-first_near.ensures.known c.in_ok-threads.ensures
