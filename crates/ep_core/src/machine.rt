@@ -9,7 +9,9 @@ ghost use Rattle.ep_defs.specs.Definitions.{AreDistinct, definition_at};
 ghost use Rattle.ep_defs.specs.declared.limits.TheConstants.{EVENTS};
 ghost use Rattle.ep_rundown.specs.Rundown.{lacks_rundown};
 ghost use Rattle.ep_tables.specs.Judged.{step_of};
-ghost use Rattle.ep_core.specs.state.Works.{CanWork, IsNext, MakesWith, EndedFollow, Standing};
+ghost use Rattle.ep_tables.specs.declared.judged.Judged.TheVariants.{Finish};
+ghost use Rattle.ep_model.specs.declared.step.Step.TheVariants.{Finish as FinishStep};
+ghost use Rattle.ep_core.specs.state.Works.{CanWork, IsNext, Makes, MakesWith, EndedFollow, Standing};
 
 use crate::ended::Ended;
 use crate::work::Work;
@@ -17,7 +19,7 @@ use ep_defs::{EventDef, Marks, TraceInfo};
 use ep_model::laws::finished_sessions_are_faithful;
 use ep_model::{Step, Unlawful};
 use ep_stream_laws::a_finished_session_stays;
-use ep_tables::Judged;
+use ep_tables::{Judged, OfSession};
 use ep_told::{the_program_has_no_thread_0, what_is_told_is_a_session_s_own};
 use nt_laws::{a_faithful_stream_is_found, a_stream_with_a_rundown_is_faithful};
 use std::alloc::{AllocError, Global};
@@ -216,10 +218,29 @@ fn make(
         Judged::Give(of) => work.give(of),
         Judged::Point { of, stamp } => work.point(alloc, of, stamp)?,
         Judged::Close(both) => work.close(alloc, both)?,
-        Judged::Finish { of, stamp } => {
-            let left = work.finish(alloc, of, stamp)?;
-            ended.insert(of.session, left)?;
-        }
+        Judged::Finish { of, stamp } => finish(work, ended, alloc, of, stamp)?,
     }
+    Ok(())
+}
+
+// Finishes a session, and keeps what is left of it.
+#[inline(never)]
+fn finish(
+    work: &mut Work,
+    ended: &mut BTreeMap<u32, Ended>,
+    alloc: Global,
+    of: OfSession,
+    stamp: u64,
+) -> Result<(), AllocError>
+    requires { IsNext (Finish of stamp) work.old }
+    ensures works { OnOk result (Makes (Finish of stamp) work.old work.new) }
+    ensures ended { (events : List EventDef) (info : TraceInfo) (past : Past)
+        → CanWork events info (FinishStep of.session stamp) past work.old
+        → EndedFollow events info past ended.old
+        → OnOk result (EndedFollow events info (FinishStep of.session stamp ∷ past) ended.new) }
+{
+    a_finished_session_stays();
+    let left = work.finish(alloc, of, stamp)?;
+    ended.insert(of.session, left)?;
     Ok(())
 }

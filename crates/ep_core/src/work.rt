@@ -28,6 +28,9 @@ use nt_write::Fault;
 use std::alloc::{AllocError, Global};
 
 /// The sessions, threads and rows of a program.
+///
+/// Nearly all steps of a long schedule begin, show or end a write. The others stay out of line, so that what these keep on
+/// the stack need not be cleared for each step.
 #[derive(Drop)]
 pub(crate) struct Work {
     pub(crate) tables: Tables,
@@ -58,6 +61,7 @@ impl Work {
     }
 
     /// Begins the stream of a session.
+    #[inline(never)]
     pub(crate) fn accept(
         &mut self,
         alloc: Global,
@@ -74,6 +78,7 @@ impl Work {
     }
 
     /// Gives a thread that comes a row.
+    #[inline(never)]
     pub(crate) fn enter(&mut self, on: OnRow) -> Result<(), AllocError>
         requires { IsNext (Enter on) self.old }
         ensures { OnOk result (Makes (Enter on) self.old self.new) }
@@ -83,6 +88,7 @@ impl Work {
     }
 
     /// A thread leaves.
+    #[inline(never)]
     pub(crate) fn leave(&mut self, on: OnRow)
         requires { IsNext (Leave on) self.old }
         ensures { Makes (Leave on) self.old self.new }
@@ -92,6 +98,7 @@ impl Work {
     }
 
     /// Opens a session on a thread.
+    #[inline(never)]
     pub(crate) fn open(&mut self, alloc: Global, both: OnBoth) -> Result<(), AllocError>
         requires { IsNext (Open both) self.old }
         ensures { OnOk result (Makes (Open both) self.old self.new) }
@@ -134,6 +141,7 @@ impl Work {
     }
 
     /// Takes what a thread has pending for a session.
+    #[inline(never)]
     pub(crate) fn steal(&mut self, alloc: Global, both: OnBoth) -> Result<(), AllocError>
         requires { IsNext (Steal both) self.old }
         ensures { OnOk result (Makes (Steal both) self.old self.new) }
@@ -144,6 +152,7 @@ impl Work {
     }
 
     /// Gives back what a session has in hand.
+    #[inline(never)]
     pub(crate) fn give(&mut self, of: OfSession)
         requires { IsNext (Give of) self.old }
         ensures { Makes (Give of) self.old self.new }
@@ -153,6 +162,7 @@ impl Work {
     }
 
     /// Tells in a session's stream how far each thread had come.
+    #[inline(never)]
     pub(crate) fn point(
         &mut self,
         alloc: Global,
@@ -168,6 +178,7 @@ impl Work {
     }
 
     /// Closes a session on a thread.
+    #[inline(never)]
     pub(crate) fn close(&mut self, alloc: Global, both: OnBoth) -> Result<(), AllocError>
         requires { IsNext (Close both) self.old }
         ensures { OnOk result (Makes (Close both) self.old self.new) }

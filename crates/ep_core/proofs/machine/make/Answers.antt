@@ -1,9 +1,7 @@
 use Rattle.std.proofs.Common.{◌∷◌, sym, subst}
 use Rattle.ep_tables.specs.declared.judged.Judged.{Judged}
 use Rattle.ep_tables.specs.Judged.{step_of}
-use Rattle.ep_model.specs.declared.step.Step.TheVariants as step
 use Rattle.ep_core.specs.state.Works.{CanWork, MakesWith, EndedFollow}
-use Rattle.ep_core.proofs.Ending.{ended_after, told_stays}
 use Rattle.ep_core.proofs.machine.make.Goals as goal
 
 pub returns-in-Leave-clause-works : goal.returns-in-Leave-clause-works
@@ -56,22 +54,13 @@ returns-in_ok-close-in-Close-clause-works c =
     let Makes : Judged → Type 0 = λ j. MakesWith c.args.info.now j c.args.work.now c.close.new.self in
     subst Makes (sym c.in-Close.is) (c.in_ok-close-in-Close.ensures c.args.info.now)
 
-pub returns-in_ok-insert-in-Finish-clause-works : goal.returns-in_ok-insert-in-Finish-clause-works
-returns-in_ok-insert-in-Finish-clause-works c =
-    let Makes : Judged → Type 0 = λ j. MakesWith c.args.info.now j c.args.work.now c.finish.new.self in
-    subst Makes (sym c.in-Finish.is) (c.in_ok-left-in-Finish.ensures.works c.args.info.now)
+pub returns-in_ok-finish-in-Finish-clause-works : goal.returns-in_ok-finish-in-Finish-clause-works
+returns-in_ok-finish-in-Finish-clause-works c =
+    let Makes : Judged → Type 0 = λ j. MakesWith c.args.info.now j c.args.work.now c.finish.new.work in
+    subst Makes (sym c.in-Finish.is) (c.in_ok-finish-in-Finish.ensures.works c.args.info.now)
 
-pub returns-in_ok-insert-in-Finish-clause-ended : goal.returns-in_ok-insert-in-Finish-clause-ended
-returns-in_ok-insert-in-Finish-clause-ended c events past =
-    let law = c.a_finished_session_stays.ensures in
-    let session = c.in-Finish.of.session in
-    let stamp = c.in-Finish.stamp in
+pub returns-in_ok-finish-in-Finish-clause-ended : goal.returns-in_ok-finish-in-Finish-clause-ended
+returns-in_ok-finish-in-Finish-clause-ended c events past =
     let info = c.args.info.now in
-    let Keeps : Judged → Type 0 = λ j. CanWork events info (step_of j) past c.args.work.now → EndedFollow events info past c.args.ended.now → EndedFollow events info (step_of j ∷ past) c.insert.new.self in
-    subst Keeps (sym c.in-Finish.is) (λ before follow other.
-    ended_after events info past session stamp other c.in_ok-left-in-Finish.left _ _ (c.in_ok-insert-in-Finish.ensures.updates.0 other)
-    (law.stays other past (step.Finish session stamp))
-    (λ done. told_stays events other past (step.Finish session stamp) (law.same_config events other past (step.Finish session stamp) before.lawful done) (law.same_entries events other past (step.Finish session stamp) before.lawful done))
-    (law.same_marks events other past (step.Finish session stamp) before.lawful)
-    (c.in_ok-left-in-Finish.ensures.ended events info past before)
-    (follow other))
+    let Keeps : Judged → Type 0 = λ j. CanWork events info (step_of j) past c.args.work.now → EndedFollow events info past c.args.ended.now → EndedFollow events info (step_of j ∷ past) c.finish.new.ended in
+    subst Keeps (sym c.in-Finish.is) (c.in_ok-finish-in-Finish.ensures.ended events info past)
