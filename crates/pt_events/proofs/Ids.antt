@@ -26,16 +26,18 @@ stack-defined names zero e = absurd (cc)
 stack-defined names (suc id) e = refl
 
 -- The names after one definition more, and after one stack more.
-pub defined-more : (names : Names) (id : ℕ) (def : EventDef) (old new : KnownNames) → Knows names old → ((q : ℕ) → value_at new.definitions q ≡ cond (eqb id q) (Some def) (value_at old.definitions q)) → new.stacks ≡ old.stacks → Knows (record names { definitions = (id, def) ∷ names.definitions }) new
-defined-more names id def old new known put same =
+pub defined-more : (names : Names) (id : ℕ) (def : EventDef) (old new : KnownNames) → Knows names old → ((q : ℕ) → value_at new.definitions q ≡ cond (eqb id q) (Some def) (value_at old.definitions q)) → new.stacks ≡ old.stacks → new.none ≡ old.none → Knows (record names { definitions = (id, def) ∷ names.definitions }) new
+defined-more names id def old new known put same empty =
     record {
       definitions = λ q. put q ∙ known-more id q def names.definitions (value_at old.definitions q) (known.definitions q);
       stacks = λ q. rw same (known.stacks q);
+      none = empty ∙ known.none;
     }
 
-pub stacked-more : (names : Names) (id : ℕ) (bytes : List ℕ) (old new : KnownNames) → Knows names old → ((q : ℕ) → value_at new.stacks q ≡ cond (eqb id q) (Some bytes) (value_at old.stacks q)) → new.definitions ≡ old.definitions → Knows (record names { stacks = (id, bytes) ∷ names.stacks }) new
-stacked-more names id bytes old new known put same =
+pub stacked-more : (names : Names) (id : ℕ) (bytes : List ℕ) (old new : KnownNames) → Knows names old → ((q : ℕ) → value_at new.stacks q ≡ cond (eqb id q) (Some bytes) (value_at old.stacks q)) → new.definitions ≡ old.definitions → new.none ≡ old.none → Knows (record names { stacks = (id, bytes) ∷ names.stacks }) new
+stacked-more names id bytes old new known put same empty =
     record {
       definitions = λ q. rw same (known.definitions q);
       stacks = λ q. put q ∙ known-more id q bytes names.stacks (value_at old.stacks q) (known.stacks q);
+      none = empty ∙ known.none;
     }

@@ -42,29 +42,35 @@ checked-more form items more text old new None there checked = absurd (cc)
 pub all-listed : (form : Form) (items : List Item) (text : List ℕ) (listing : Listing) (misplaced : Option Misplaced) → misplaced ≡ None → IsChecked form items text listing misplaced → HasListed (kinds_of items) listing × AreLinesOf form items text
 all-listed form items text listing misplaced none checked = subst (IsChecked form items text listing) none checked
 
-pub none-there : (misplaced : Option Misplaced) → is_some misplaced ≡ false → misplaced ≡ None
-none-there None none = refl
-none-there (Some misplaced) none = absurd (cc)
-
 -- Nothing more is put.
 pub same-checked : (form : Form) (items : List Item) (text out : List ℕ) (listing : Listing) (misplaced : Option Misplaced) → IsChecked form items text listing misplaced → Appends (λ more. IsChecked form items (text ++ more) listing misplaced) out out
 same-checked form items text out listing misplaced checked =
     ([], subst (λ (t : List ℕ). IsChecked form items t listing misplaced) (sym (append-nil text)) checked, sym (append-nil out))
 
 -- The item is listed.
-pub checked-item : (form : Form) (before : List Item) (item : Item) (text out now : List ℕ) (old new : Listing) → HasListed (kinds_of before) old × AreLinesOf form before text → HasListed (kinds_of before ++ item.kind ∷ []) new → ListsOne form (kinds_of before) item.kind out now → Appends (λ more. IsChecked form (before ++ item ∷ []) (text ++ more) new None) out now
-checked-item form before item text out now old new (had, lines) has (more, put, is) = (
-  more,
-  (
-    subst (λ (kinds : List ItemKind). HasListed kinds new) (sym (kinds-more before item)) has,
-    subst (λ (kinds : List ItemKind). AreLines form (lines_of kinds) (text ++ more)) (sym (kinds-more before item)) (listed-more form (kinds_of before) item.kind text more lines put),
-  ),
-  is,
-)
+pub item-listed : (form : Form) (before : List Item) (item : Item) (text out now : List ℕ) (old new : Listing) (misplaced : Option Misplaced)
+    → is_some misplaced ≡ false → IsChecked form before text old misplaced
+    → (HasListed (kinds_of before) old → HasListed (kinds_of before ++ item.kind ∷ []) new × ListsOne form (kinds_of before) item.kind out now)
+    → Appends (λ more. IsChecked form (before ++ item ∷ []) (text ++ more) new misplaced) out now
+item-listed form before item text out now old new (Some misplaced) there checked listed = absurd (cc)
+item-listed form before item text out now old new None there (had, lines) listed =
+    let all = listed had in
+    let more = all.1.0 in (
+      more,
+      (
+        subst (λ (kinds : List ItemKind). HasListed kinds new) (sym (kinds-more before item)) all.0,
+        subst (λ (kinds : List ItemKind). AreLines form (lines_of kinds) (text ++ more)) (sym (kinds-more before item)) (listed-more form (kinds_of before) item.kind text more lines all.1.1),
+      ),
+      all.1.2,
+    )
 
 -- The item can't stand there.
-pub misplaced-item : (form : Form) (before : List Item) (item : Item) (text out now : List ℕ) (old new : Listing) (kind : CheckKind) → HasListed (kinds_of before) old × AreLinesOf form before text → told_after no_names (kinds_of before ++ item.kind ∷ []) ≡ Err (disorder_of kind) → now ≡ out → Appends (λ more. IsChecked form (before ++ item ∷ []) (text ++ more) new (Some (record { at = item.at; kind = kind }))) out now
-misplaced-item form before item text out now old new kind (had, lines) fault same = (
+pub item-misplaced : (form : Form) (before : List Item) (item : Item) (text out now : List ℕ) (old new : Listing) (misplaced : Option Misplaced) (kind : CheckKind)
+    → is_some misplaced ≡ false → IsChecked form before text old misplaced
+    → (HasListed (kinds_of before) old → told_after no_names (kinds_of before ++ item.kind ∷ []) ≡ Err (disorder_of kind)) → now ≡ out
+    → Appends (λ more. IsChecked form (before ++ item ∷ []) (text ++ more) new (Some (record { at = item.at; kind = kind }))) out now
+item-misplaced form before item text out now old new (Some misplaced) kind there checked fault same = absurd (cc)
+item-misplaced form before item text out now old new None kind there (had, lines) fault same = (
   [],
   (
     record {
@@ -73,7 +79,7 @@ misplaced-item form before item text out now old new kind (had, lines) fault sam
       after = [];
       split = refl;
       ordered = had.ordered;
-      fault = ap (told_after no_names) (kinds-more before item) ∙ fault;
+      fault = ap (told_after no_names) (kinds-more before item) ∙ fault had;
       place = refl;
     },
     subst (λ (t : List ℕ). AreLines form (lines_of (kinds_of before)) t) (sym (append-nil text)) lines,

@@ -1,10 +1,12 @@
 -- What an output takes in several writes.
 use Rattle.std.proofs.Common.{◌≡◌, ℕ, List, [], ◌++◌, refl, sym, ap, ◌∙◌, subst, append_assoc}
-use Rattle.std.specs.Prelude.{IsTrue}
+use Rattle.std.specs.Prelude.{Bool, IsTrue}
 use Rattle.std.proofs.lemmas.List.{append-nil}
 use Rattle.pt_io.specs.declared.sink.Sink.{Ghosts as Sink}
 use Rattle.pt_io.specs.Faults.{HasRisen}
 use Rattle.pt_command.specs.Says.{TookText, BrokeOff}
+use Rattle.pt_lines.specs.declared.form.Form.{Form}
+use Rattle.pt_lines.specs.Around.{shown}
 
 -- It took nothing yet.
 pub took-nothing : {O : Type 0} (sink : Sink O) (old : O) → TookText sink old old []
@@ -35,6 +37,17 @@ broke-more sink old mid new first second told one two =
           );
       fault = subst (λ (n : ℕ). HasRisen n (sink.write_faults new)) one.sound two.fault;
     }
+
+-- Lines that were put behind none that were kept.
+pub more-is : {given out kept more : List ℕ} → given ≡ out → out ≡ kept ++ more → kept ≡ [] → given ≡ more
+more-is {given} {out} {kept} {more} is put none = is ∙ put ∙ ap (λ (xs : List ℕ). xs ++ more) none
+
+-- What is shown of them.
+pub shown-is : (form : Form) {is-first first : Bool} {given more text : List ℕ} → text ≡ shown form is-first given → is-first ≡ first → given ≡ more → text ≡ shown form first more
+shown-is form {is-first} {first} {given} {more} {text} is begun same =
+    is
+    ∙ ap (λ (b : Bool). shown form b given) begun
+    ∙ ap (λ (xs : List ℕ). shown form first xs) same
 
 -- Some bytes that are none were taken where nothing was written.
 pub took-none : {O : Type 0} (sink : Sink O) (old : O) (text : List ℕ) → text ≡ [] → TookText sink old old text

@@ -5,6 +5,7 @@ ghost use Rattle.ep_defs.specs.declared.item.ItemKind.TheVariants as item;
 ghost use Rattle.ep_defs.specs.Entry.{EventEntry};
 ghost use Rattle.ep_defs.specs.Gaps.{Sighting, Seen};
 ghost use Rattle.nt_blocks.specs.Ordered.{no_names, told_after};
+ghost use Rattle.nt_blocks.specs.Placed.{event_of};
 ghost use Rattle.nt_check.specs.declared.checker.CheckKind.{CheckKind};
 ghost use Rattle.nt_check.specs.declared.checker.CheckFault.TheVariants.{Bad, OutOfMemory};
 ghost use Rattle.nt_check.specs.Faults.{disorder_of};
@@ -13,13 +14,13 @@ ghost use Rattle.pt_events.specs.Lines.{lost_lines, known_by};
 ghost use Rattle.pt_lines.specs.Forms.{AreLines};
 ghost use Rattle.pt_lines.specs.Appends.{Appends, Tells};
 ghost use Rattle.pt_events.specs.state.Known.{HasSeen};
-ghost use Rattle.pt_events.specs.state.Listed.{HasListed, ListsOne, event_lines, kind_of};
+ghost use Rattle.pt_events.specs.state.Listed.{HasListed, ListsOne, event_lines};
 
 use crate::lasts::Lasts;
 use crate::names::KnownNames;
 use ep_defs::ItemKind;
-use nt_blocks::BodyEvent;
 use nt_check::CheckFault;
+use nt_head::HeadState;
 use pt_lines::{EventLine, Form, Origin, put_event, put_lost, put_point};
 use std::alloc::{AllocError, Global};
 
@@ -71,7 +72,11 @@ impl Listing {
                 Ok(())
             }
             ItemKind::Meta { id, def } => self.names.define(self.alloc, *id, def),
-            ItemKind::Stack { id, bytes } => self.names.define_stack(self.alloc, *id, bytes),
+            ItemKind::Stack { id, bytes } => {
+                let address = self.origin.address;
+                self.names
+                    .define_stack(self.alloc, form, address, *id, bytes)
+            }
             ItemKind::Event {
                 metadata,
                 number,
@@ -84,44 +89,42 @@ impl Listing {
                 related,
                 payload,
             } => {
-                let (def, stack) = self.names.find(*metadata, *stack)?;
-                let event = EventLine {
-                    origin: self.origin,
-                    processor: *processor,
-                    thread_id: *thread,
-                    stamp: *stamp,
-                    thread: *capture,
+                let head = HeadState {
+                    metadata: *metadata,
                     number: *number,
-                    def,
-                    activity,
-                    related,
-                    stack,
-                    payload: payload.as_slice(),
+                    capture: *capture,
+                    processor: *processor,
+                    thread: *thread,
+                    stack: *stack,
+                    stamp: *stamp,
+                    activity: *activity,
+                    related: *related,
+                    ..HeadState::zero()
                 };
-                Ok(put_all(out, self.alloc, form, &mut self.lasts, &event)?)
+                self.event(form, &head, payload.as_slice(), out)
             }
             ItemKind::Point { stamp, threads } => self.point(form, *stamp, threads.as_slice(), out),
         }
     }
 
-    /// The same of an event that stands in the body of its block.
+    /// The same of an event with this header.
     pub(crate) fn event(
         &mut self,
         form: Form,
-        event: &BodyEvent<'_>,
+        head: &HeadState,
+        payload: &[u8],
         out: &mut Vec<u8>,
     ) -> Result<(), CheckFault>
         ensures listed { (kinds : List ItemKind) → HasListed kinds self.old
-            → OnOk result (HasListed (kinds ++ kind_of event.now ∷ []) self.new) }
+            → OnOk result (HasListed (kinds ++ event_of head.now payload.now ∷ []) self.new) }
         ensures lines { (kinds : List ItemKind) → HasListed kinds self.old
-            → OnOk result (ListsOne form kinds (kind_of event.now) out.old.items out.new.items) }
-        ensures refused { (kinds : List ItemKind) → HasListed kinds self.old → (fault : CheckKind)
-            → result ≡ Err (Bad fault) → told_after no_names (kinds ++ kind_of event.now ∷ []) ≡ Err (disorder_of fault) }
+            → OnOk result (ListsOne form kinds (event_of head.now payload.now) out.old.items out.new.items) }
+        ensures refused { (kinds : List ItemKind) → HasListed kinds self.old → (fault : CheckKind) → result ≡ Err (Bad fault)
+            → told_after no_names (kinds ++ event_of head.now payload.now ∷ []) ≡ Err (disorder_of fault) }
         ensures unchanged { (fault : CheckKind) → result ≡ Err (Bad fault) → out.new.items ≡ out.old.items }
     {
-        let head = event.head;
         let (def, stack) = self.names.find(head.metadata, head.stack)?;
-        let line = EventLine {
+        let event = EventLine {
             origin: self.origin,
             processor: head.processor,
             thread_id: head.thread,
@@ -132,9 +135,9 @@ impl Listing {
             activity: &head.activity,
             related: &head.related,
             stack,
-            payload: event.payload,
+            payload,
         };
-        Ok(put_all(out, self.alloc, form, &mut self.lasts, &line)?)
+        Ok(put_all(out, self.alloc, form, &mut self.lasts, &event)?)
     }
 
     // Appends the lines of a point.

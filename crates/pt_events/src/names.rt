@@ -8,16 +8,18 @@ ghost use Rattle.nt_check.specs.Faults.{disorder_of};
 ghost use Rattle.nt_check.specs.state.Ids.{value_at};
 ghost use Rattle.pt_events.specs.state.Known.{Knows, IsFound, IsUnknown};
 
-use ep_defs::{Bytes, Duplicate, EventDef};
+use ep_defs::{Bytes, EventDef};
 use nt_check::{ById, CheckFault, CheckKind};
-use pt_lines::NamedDef;
+use pt_lines::{Form, NamedDef, ShownStack};
 use std::alloc::Global;
 
 /// The definitions by their metadata ids, and the stacks since the last point by theirs.
 #[derive(Drop)]
 pub struct KnownNames {
     definitions: ById<NamedDef>,
-    stacks: ById<Bytes>,
+    stacks: ById<ShownStack>,
+    // That of an event which has none.
+    none: ShownStack,
 }
 
 impl KnownNames {
@@ -28,6 +30,7 @@ impl KnownNames {
         KnownNames {
             definitions: ById::new(alloc),
             stacks: ById::new(alloc),
+            none: ShownStack::none(alloc),
         }
     }
 
@@ -60,8 +63,16 @@ impl KnownNames {
         Ok(())
     }
 
-    /// One stack more. It is refused exactly where its id has one since the last point.
-    pub fn define_stack(&mut self, alloc: Global, id: u32, bytes: &Bytes) -> Result<(), CheckFault>
+    /// One stack more, for lines of this form, in a stream that says this of the size of an address. It is refused exactly where
+    /// its id has one since the last point.
+    pub fn define_stack(
+        &mut self,
+        alloc: Global,
+        form: Form,
+        address: u32,
+        id: u32,
+        bytes: &Bytes,
+    ) -> Result<(), CheckFault>
         ensures defined { (names : Names) → Knows names self.old
             → OnOk result ((tell names (item.Stack id bytes.now) ≡ Ok []) × Knows (names_after names (item.Stack id bytes.now)) self.new) }
         ensures refused { (names : Names) → Knows names self.old → (fault : CheckKind)
@@ -70,13 +81,13 @@ impl KnownNames {
         if self.is_stack(id) {
             return Err(CheckFault::Bad(CheckKind::StackTwice { id }));
         }
-        let bytes = bytes.copy(alloc)?;
-        self.stacks.insert(u64::from(id), bytes)?;
+        let stack = ShownStack::new(alloc, form, address, bytes)?;
+        self.stacks.insert(u64::from(id), stack)?;
         Ok(())
     }
 
     /// The definition and the stack of an event with these ids, or which of them stands for nothing.
-    pub fn find(&self, metadata: u32, stack: u32) -> Result<(&NamedDef, &[u8]), CheckFault>
+    pub fn find(&self, metadata: u32, stack: u32) -> Result<(&NamedDef, &ShownStack), CheckFault>
         ensures { (names : Names) → Knows names self.now
             → MatchResult result (λ found. IsFound names metadata stack found.0.now found.1.now)
             (λ fault. (kind : CheckKind) × (fault ≡ Bad kind) × IsUnknown names metadata stack (disorder_of kind)) }
@@ -85,10 +96,10 @@ impl KnownNames {
             return Err(CheckFault::Bad(CheckKind::UnknownMetadata { id: metadata }));
         };
         if stack == 0 {
-            return Ok((def, &[]));
+            return Ok((def, &self.none));
         }
         match self.stacks.get(u64::from(stack)) {
-            Some(bytes) => Ok((def, bytes.as_slice())),
+            Some(stack) => Ok((def, stack)),
             None => Err(CheckFault::Bad(CheckKind::UnknownStack { id: stack })),
         }
     }

@@ -52,7 +52,8 @@ impl Reading {
     pub fn take(&mut self, form: Form, piece: &[u8], out: &mut Vec<u8>) -> Result<(), AllocError>
         requires { used self.old + length piece.now < 2 ^ 63 }
         ensures read { (bytes text : List ℕ) → HasRead form bytes text self.old
-            → OnOk result (Appends (λ more. HasRead form (bytes ++ piece.now) (text ++ more) self.new) out.old.items out.new.items) }
+            → OnOk result (Appends (λ more. HasRead form (bytes ++ piece.now) (text ++ more) self.new)
+            out.old.items out.new.items) }
         ensures used { used self.new ≤ used self.old + length piece.now }
     {
         let mut here = 0;
@@ -118,7 +119,8 @@ fn list_all(
     out: &mut Vec<u8>,
 ) -> Result<(), AllocError>
     ensures { (before : List Item) (text : List ℕ) → IsChecked form before text listing.old misplaced.old
-        → OnOk result (Appends (λ more. IsChecked form (before ++ told_by lent.now) (text ++ more) listing.new misplaced.new) out.old.items out.new.items) }
+        → OnOk result (Appends (λ more. IsChecked form (before ++ told_by lent.now) (text ++ more) listing.new misplaced.new)
+        out.old.items out.new.items) }
 {
     list_items(listing, form, lent.items.as_slice(), misplaced, out)?;
     list_events(listing, form, &lent.events, misplaced, out)
@@ -132,7 +134,8 @@ fn list_items(
     out: &mut Vec<u8>,
 ) -> Result<(), AllocError>
     ensures { (before : List Item) (text : List ℕ) → IsChecked form before text listing.old misplaced.old
-        → OnOk result (Appends (λ more. IsChecked form (before ++ items.now) (text ++ more) listing.new misplaced.new) out.old.items out.new.items) }
+        → OnOk result (Appends (λ more. IsChecked form (before ++ items.now) (text ++ more) listing.new misplaced.new)
+        out.old.items out.new.items) }
 {
     for item in items {
         list(listing, form, item, misplaced, out)?;
@@ -148,7 +151,8 @@ fn list(
     out: &mut Vec<u8>,
 ) -> Result<(), AllocError>
     ensures { (before : List Item) (text : List ℕ) → IsChecked form before text listing.old misplaced.old
-        → OnOk result (Appends (λ more. IsChecked form (before ++ item.now ∷ []) (text ++ more) listing.new misplaced.new) out.old.items out.new.items) }
+        → OnOk result (Appends (λ more. IsChecked form (before ++ item.now ∷ []) (text ++ more) listing.new misplaced.new)
+        out.old.items out.new.items) }
 {
     if misplaced.is_some() {
         return Ok(());
@@ -169,7 +173,8 @@ fn list_events(
     out: &mut Vec<u8>,
 ) -> Result<(), AllocError>
     ensures { (before : List Item) (text : List ℕ) → IsChecked form before text listing.old misplaced.old
-        → OnOk result (Appends (λ more. IsChecked form (before ++ items_in events.now) (text ++ more) listing.new misplaced.new) out.old.items out.new.items) }
+        → OnOk result (Appends (λ more. IsChecked form (before ++ items_in events.now) (text ++ more) listing.new misplaced.new)
+        out.old.items out.new.items) }
 {
     for index in 0..events.len() {
         list_event(listing, form, &events.event(index), misplaced, out)?;
@@ -185,12 +190,13 @@ fn list_event(
     out: &mut Vec<u8>,
 ) -> Result<(), AllocError>
     ensures { (before : List Item) (text : List ℕ) → IsChecked form before text listing.old misplaced.old
-        → OnOk result (Appends (λ more. IsChecked form (before ++ item_of event.now ∷ []) (text ++ more) listing.new misplaced.new) out.old.items out.new.items) }
+        → OnOk result (Appends (λ more. IsChecked form (before ++ item_of event.now ∷ []) (text ++ more) listing.new misplaced.new)
+        out.old.items out.new.items) }
 {
     if misplaced.is_some() {
         return Ok(());
     }
-    match listing.event(form, event, out) {
+    match listing.event(form, event.head, event.payload, out) {
         Ok(()) => {}
         Err(CheckFault::Bad(kind)) => *misplaced = Some(Misplaced { at: event.at, kind }),
         Err(CheckFault::OutOfMemory) => return Err(AllocError),

@@ -1,7 +1,10 @@
 -- Digits at the end of a buffer, and behind blanks.
-use Rattle.std.proofs.Common.{◌≡◌, ℕ, ◌+◌, ◌-◌, ◌≤◌, List, [], ◌∷◌, ◌++◌, length, take, drop, replicate, decimal, suc, append_assoc, sym, ap, ◌∙◌, arith, append-nil, length-append}
+use Rattle.std.proofs.Common.{◌≡◌, ℕ, ◌+◌, ◌-◌, ◌/◌, ◌%◌, ◌<◌, ◌≤◌, inl, inr, List, [], ◌∷◌, ◌++◌, length, take, drop, replicate, decimal, suc, append_assoc, sym, ap, ◌∙◌, arith, append-nil, length-append}
 use Rattle.std.proofs.lemmas.List.{take_all, take-append-drop, take-append-le, take-replicate, drop-append-le, drop-replicate, length-replicate}
+use Rattle.std.proofs.lemmas.Bool.{cases_lt}
+use Rattle.std.proofs.lemmas.Fmt.{decimal_digit, decimal_step}
 use Rattle.pt_print.specs.Printed.{number_part}
+use Rattle.pt_lines.specs.Texts.{digits_in}
 use Rattle.pt_lines.specs.Json.{in_quotes}
 
 -- What stands from their start on is the digits.
@@ -58,3 +61,37 @@ earlier-blank text start end within front =
     ap (λ (xs : List ℕ). take start xs) whole
     ∙ take-append-le start (blank end) (drop end text) (omega (arith, within, length-replicate {A = ℕ} end 32))
     ∙ take-replicate {X = ℕ} start end 32 within
+
+-- ---- three digits
+
+three : {a b c x y z : ℕ} → a ≡ x → b ≡ y → c ≡ z → a ∷ b ∷ c ∷ [] ≡ x ∷ y ∷ z ∷ []
+three p q r = λ i. p i ∷ q i ∷ r i ∷ []
+
+-- A number's digits behind zeros, where the digits are these.
+filled : (number : ℕ) {digits : List ℕ} → decimal number ≡ digits → digits_in 3 number ≡ replicate (3 - length digits) 48 ++ digits
+filled number is = ap (λ (ds : List ℕ). replicate (3 - length ds) 48 ++ ds) is
+
+two-digits : (number : ℕ) → 10 ≤ number → number < 100 → decimal number ≡ (48 + number / 10) ∷ (48 + number % 10) ∷ []
+two-digits number some few =
+    decimal_step number some (omega (arith, few))
+    ∙ ap (λ (ds : List ℕ). ds ++ (48 + number % 10) ∷ []) (decimal_digit (number / 10) (omega (arith, few)))
+
+-- The digits of a number below 1000.
+pub three-digits : (number : ℕ) → number < 1000 → (48 + number / 100) ∷ (48 + number / 10 % 10) ∷ (48 + number % 10) ∷ [] ≡ digits_in 3 number
+three-digits number small =
+    elim (cases_lt number 10) [
+      | inl one ↦
+          three (omega (arith, one)) (omega (arith, one)) (omega (arith, one))
+          ∙ sym (filled number (decimal_digit number one))
+      | inr some ↦
+          elim (cases_lt number 100) [
+            | inl two ↦ three (omega (arith, two)) (omega (arith, two)) (omega arith) ∙ sym (filled number (two-digits number some two))
+            | inr more ↦
+                let tens : number / 10 / 10 ≡ number / 100 = omega arith in
+                three (omega (arith, tens)) (omega arith) (omega arith)
+                ∙ sym
+                (filled number
+                (decimal_step number some (omega (arith, small))
+                ∙ ap (λ (ds : List ℕ). ds ++ (48 + number % 10) ∷ []) (two-digits (number / 10) (omega (arith, more)) (omega (arith, small)))))
+          ]
+    ]

@@ -1,5 +1,5 @@
 -- The objects of trace events, put piece by piece.
-use Rattle.std.proofs.Common.{◌≡◌, ℕ, true, false, replicate, List, [], ◌∷◌, ◌++◌, length, refl, ap, sym, ◌∙◌, subst, append_assoc}
+use Rattle.std.proofs.Common.{◌≡◌, ℕ, true, false, replicate, List, [], ◌∷◌, ◌++◌, length, refl, ap, sym, ◌∙◌, append_assoc}
 use Rattle.std.specs.Prelude.{codes}
 use Rattle.std.specs.List.{concat}
 use Rattle.std.proofs.lemmas.List.{append-nil}
@@ -13,10 +13,12 @@ use Rattle.pt_lines.specs.declared.origin.Origin.{Origin}
 use Rattle.pt_lines.specs.Line.{Event}
 use Rattle.pt_lines.specs.Forms.{IsLine}
 use Rattle.pt_lines.specs.Texts.{quoted}
-use Rattle.pt_lines.specs.Json.{IsPayloadMember, behind_commas, integer, object}
-use Rattle.pt_lines.specs.Chromium.{event_phase, lost_counter, moment_text, next_object, phase_of, phase_text, point_instant}
+use Rattle.pt_lines.specs.Json.{behind_commas, integer, object}
+use Rattle.pt_lines.specs.Chromium.{event_phase, lost_counter, microseconds, moment_text, nanoseconds, next_object, phase_of, phase_text, point_instant}
 use Rattle.pt_lines.specs.Appends.{Appends}
-use Rattle.pt_lines.specs.state.Pieces.{end_of, instant_text, named_pieces, placed_pieces, span_text}
+use Rattle.pt_lines.specs.state.Opening.{IsNextPayload}
+use Rattle.pt_lines.specs.state.Pieces.{end_of, instant_text, named_pieces, placed_text, span_text}
+use Rattle.pt_lines.proofs.Steps.{payload-of, then}
 
 -- ---- an object, member by member
 
@@ -83,8 +85,13 @@ instant-is origin point =
     ∙ ap (λ (xs : List ℕ). codes ",\n{\"name\":\"point\",\"ph\":\"i\",\"s\":\"p\"," ++ (moment_text origin point.stamp ++ (codes ",\"args\":{" ++ xs)))
     (one-argument (codes "\"threads\":") count (codes "}"))
 
+placed-is : (first name time pid process tid thread args number comma payload end : List ℕ)
+    → first ++ ((((name ++ time) ++ pid) ++ process) ++ (tid ++ (thread ++ (args ++ (number ++ (comma ++ (payload ++ end)))))))
+    ≡ ((first ++ name) ++ (time ++ (pid ++ (process ++ (tid ++ (thread ++ (args ++ number))))))) ++ (comma ++ (payload ++ end))
+placed-is first name time pid process tid thread args number comma payload end = simp append_assoc
+
 entry-is : (origin : Origin) (event : EventEntry) (payload : List ℕ)
-    → event_phase origin event payload ≡ concat (named_pieces event) ++ (concat (placed_pieces origin event) ++ (payload ++ codes "}}"))
+    → event_phase origin event payload ≡ concat (named_pieces event) ++ (placed_text origin event ++ (codes "," ++ (payload ++ codes "}}")))
 entry-is origin event payload =
     let phase = phase_of event.activity event.def.name in
     let name = quoted phase.1 in
@@ -94,15 +101,18 @@ entry-is origin event payload =
     let thread = integer event.thread in
     let number = integer event.number in
     let arguments = codes "\"args\":" ++ object ((codes "\"number\":" ++ number) ∷ payload ∷ []) in
-    let behind = payload ∷ codes "}}" ∷ [] in
+    let behind =
+    codes "," ∷ moment ∷ codes ",\"tid\":" ∷ thread ∷ codes ",\"args\":{\"number\":" ∷ number ∷ codes "," ∷ payload ∷ codes "}}" ∷ [] in
     entry-on (codes "\"name\":" ++ name) ((codes "\"cat\":" ++ category) ∷ kind ∷ moment ∷ (codes "\"tid\":" ++ thread) ∷ arguments ∷ [])
     ∙ ap
     (λ (xs : List ℕ).
     codes ",\n{\"name\":"
     ++ (name ++ (codes ",\"cat\":" ++ (category ++ (codes "," ++ (kind ++ (codes "," ++ (moment ++ (codes ",\"tid\":" ++ (thread ++ (codes ",\"args\":{" ++ xs)))))))))))
     (two-arguments (codes "\"number\":") number (codes ",") payload (codes "}"))
-    ∙ concat-append (named_pieces event) (placed_pieces origin event ++ behind)
-    ∙ ap (λ (xs : List ℕ). concat (named_pieces event) ++ xs) (concat-append (placed_pieces origin event) behind)
+    ∙ concat-append (named_pieces event) behind
+    ∙ ap (λ (xs : List ℕ). concat (named_pieces event) ++ xs)
+    (placed-is (codes ",") (codes "\"ts\":") (microseconds (nanoseconds origin.frequency event.stamp)) (codes ",\"pid\":") (integer origin.process)
+    (codes ",\"tid\":") thread (codes ",\"args\":{\"number\":") number (codes ",") payload (codes "}}"))
 
 -- An event of no activity is an instant of its name.
 pub plain-is : (event : EventEntry) → is_same_text event.activity (replicate 16 0) ≡ true → concat (named_pieces event) ≡ instant_text event.def
@@ -115,32 +125,36 @@ phased-is event some =
     let start = codes ",\n{\"name\":" ∷ quoted (end_of event.def.name).1 ∷ codes ",\"cat\":" ∷ quoted event.def.provider ∷ codes "," ∷ [] in
     rw some (concat-append start (phase ∷ []) ∙ ap (λ (xs : List ℕ). concat start ++ xs) (append-nil phase))
 
--- The moment of an event, its process, and what stands behind them, put in three pieces.
-pub place-is : (old comma name time process number rest : List ℕ)
-    → ((old ++ comma) ++ (name ++ time)) ++ (process ++ (number ++ rest)) ≡ old ++ (comma ++ ((((name ++ time) ++ process) ++ number) ++ rest))
-place-is old comma name time process number rest = simp append_assoc
+-- Where an event was, and what opens its fields.
+pub ids-is : (pid process tid thread args number begun : List ℕ)
+    → pid ++ (process ++ (tid ++ (thread ++ (args ++ (number ++ begun))))) ≡ (pid ++ (process ++ (tid ++ (thread ++ (args ++ number))))) ++ begun
+ids-is pid process tid thread args number begun = simp append_assoc
 
-pieces : (old named placed payload end : List ℕ) → (((old ++ named) ++ placed) ++ payload) ++ end ≡ old ++ (named ++ (placed ++ (payload ++ end)))
-pieces old named placed payload end = simp append_assoc
+-- They behind its moment, in one piece or in three.
+pub placed-on : (name time ids begun : List ℕ) → name ++ (time ++ (ids ++ begun)) ≡ (name ++ (time ++ ids)) ++ begun
+placed-on name time ids begun = simp append_assoc
+
+pub late-is : (old comma name time ids begun : List ℕ) → ((old ++ comma) ++ (name ++ time)) ++ (ids ++ begun) ≡ old ++ (((comma ++ name) ++ (time ++ ids)) ++ begun)
+late-is old comma name time ids begun = simp append_assoc
+
+pieces : (old named placed comma payload end : List ℕ) → (((old ++ named) ++ placed) ++ (comma ++ payload)) ++ end ≡ old ++ (named ++ (placed ++ (comma ++ (payload ++ end))))
+pieces old named placed comma payload end = simp append_assoc
 
 -- The object of an event was put.
 pub entry-put : (origin : Origin) (processor thread : ℕ) (event : EventEntry) (fields : List FieldDef) (payload old first second third new : List ℕ)
     → fields ≡ event.def.fields → payload ≡ event.payload
     → first ≡ old ++ concat (named_pieces event)
-    → second ≡ first ++ concat (placed_pieces origin event)
-    → Appends (IsPayloadMember fields payload (payload_at fields payload)) second third
+    → second ≡ first ++ placed_text origin event
+    → Appends (IsNextPayload fields payload (payload_at fields payload)) second third
     → new ≡ third ++ codes "}}"
     → Appends (IsLine forms.Chromium (Event origin processor thread event)) old new
-entry-put origin processor thread event fields payload old first second third new same_fields same_payload named placed (member, is_member, put) end =
-    let told : IsPayloadMember event.def.fields event.payload (payload_at event.def.fields event.payload) member =
-    subst (λ (p : List ℕ). IsPayloadMember event.def.fields p (payload_at event.def.fields p) member) same_payload
-    (subst (λ (f : List FieldDef). IsPayloadMember f payload (payload_at f payload) member) same_fields is_member) in
+entry-put origin processor thread event fields payload old first second third new same_fields same_payload named placed (next, (member, is_member, behind), put) end =
+    let told = payload-of fields payload event.def.fields event.payload member same_fields same_payload is_member in
     let start = concat (named_pieces event) in
-    let place = concat (placed_pieces origin event) in (
+    let place = placed_text origin event in (
       event_phase origin event member,
       (member, told, refl),
-      end
-          ∙ ap (λ (xs : List ℕ). xs ++ codes "}}") (put ∙ ap (λ (xs : List ℕ). xs ++ member) (placed ∙ ap (λ (xs : List ℕ). xs ++ place) named))
-          ∙ pieces old start place member (codes "}}")
+      then (codes "}}") (then (codes "," ++ member) (then place named placed) (put ∙ ap (λ (xs : List ℕ). second ++ xs) behind)) end
+          ∙ pieces old start place (codes ",") member (codes "}}")
           ∙ ap (λ (xs : List ℕ). old ++ xs) (sym (entry-is origin event member)),
     )

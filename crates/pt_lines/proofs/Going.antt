@@ -1,5 +1,5 @@
 -- The fields of a payload, put one after another.
-use Rattle.std.proofs.Common.{◌≡◌, ℕ, true, false, eqb, List, [], ◌∷◌, ◌++◌, length, take, Some, None, Ok, Err, refl, sym, ap, ◌∙◌, subst, append_assoc}
+use Rattle.std.proofs.Common.{◌≡◌, ℕ, ◌+◌, ◌<◌, suc, true, false, eqb, List, [], ◌∷◌, ◌++◌, length, take, drop, get_or, Some, None, Ok, Err, refl, sym, ap, ◌∙◌, subst, append_assoc, add-one, drop-cons}
 use Rattle.std.proofs.Math.Seq.{take-append_seam}
 use Rattle.ep_defs.specs.declared.event.FieldDef.{FieldDef}
 use Rattle.ep_defs.specs.Event.{deepest_after}
@@ -18,6 +18,13 @@ pub record Going (fields : List FieldDef) (payload : List ℕ) (old : List ℕ) 
   pub goes : (values : List FieldValue) (rest : List ℕ) → values_at left bytes ≡ Ok (values, rest)
       → (all : List FieldValue) × (values_at fields payload ≡ Ok (all, rest)) × ((more : List ℕ) → AreFields opened left values more → AreFields 0 fields all (text ++ more))
   pub stops : values_at left bytes ≡ Err DoesNotFit → values_at fields payload ≡ Err DoesNotFit
+
+-- The fields that are left begin with this one.
+pub split-at : (fields : List FieldDef) (index : ℕ) (field : FieldDef) → index < length fields → field ≡ get_or fields index field → drop index fields ≡ field ∷ drop (index + 1) fields
+split-at fields index field within is =
+    drop-cons fields index field within
+    ∙ ap (λ (f : FieldDef). f ∷ drop (suc index) fields) (sym is)
+    ∙ ap (λ (n : ℕ). field ∷ drop n fields) (sym (add-one index))
 
 -- A field and those after it.
 pub values-on : (field : FieldDef) (others : List FieldDef) (bytes next rest : List ℕ) (kind : FieldKind) (value : FieldValue) (values : List FieldValue) → kind_of field.code ≡ Some kind → value_at kind bytes ≡ Ok (value, next) → values_at others next ≡ Ok (values, rest) → values_at (field ∷ others) bytes ≡ Ok (value ∷ values, rest)
@@ -62,8 +69,9 @@ going-on fields payload old field others bytes next opened out named now kind va
 
 -- ---- the end
 
-keeps-front : (old text out : List ℕ) → out ≡ old ++ text → Keeps old out
-keeps-front old text out put = ap (λ (xs : List ℕ). take (length old) xs) put ∙ take-append_seam old text
+-- What stood before the fields stands.
+going-keeps : (fields : List FieldDef) (payload old : List ℕ) (left : List FieldDef) (bytes : List ℕ) (opened : ℕ) (out : List ℕ) → Going fields payload old left bytes opened out → Keeps old out
+going-keeps fields payload old left bytes opened out going = ap (λ (xs : List ℕ). take (length old) xs) going.put ∙ take-append_seam old going.text
 
 misfit-puts : (fields : List FieldDef) (payload old out : List ℕ) → payload_at fields payload ≡ Err DoesNotFit → Keeps old out → PutsValues fields (payload_at fields payload) false old out
 misfit-puts fields payload old out e keeps = rw e keeps
@@ -73,7 +81,7 @@ pub ends-misfit : (fields : List FieldDef) (payload old : List ℕ) (left : List
     → Going fields payload old left bytes opened out → values_at left bytes ≡ Err DoesNotFit → PutsValues fields (payload_at fields payload) false old out
 ends-misfit fields payload old left bytes opened out going misfit =
     let none : values_at fields payload ≡ Err DoesNotFit = going.stops misfit in
-    misfit-puts fields payload old out (rw none refl) (keeps-front old going.text out going.put)
+    misfit-puts fields payload old out (rw none refl) (going-keeps fields payload old left bytes opened out going)
 
 pub no-fields : (bytes : List ℕ) → values_at [] bytes ≡ Ok ([], bytes)
 unfolding values_at
@@ -85,7 +93,7 @@ pub ends-over : (fields : List FieldDef) (payload old bytes : List ℕ) (opened 
 ends-over fields payload old bytes opened out going some =
     let all = going.goes [] bytes (no-fields bytes) in
     let read : values_at fields payload ≡ Ok (all.0, bytes) = all.1 in
-    misfit-puts fields payload old out (rw (read, some) refl) (keeps-front old going.text out going.put)
+    misfit-puts fields payload old out (rw (read, some) refl) (going-keeps fields payload old [] bytes opened out going)
 
 -- All fields have their values, and no bytes are left.
 pub ends-all : (fields : List FieldDef) (payload old bytes : List ℕ) (opened : ℕ) (out now : List ℕ)

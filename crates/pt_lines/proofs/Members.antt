@@ -10,8 +10,9 @@ use Rattle.nt_fields.specs.declared.kind.FieldKind.{FieldKind}
 use Rattle.nt_fields.specs.Kinds.{kind_of}
 use Rattle.nt_fields.specs.Values.{FieldValue, Misfit, DoesNotFit, value_at, values_at, payload_at}
 use Rattle.pt_lines.specs.declared.json.nest.Nest.{Nest}
-use Rattle.pt_lines.specs.Json.{AreShownBy, IsPayloadMember, IsShownBy, commas, in_quotes, members, members_of}
+use Rattle.pt_lines.specs.Json.{AreShownBy, IsShownBy, commas, in_quotes, members, members_of}
 use Rattle.pt_lines.specs.state.Nest.{Adds, PutsMembers, still}
+use Rattle.pt_lines.specs.state.Opening.{IsNextPayload, opening}
 use Rattle.pt_lines.proofs.Going.{values-on, values-off, no-fields}
 
 -- Of the fields some are put, and these are left, with these bytes and these open objects.
@@ -88,18 +89,32 @@ members-all fields payload old bytes nest out now going none put =
 
 -- ---- a payload
 
+-- Its fields were put.
+pub payload-fits : (fields : List FieldDef) (payload : List ℕ) (answer : Result (List FieldValue) Misfit) (old mid now new : List ℕ) → PutsMembers fields answer true mid now → mid ≡ old ++ opening
+    → new ≡ now ++ codes "}" → Appends (IsNextPayload fields payload answer) old new
+payload-fits fields payload (Ok values) old mid now new (inner, are, put) start end =
+    let member : List ℕ = codes "\"fields\":{" ++ inner ++ codes "}" in (
+      codes "," ++ member,
+      (member, (inner, are, refl), refl),
+      end
+          ∙ ap (λ (xs : List ℕ). xs ++ codes "}") (put ∙ ap (λ (xs : List ℕ). xs ++ inner) start)
+          ∙ ap (λ (xs : List ℕ). xs ++ codes "}") (append_assoc old opening inner)
+          ∙ append_assoc old (opening ++ inner) (codes "}"),
+    )
+payload-fits fields payload (Err misfit) old mid now new puts start end = absurd puts
+
 -- It stands whole where they were to stand.
-pub payload-misfits : (fields : List FieldDef) (payload : List ℕ) (answer : Result (List FieldValue) Misfit) (old mid now word new : List ℕ) → PutsMembers fields answer false mid now → mid ≡ old ++ codes "\"fields\":{"
-    → word ≡ take (length old) now ++ codes "\"payload\":" → new ≡ word ++ in_quotes (encode_lower payload)
-    → Appends (IsPayloadMember fields payload answer) old new
+pub payload-misfits : (fields : List FieldDef) (payload : List ℕ) (answer : Result (List FieldValue) Misfit) (old mid now word new : List ℕ) → PutsMembers fields answer false mid now → mid ≡ old ++ opening
+    → word ≡ take (length old) now ++ codes ",\"payload\":" → new ≡ word ++ in_quotes (encode_lower payload)
+    → Appends (IsNextPayload fields payload answer) old new
 payload-misfits fields payload (Ok values) old mid now word new puts start cut end = absurd puts
 payload-misfits fields payload (Err misfit) old mid now word new (rest, put) start cut end =
     let kept : take (length old) now ≡ old =
-    ap (λ (xs : List ℕ). take (length old) xs) (put ∙ ap (λ (xs : List ℕ). xs ++ rest) start ∙ append_assoc old (codes "\"fields\":{") rest)
-    ∙ take-append_seam old (codes "\"fields\":{" ++ rest) in (
-      codes "\"payload\":" ++ in_quotes (encode_lower payload),
-      refl,
+    ap (λ (xs : List ℕ). take (length old) xs) (put ∙ ap (λ (xs : List ℕ). xs ++ rest) start ∙ append_assoc old opening rest)
+    ∙ take-append_seam old (opening ++ rest) in (
+      codes ",\"payload\":" ++ in_quotes (encode_lower payload),
+      (codes "\"payload\":" ++ in_quotes (encode_lower payload), refl, refl),
       end
-          ∙ ap (λ (xs : List ℕ). xs ++ in_quotes (encode_lower payload)) (cut ∙ ap (λ (xs : List ℕ). xs ++ codes "\"payload\":") kept)
-          ∙ append_assoc old (codes "\"payload\":") (in_quotes (encode_lower payload)),
+          ∙ ap (λ (xs : List ℕ). xs ++ in_quotes (encode_lower payload)) (cut ∙ ap (λ (xs : List ℕ). xs ++ codes ",\"payload\":") kept)
+          ∙ append_assoc old (codes ",\"payload\":") (in_quotes (encode_lower payload)),
     )

@@ -1,6 +1,6 @@
 -- What is put behind some bytes, one piece after another.
-use Rattle.std.proofs.Common.{◌≡◌, ℕ, zero, suc, cond, List, [], ◌∷◌, ◌++◌, Result, refl, sym, ap, ◌∙◌, subst, append_assoc}
-use Rattle.std.specs.Prelude.{OnOk, Ok, Err, false, is_err, is_ok, codes}
+use Rattle.std.proofs.Common.{◌≡◌, ℕ, zero, suc, List, [], ◌∷◌, ◌++◌, Result, refl, sym, ap, ◌∙◌, subst, append_assoc}
+use Rattle.std.specs.Prelude.{OnOk, codes}
 use Rattle.ep_defs.specs.declared.event.FieldDef.{FieldDef}
 use Rattle.ep_defs.specs.Entry.{EventEntry}
 use Rattle.nt_fields.specs.Values.{payload_at}
@@ -9,6 +9,7 @@ use Rattle.pt_lines.specs.declared.origin.Origin.{Origin}
 use Rattle.pt_lines.specs.Line.{Event}
 use Rattle.pt_lines.specs.Texts.{IsPayload, event_start, closes}
 use Rattle.pt_lines.specs.Forms.{IsLine}
+use Rattle.pt_lines.specs.Json.{IsPayloadMember}
 use Rattle.pt_lines.specs.Page.{next_item}
 use Rattle.std.specs.List.{concat}
 use Rattle.std.proofs.lemmas.List.{append-nil}
@@ -37,21 +38,11 @@ pub both : (P Q R : List ℕ → Type 0) (old mid new : List ℕ) → ((a b : Li
 both P Q R old mid new joined (a, first, here) (b, second, there) =
     (a ++ b, joined a b first second, there ∙ ap (λ (xs : List ℕ). xs ++ b) here ∙ append_assoc old a b)
 
--- What follows of an answer that is no fault.
-pub on-ok-is : {E A P : Type 0} (answer : Result A E) → OnOk answer P → is_err answer ≡ false → P
-on-ok-is (Ok x) p e = p
-on-ok-is (Err fault) p e = absurd (cc)
-
 -- The end of one object more.
 pub closes-more : (count : ℕ) → closes (suc count) ≡ closes count ++ codes " }"
 closes-more zero = refl
 closes-more (suc count) =
     ap (λ (rest : List ℕ). codes " }" ++ rest) (closes-more count) ∙ sym (append_assoc (codes " }") (closes count) (codes " }"))
-
--- What a call that appends says, where it appends this text.
-pub ok-items : {E A : Type 0} (answer : Result A E) (old new piece text : List ℕ) → new ≡ cond (is_ok answer) (old ++ piece) old → piece ≡ text → OnOk answer (new ≡ old ++ text)
-ok-items (Ok x) old new piece text e is = e ∙ ap (λ (xs : List ℕ). old ++ xs) is
-ok-items (Err fault) old new piece text e is = tt
 
 -- The line of an event was put.
 pub event-put : (origin : Origin) (processor thread : ℕ) (event : EventEntry) (fields : List FieldDef) (payload old start mid new : List ℕ) → fields ≡ event.def.fields → payload ≡ event.payload → start ≡ old ++ event_start event → Appends (IsPayload fields payload (payload_at fields payload)) start mid → new ≡ mid ++ 10 ∷ [] → Appends (IsLine forms.Lines (Event origin processor thread event)) old new
@@ -66,11 +57,22 @@ event-put origin processor thread event fields payload old start mid new same sa
           ∙ append_assoc old (event_start event ++ text) (10 ∷ []),
     )
 
+-- The member of a payload is that of the event's.
+pub payload-of : (fields : List FieldDef) (payload : List ℕ) (same : List FieldDef) (bytes member : List ℕ) → fields ≡ same → payload ≡ bytes
+    → IsPayloadMember fields payload (payload_at fields payload) member → IsPayloadMember same bytes (payload_at same bytes) member
+payload-of fields payload same bytes member same_fields same_payload is =
+    subst (λ (p : List ℕ). IsPayloadMember same p (payload_at same p) member) same_payload
+    (subst (λ (f : List FieldDef). IsPayloadMember f payload (payload_at f payload) member) same_fields is)
+
 -- ---- pieces
 
 -- A piece more.
 pub then : {mid text new : List ℕ} (piece : List ℕ) → mid ≡ text → new ≡ mid ++ piece → new ≡ text ++ piece
 then piece before now = now ∙ ap (λ (xs : List ℕ). xs ++ piece) before
+
+-- Two pieces more.
+pub two-put : (old first second : List ℕ) {mid new : List ℕ} → mid ≡ old ++ first → new ≡ mid ++ second → new ≡ old ++ (first ++ second)
+two-put old first second one two = then second one two ∙ append_assoc old first second
 
 -- So it is where the piece is told otherwise.
 pub then-by : {A : Type 0} {mid text new : List ℕ} (f : A → List ℕ) (x y : A) → x ≡ y → mid ≡ text → new ≡ mid ++ f x → new ≡ text ++ f y

@@ -1,3 +1,4 @@
 pub mod Fields
 pub mod Nest
+pub mod Opening
 pub mod Pieces

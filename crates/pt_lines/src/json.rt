@@ -2,5 +2,5 @@
 pub mod fields;
 pub mod line;
 pub mod nest;
-mod stack;
+pub mod stack;
 pub mod value;

@@ -29,6 +29,7 @@ mod value;
 pub use chromium::line::put_error as put_error_tail;
 pub use form::Form;
 pub use json::line::put_error;
+pub use json::stack::ShownStack;
 pub use line::{EventLine, put_event, put_lost, put_point};
 pub use named::{NamedDef, NamedField};
 pub use origin::Origin;

@@ -11,6 +11,7 @@ ghost use Rattle.pt_lines.specs.state.Pieces.{names_text, numbers_text};
 
 use crate::fields::put_payload;
 use crate::form::Form;
+use crate::json::stack::ShownStack;
 use crate::named::NamedDef;
 use crate::origin::Origin;
 use crate::place::place_number;
@@ -33,7 +34,7 @@ pub struct EventLine<'a> {
     pub def: &'a NamedDef,
     pub activity: &'a [u8; 16],
     pub related: &'a [u8; 16],
-    pub stack: &'a [u8],
+    pub stack: &'a ShownStack,
     pub payload: &'a [u8],
 }
 

@@ -1,12 +1,12 @@
 //! A definition with what the lines of its events say of it.
 ghost use Rattle.std.specs.Prelude.{◌≡◌, IfOk};
 ghost use Rattle.pt_lines.specs.Json.{behind_commas, definition_members};
-ghost use Rattle.pt_lines.specs.state.Pieces.{end_of as end_in, instant_text, label_text, member_text, names_text, span_text};
+ghost use Rattle.pt_lines.specs.state.Pieces.{alone_text, end_of as end_in, instant_text, label_text, member_text, names_text, span_text};
 
 use crate::chromium::line::{put_instant, put_span};
 use crate::chromium::phase::{Phase, end_of};
 use crate::fields::put_label;
-use crate::json::line::put_definition;
+use crate::json::line::{put_alone, put_definition};
 use crate::json::nest::put_member;
 use crate::line::put_names;
 use ep_defs::{Duplicate, EventDef, FieldDef};
@@ -22,6 +22,8 @@ pub struct NamedDef {
     names: Vec<u8>,
     // Its members of an object.
     members: Vec<u8>,
+    // They and those of no activity, up to the stack.
+    alone: Vec<u8>,
     // A trace event up to its moment, for an instant.
     instant: Vec<u8>,
     // A trace event up to its phase, for an event of an activity, and what such an event is.
@@ -33,15 +35,15 @@ impl Model for NamedDef {
     ghost use Rattle.std.specs.Prelude.{◌≡◌};
     ghost use Rattle.ep_defs.specs.declared.event.EventDef.{EventDef};
     ghost use Rattle.pt_lines.specs.Json.{behind_commas, definition_members};
-    ghost use Rattle.pt_lines.specs.state.Pieces.{end_of, instant_text, names_text, span_text};
+    ghost use Rattle.pt_lines.specs.state.Pieces.{alone_text, end_of, instant_text, names_text, span_text};
 
     ghost Value = { EventDef };
 
     ghost view = { λ d. d.def };
 
     ghost invariant = { λ d. (d.fields.items ≡ d.def.fields) × (d.names.items ≡ names_text d.def)
-        × (d.members.items ≡ behind_commas (definition_members d.def)) × (d.instant.items ≡ instant_text d.def)
-        × (d.span.items ≡ span_text d.def) × (d.phase ≡ (end_of d.def.name).0) };
+        × (d.members.items ≡ behind_commas (definition_members d.def)) × (d.alone.items ≡ alone_text d.def)
+        × (d.instant.items ≡ instant_text d.def) × (d.span.items ≡ span_text d.def) × (d.phase ≡ (end_of d.def.name).0) };
 }
 
 impl NamedDef {
@@ -53,6 +55,8 @@ impl NamedDef {
         put_names(&mut names, def)?;
         let mut members = Vec::new(alloc);
         put_definition(&mut members, def)?;
+        let mut alone = Vec::new(alloc);
+        put_alone(&mut alone, def)?;
         let mut instant = Vec::new(alloc);
         put_instant(&mut instant, def)?;
         let mut span = Vec::new(alloc);
@@ -65,6 +69,7 @@ impl NamedDef {
             fields,
             names,
             members,
+            alone,
             instant,
             span,
             phase,
@@ -90,6 +95,13 @@ impl NamedDef {
         ensures { result.now ≡ behind_commas (definition_members self.now) }
     {
         self.members.as_slice()
+    }
+
+    /// What an object says of it and of no activity, up to the stack.
+    pub fn alone(&self) -> &[u8]
+        ensures { result.now ≡ alone_text self.now }
+    {
+        self.alone.as_slice()
     }
 
     /// What a trace event says of it that is an instant, up to its moment.

@@ -1,8 +1,9 @@
 //! Pieces that are written into a buffer, the last one first, so that all of them go out in one piece. Each ends at a place of the
 //! buffer and answers where it starts.
-ghost use Rattle.std.specs.Prelude.{◌≡◌, ◌+◌, ◌≤◌, ◌++◌, length, take, drop, replicate};
+ghost use Rattle.std.specs.Prelude.{◌≡◌, ◌+◌, ◌<◌, ◌≤◌, ◌++◌, length, take, drop, replicate};
 ghost use Rattle.pt_print.specs.Printed.{number_part};
 ghost use Rattle.pt_lines.specs.declared.place.TheConstants.{NUMBER_BYTES, INTEGER_BYTES};
+ghost use Rattle.pt_lines.specs.Texts.{digits_in};
 ghost use Rattle.pt_lines.specs.Json.{integer};
 
 use crate::limits::MOST_EXACT;
@@ -71,4 +72,21 @@ pub fn place_member(text: &mut [u8], end: usize, name: &[u8], number: u64) -> us
 {
     let start = place_integer(text, end, number);
     place_word(text, start, name)
+}
+
+/// Writes the three digits of a number below 1000.
+pub fn place_three(text: &mut [u8], end: usize, number: u16) -> usize
+    requires within { end ≤ length text.old }
+    requires room { 3 ≤ end }
+    requires small { number < 1000 }
+    ensures start { result + 3 ≡ end }
+    ensures written { drop result text.new ≡ digits_in 3 number ++ drop end text.old }
+    ensures len { length text.new ≡ length text.old }
+{
+    let digits = [
+        b'0' + (number / 100) as u8,
+        b'0' + (number / 10 % 10) as u8,
+        b'0' + (number % 10) as u8,
+    ];
+    place_word(text, end, &digits)
 }

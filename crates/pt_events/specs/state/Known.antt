@@ -1,5 +1,5 @@
 -- What the maps of ids and of threads stand for.
-use Rattle.std.specs.Prelude.{◌≡◌, ℕ, List, Some, Err, unwrap_or}
+use Rattle.std.specs.Prelude.{◌≡◌, ℕ, List, [], Some, Err, unwrap_or}
 use Rattle.ep_defs.specs.declared.event.EventDef.{EventDef}
 use Rattle.ep_defs.specs.declared.item.ItemKind.TheVariants as item
 use Rattle.ep_defs.specs.Gaps.{Sighting}
@@ -13,6 +13,7 @@ use Rattle.pt_events.specs.Lines.{last_of}
 pub record Knows (names : Names) (known : KnownNames) : Type 0 where
   pub definitions : (id : ℕ) → value_at known.definitions id ≡ lookup id names.definitions
   pub stacks : (id : ℕ) → value_at known.stacks id ≡ lookup id names.stacks
+  pub none : known.none ≡ []
 
 -- Both ids of an event stand for something.
 pub record IsFound (names : Names) (metadata stack : ℕ) (def : EventDef) (bytes : List ℕ) : Type 0 where

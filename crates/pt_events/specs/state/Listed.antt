@@ -3,8 +3,6 @@ use Rattle.std.specs.Prelude.{◌≡◌, ℕ, List, [], ◌∷◌, ◌++◌, IsO
 use Rattle.std.specs.List.{flat_map}
 use Rattle.ep_defs.specs.declared.item.ItemKind.{ItemKind}
 use Rattle.nt_blocks.specs.Ordered.{no_names, told_after}
-use Rattle.nt_blocks.specs.declared.event_body.BodyEvent.{BodyEvent}
-use Rattle.nt_blocks.specs.Placed.{event_of}
 use Rattle.nt_check.specs.state.Took.{names_at}
 use Rattle.pt_events.specs.declared.listing.Listing.{Listing}
 use Rattle.ep_defs.specs.Entry.{EventEntry}
@@ -21,10 +19,6 @@ use Rattle.pt_events.specs.state.Known.{Knows, HasSeen}
 abbrev pub origin_at : Origin → List ItemKind → Origin
 origin_at origin [] = origin
 origin_at origin (kind ∷ kinds) = origin_at (origin_after origin kind) kinds
-
--- The event of a body.
-abbrev pub kind_of : BodyEvent → ItemKind
-kind_of event = event_of event.head.now event.payload.now
 
 -- These items were listed, in this order.
 pub record HasListed (kinds : List ItemKind) (listing : Listing) : Type 0 where

@@ -1,7 +1,9 @@
 -- What was read of a stream.
 use Rattle.std.specs.Prelude.{ℕ, List, Option, Some, None, Result}
 use Rattle.ep_defs.specs.declared.item.Item.{Item}
+use Rattle.nt_blocks.specs.declared.event_body.BodyEvent.{BodyEvent}
 use Rattle.nt_blocks.specs.Ordered.{kinds_of}
+use Rattle.nt_blocks.specs.Placed.{event_of}
 use Rattle.nt_blocks.specs.Verdict.{verdict}
 use Rattle.nt_read.specs.Answers.{items_of}
 use Rattle.nt_read.specs.declared.fault.ReadFault.{ReadFault}
@@ -15,8 +17,7 @@ use Rattle.pt_events.specs.declared.listing.Listing.{Listing}
 use Rattle.pt_events.specs.declared.reading.Misplaced.{Misplaced}
 use Rattle.pt_events.specs.declared.reading.Reading.{Reading}
 use Rattle.pt_events.specs.Found.{AreLinesOf, IsListed, IsCut, StandsBefore}
-use Rattle.nt_blocks.specs.declared.event_body.BodyEvent.{BodyEvent}
-use Rattle.pt_events.specs.state.Listed.{HasListed, kind_of}
+use Rattle.pt_events.specs.state.Listed.{HasListed}
 
 -- The text is the lines of all items, or of those before the first that can't stand where it does.
 abbrev pub IsChecked : Form → List Item → List ℕ → Listing → Option Misplaced → Type 0
@@ -34,7 +35,7 @@ IsFed bytes more fed lent = (answer : Result (Unit {0}) ReadFault) × reader.Tak
 
 -- The item of an event of a body.
 abbrev pub item_of : BodyEvent → Item
-item_of event = record { at = event.at; kind = kind_of event }
+item_of event = record { at = event.at; kind = event_of event.head.now event.payload.now }
 
 -- How many bytes were read.
 abbrev pub used : Reading → ℕ

@@ -8,8 +8,8 @@ use Rattle.ep_defs.specs.Entry.{EventEntry}
 use Rattle.pt_lines.specs.declared.chromium.phase.Phase.{Phase}
 use Rattle.pt_lines.specs.declared.origin.Origin.{Origin}
 use Rattle.pt_lines.specs.Texts.{name_unit, quoted}
-use Rattle.pt_lines.specs.Json.{integer}
-use Rattle.pt_lines.specs.Chromium.{moment_text, phase_by, phase_of, phase_text, stem_of}
+use Rattle.pt_lines.specs.Json.{activity_members, behind_commas, definition_members, integer}
+use Rattle.pt_lines.specs.Chromium.{microseconds, nanoseconds, phase_by, phase_of, phase_text, stem_of}
 
 -- What it is in this phase of this name.
 abbrev pub pieces_in : Phase × List ℕ → EventEntry → List (List ℕ)
@@ -20,10 +20,18 @@ pieces_in phase event =
 abbrev pub named_pieces : EventEntry → List (List ℕ)
 named_pieces event = pieces_in (phase_of event.activity event.def.name) event
 
+-- Where it was, up to its payload.
+abbrev pub ids_text : Origin → EventEntry → List ℕ
+ids_text origin event =
+    codes ",\"pid\":" ++ (integer origin.process ++ (codes ",\"tid\":" ++ (integer event.thread ++ (codes ",\"args\":{\"number\":" ++ integer event.number))))
+
 -- When and where it was.
-abbrev pub placed_pieces : Origin → EventEntry → List (List ℕ)
-placed_pieces origin event =
-    codes "," ∷ moment_text origin event.stamp ∷ codes ",\"tid\":" ∷ integer event.thread ∷ codes ",\"args\":{\"number\":" ∷ integer event.number ∷ codes "," ∷ []
+abbrev pub placed_text : Origin → EventEntry → List ℕ
+placed_text origin event = codes ",\"ts\":" ++ (microseconds (nanoseconds origin.frequency event.stamp) ++ ids_text origin event)
+
+-- What it is in an object, and its activities, up to its stack.
+abbrev pub described_text : EventEntry → List ℕ
+described_text event = (behind_commas (definition_members event.def) ++ behind_commas (activity_members event)) ++ codes ",\"stack\":"
 
 -- The word and the numbers of an event in a line.
 abbrev pub numbers_text : ℕ → ℕ → ℕ → List ℕ
@@ -34,6 +42,10 @@ numbers_text stamp thread number = codes "event" ++ (number_part stamp ++ (numbe
 -- Its names, as they stand in a line.
 abbrev pub names_text : EventDef → List ℕ
 names_text def = units_part def.provider ++ units_part def.name
+
+-- Its members in an object and those of no activity, up to the stack.
+abbrev pub alone_text : EventDef → List ℕ
+alone_text def = behind_commas (definition_members def) ++ codes ",\"activity\":\"00000000-0000-0000-0000-000000000000\",\"related\":\"00000000-0000-0000-0000-000000000000\",\"stack\":"
 
 -- What a trace event is that is an instant, up to its moment.
 abbrev pub instant_text : EventDef → List ℕ

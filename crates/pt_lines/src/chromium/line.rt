@@ -9,11 +9,12 @@ ghost use Rattle.pt_lines.specs.Line.{Event};
 ghost use Rattle.pt_lines.specs.Forms.{IsLine};
 ghost use Rattle.pt_lines.specs.Chromium.{error_tail, lost_counter, point_instant};
 ghost use Rattle.pt_lines.specs.Appends.{Appends, Tells};
-ghost use Rattle.pt_lines.specs.state.Pieces.{instant_text, named_pieces, placed_pieces, span_text};
+ghost use Rattle.pt_lines.specs.state.Opening.{opening};
+ghost use Rattle.pt_lines.specs.state.Pieces.{instant_text, named_pieces, placed_text, span_text};
 
-use crate::chromium::moment::{put_moment, put_time};
+use crate::chromium::moment::{TIME_BYTES, few_nanoseconds, place_time, put_moment, put_time};
 use crate::chromium::phase::{end_of, put_phase};
-use crate::json::fields::put_payload;
+use crate::json::fields::{OPENING, put_payload};
 use crate::json::line::put_error as put_error_object;
 use crate::json::value::put_integer;
 use crate::line::EventLine;
@@ -70,7 +71,8 @@ pub fn put_event(out: &mut Vec<u8>, alloc: Global, event: &EventLine<'_>) -> Res
     put_named(out, event)?;
     put_place(out, event)?;
     put_payload(out, alloc, event.def.fields(), event.payload)?;
-    put_word(out, "}}")
+    out.push(b'}')?;
+    Ok(out.push(b'}')?)
 }
 
 // Appends the name, the category and the phase of an event.
@@ -117,33 +119,37 @@ pub fn put_instant(out: &mut Vec<u8>, def: &EventDef) -> Result<(), AllocError>
     put_word(out, ",\"ph\":\"i\",\"s\":\"t\"")
 }
 
-// Appends when and where an event was written, up to its payload.
+// Appends when and where an event was written, and what opens its fields.
 fn put_place(out: &mut Vec<u8>, event: &EventLine<'_>) -> Result<(), AllocError>
     ensures { (origin : Origin) (processor thread : ℕ) (entry : EventEntry) → Tells event.now origin processor thread entry
-        → OnOk result (out.new.items ≡ out.old.items ++ concat (placed_pieces origin entry)) }
+        → OnOk result (out.new.items ≡ out.old.items ++ (placed_text origin entry ++ opening)) }
 {
-    out.push(b',')?;
-    put_time(out, event.origin.frequency, event.stamp)?;
     let mut text = [0; PLACE_BYTES];
-    let end = place_word(&mut text, PLACE_BYTES, b",");
+    let fields = place_word(&mut text, PLACE_BYTES, OPENING.as_bytes());
     let number = place_member(
         &mut text,
-        end,
+        fields,
         b",\"args\":{\"number\":",
         u64::from(event.number),
     );
     let thread = place_member(&mut text, number, b",\"tid\":", event.thread);
-    let start = place_member(
+    let process = place_member(
         &mut text,
         thread,
         b",\"pid\":",
         u64::from(event.origin.process),
     );
+    let Some(nanos) = few_nanoseconds(event.origin.frequency, event.stamp) else {
+        out.push(b',')?;
+        put_time(out, event.origin.frequency, event.stamp)?;
+        return out.extend_from_slice(&text[process..]);
+    };
+    let start = place_time(&mut text, process, nanos);
     out.extend_from_slice(&text[start..])
 }
 
-// How many bytes these members fill at most behind the stamp: their names and commas 33, and three numbers.
-const PLACE_BYTES: usize = 99;
+// How many bytes they fill at most: the names of three members 32, their numbers, what opens the fields 11, and the stamp's member.
+const PLACE_BYTES: usize = 109 + TIME_BYTES;
 
 /// Appends the ends of the objects of a stream that is wrong at this offset of its bytes, in words in which nothing has to be
 /// escaped, with an object that says so.

@@ -1,11 +1,13 @@
 //! When something was.
-ghost use Rattle.std.specs.Prelude.{◌≡◌, ◌++◌, ◌<◌, ◌^◌, ◌*◌, codes, OnOk};
+ghost use Rattle.std.specs.Prelude.{◌≡◌, ◌++◌, ◌<◌, ◌≤◌, ◌^◌, ◌*◌, codes, drop, length, IfSome, OnOk};
+ghost use Rattle.pt_lines.specs.declared.chromium.moment.TheConstants.{TIME_BYTES};
 ghost use Rattle.pt_lines.specs.Chromium as texts;
 ghost use Rattle.pt_lines.specs.Chromium.{microseconds, moment_text};
 
 use crate::json::value::put_integer;
 use crate::limits::NANOSECONDS;
 use crate::origin::Origin;
+use crate::place::{place_three, place_word};
 use crate::value::{put_digits, put_places};
 use pt_print::put_word;
 use std::alloc::AllocError;
@@ -25,6 +27,34 @@ pub fn put_time(out: &mut Vec<u8>, frequency: u64, stamp: u64) -> Result<(), All
 {
     put_word(out, "\"ts\":")?;
     put_microseconds(out, nanoseconds(frequency, stamp))
+}
+
+/// How many bytes the member of a stamp of so few nanoseconds fills at most behind a comma: its name 6, 20 digits, and those behind
+/// the point.
+pub const TIME_BYTES: usize = 30;
+
+/// Writes the member of a stamp of so many nanoseconds behind a comma.
+pub fn place_time(text: &mut [u8], end: usize, nanos: u64) -> usize
+    requires within { end ≤ length text.old }
+    requires room { TIME_BYTES ≤ end }
+    ensures before { result ≤ end }
+    ensures written { drop result text.new ≡ codes ",\"ts\":" ++ (microseconds nanos ++ drop end text.old) }
+    ensures len { length text.new ≡ length text.old }
+{
+    let fraction = place_three(text, end, (nanos % 1000) as u16);
+    let point = place_word(text, fraction, b".");
+    let start = itoa::write_digits(nanos / 1000, text, point);
+    place_word(text, start, b",\"ts\":")
+}
+
+/// A stamp in nanoseconds, where they fit eight bytes, as those of five hundred years do.
+pub fn few_nanoseconds(frequency: u64, stamp: u64) -> Option<u64>
+    ensures { IfSome result (λ nanos. nanos ≡ texts.nanoseconds frequency stamp) }
+{
+    match u64::try_from(nanoseconds(frequency, stamp)) {
+        Ok(nanos) => Some(nanos),
+        Err(_) => None,
+    }
 }
 
 // A stamp in nanoseconds, where so many ticks make a second.

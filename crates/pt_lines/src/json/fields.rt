@@ -1,9 +1,10 @@
 //! The fields of an event.
-ghost use Rattle.std.specs.Prelude.{◌≡◌, IfOk, OnOk, List, ℕ, map};
+ghost use Rattle.std.specs.Prelude.{◌≡◌, ◌++◌, IfOk, OnOk, List, ℕ, map};
 ghost use Rattle.nt_fields.specs.Values.{payload_at};
-ghost use Rattle.pt_lines.specs.Json.{IsPayloadMember, commas};
+ghost use Rattle.pt_lines.specs.Json.{commas};
 ghost use Rattle.pt_lines.specs.Appends.{Appends};
 ghost use Rattle.pt_lines.specs.state.Nest.{PutsMembers, still};
+ghost use Rattle.pt_lines.specs.state.Opening.{IsNextPayload, opening};
 
 use crate::json::nest::Nest;
 use crate::json::value::put_quoted_hex;
@@ -12,23 +13,27 @@ use nt_fields::FieldKind;
 use pt_print::put_word;
 use std::alloc::{AllocError, Global};
 
-/// Appends the object of a payload's fields, or all of it in hexadecimal where it does not fit the fields.
+/// What opens the fields of a payload, behind another member.
+pub const OPENING: &str = ",\"fields\":{";
+
+/// Appends the fields of a payload behind what opens them, which was put before, and their end; or puts all of it in hexadecimal in
+/// place of that where it does not fit the fields.
 pub fn put_payload(
     out: &mut Vec<u8>,
     alloc: Global,
     fields: &[NamedField],
     payload: &[u8],
 ) -> Result<(), AllocError>
-    ensures { OnOk result (Appends (IsPayloadMember fields.now payload.now (payload_at fields.now payload.now)) out.old.items out.new.items) }
+    ensures { (old : List ℕ) → out.old.items ≡ old ++ opening
+        → OnOk result (Appends (IsNextPayload fields.now payload.now (payload_at fields.now payload.now)) old out.new.items) }
 {
-    let start = out.len();
-    put_word(out, "\"fields\":{")?;
+    let start = out.len().saturating_sub(OPENING.len());
     let mut nest = Nest::new(alloc);
     if put_members(out, alloc, &mut nest, fields, payload)? {
         return Ok(out.push(b'}')?);
     }
     out.truncate(start);
-    put_word(out, "\"payload\":")?;
+    put_word(out, ",\"payload\":")?;
     put_quoted_hex(out, alloc, payload)
 }
 

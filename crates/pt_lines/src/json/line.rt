@@ -8,9 +8,10 @@ ghost use Rattle.pt_lines.specs.Forms.{IsLine};
 ghost use Rattle.pt_lines.specs.Json.{activity_members, array, behind_commas, commas, definition_members, error_object, known_object, lost_object, place_members, point_object};
 ghost use Rattle.pt_lines.specs.Appends.{Appends, Tells};
 ghost use Rattle.pt_lines.specs.state.Nest.{comma};
+ghost use Rattle.pt_lines.specs.state.Pieces.{alone_text, described_text};
 
 use crate::json::fields::put_payload;
-use crate::json::stack::{put_stack, width_of};
+use crate::json::stack::width_of;
 use crate::json::value::{put_integer, put_plain, put_uuid};
 use crate::line::EventLine;
 use crate::place::place_member;
@@ -82,23 +83,12 @@ pub fn put_event(out: &mut Vec<u8>, alloc: Global, event: &EventLine<'_>) -> Res
     ensures { (origin : Origin) (processor thread : ℕ) (entry : EventEntry) → Tells event.now origin processor thread entry
         → OnOk result (Appends (IsLine forms.Json (Event origin processor thread entry)) out.old.items out.new.items) }
 {
-    put_head(out, event)?;
-    put_word(out, ",\"stack\":")?;
-    put_stack(out, width_of(event.origin.address), event.stack)?;
-    out.push(b',')?;
-    put_payload(out, alloc, event.def.fields(), event.payload)?;
-    put_word(out, "}\n")
-}
-
-// Appends an event up to its stack.
-fn put_head(out: &mut Vec<u8>, event: &EventLine<'_>) -> Result<(), AllocError>
-    ensures { (origin : Origin) (processor thread : ℕ) (entry : EventEntry) → Tells event.now origin processor thread entry
-        → OnOk result (out.new.items ≡ out.old.items ++ (codes "{" ++ commas (place_members processor thread entry
-        ++ definition_members entry.def ++ activity_members entry))) }
-{
     put_place(out, event)?;
-    out.extend_from_slice(event.def.members())?;
-    put_activities(out, event)
+    put_described(out, event)?;
+    event.stack.put(out, width_of(event.origin.address))?;
+    put_payload(out, alloc, event.def.fields(), event.payload)?;
+    out.push(b'}')?;
+    Ok(out.push(b'\n')?)
 }
 
 // Appends when and where an event was written.
@@ -151,18 +141,36 @@ pub fn put_definition(out: &mut Vec<u8>, def: &EventDef) -> Result<(), AllocErro
     put_integer(out, def.keywords)
 }
 
+/// Appends what a definition says of its events, and that they belong to no activity, up to the stack.
+pub fn put_alone(out: &mut Vec<u8>, def: &EventDef) -> Result<(), AllocError>
+    ensures { OnOk result (out.new.items ≡ out.old.items ++ alone_text def.now) }
+{
+    put_definition(out, def)?;
+    put_word(
+        out,
+        ",\"activity\":\"00000000-0000-0000-0000-000000000000\",\"related\":\"00000000-0000-0000-0000-000000000000\",\"stack\":",
+    )
+}
+
+// Appends what an event is, and the activities that it belongs to, up to its stack.
+fn put_described(out: &mut Vec<u8>, event: &EventLine<'_>) -> Result<(), AllocError>
+    ensures { (origin : Origin) (processor thread : ℕ) (entry : EventEntry) → Tells event.now origin processor thread entry
+        → OnOk result (out.new.items ≡ out.old.items ++ described_text entry) }
+{
+    if is_none(event.activity) && is_none(event.related) {
+        // Most events belong to no activity.
+        return out.extend_from_slice(event.def.alone());
+    }
+    out.extend_from_slice(event.def.members())?;
+    put_activities(out, event)?;
+    put_word(out, ",\"stack\":")
+}
+
 // Appends the activities of an event.
 fn put_activities(out: &mut Vec<u8>, event: &EventLine<'_>) -> Result<(), AllocError>
     ensures { (origin : Origin) (processor thread : ℕ) (entry : EventEntry) → Tells event.now origin processor thread entry
         → OnOk result (out.new.items ≡ out.old.items ++ behind_commas (activity_members entry)) }
 {
-    if is_none(event.activity) && is_none(event.related) {
-        // Most events belong to no activity.
-        return put_word(
-            out,
-            ",\"activity\":\"00000000-0000-0000-0000-000000000000\",\"related\":\"00000000-0000-0000-0000-000000000000\"",
-        );
-    }
     put_word(out, ",\"activity\":")?;
     put_uuid(out, *event.activity)?;
     put_word(out, ",\"related\":")?;

@@ -123,5 +123,8 @@ fn put_ends(out: &mut Vec<u8>, count: usize) -> Result<(), AllocError>
     requires { count < 2 ^ 63 }
     ensures { OnOk result (out.new.items ≡ out.old.items ++ replicate count 125) }
 {
+    if count == 0 {
+        return Ok(());
+    }
     out.resize(out.len() + count, b'}')
 }

@@ -8,7 +8,7 @@ use Rattle.pt_lines.specs.Around.{opened, shown}
 use Rattle.pt_lines.proofs.Around.{opened-more, none-more}
 use Rattle.pt_events.specs.Command.{Gave}
 use Rattle.pt_events.proofs.Given.{gave-nothing, gave-more, gave-end, gave-same, nothing-left, whole-gave}
-use Rattle.pt_events.proofs.Writes.{took-more, broke-more}
+use Rattle.pt_events.proofs.Writes.{took-more, broke-more, more-is, shown-is}
 use Rattle.pt_events.proofs.Read.{so-far}
 use Rattle.pt_events.proofs.command.write_pieces.Goals as goal
 
@@ -71,11 +71,8 @@ loop-count-preserved g c =
     let before = c.loop-count.invariant in
     let piece = take c.in-Ok.count c.read.new.buf in
     let listed = c.in_ok-take.ensures.read before.bytes before.lines before.read in
-    let lines-are : c.as_slice-more.result.now ≡ listed.0 = c.as_slice-more.ensures.value ∙ listed.2 ∙ ap (λ (xs : List ℕ). xs ++ listed.0) before.none in
-    let shown-are : c.shown.result.now ≡ shown form (eqb (length before.lines) 0) listed.0 =
-    c.shown.ensures
-    ∙ ap (λ (b : Bool). shown form b c.as_slice-more.result.now) before.first
-    ∙ ap (λ (xs : List ℕ). shown form (eqb (length before.lines) 0) xs) lines-are in
+    let lines-are = more-is c.as_slice-more.ensures.value listed.2 before.none in
+    let shown-are = shown-is form c.shown.ensures before.first lines-are in
     record {
       bytes = before.bytes ++ piece;
       lines = before.lines ++ listed.0;
@@ -143,11 +140,8 @@ returns-in_err-write_lines-clause-part g c = λ _.
     let piece = take c.in-Ok.count c.read.new.buf in
     let bytes = before.bytes ++ piece in
     let listed = c.in_ok-take.ensures.read before.bytes before.lines before.read in
-    let lines-are : c.as_slice-more.result.now ≡ listed.0 = c.as_slice-more.ensures.value ∙ listed.2 ∙ ap (λ (xs : List ℕ). xs ++ listed.0) before.none in
-    let shown-are : c.shown.result.now ≡ shown form (eqb (length before.lines) 0) listed.0 =
-    c.shown.ensures
-    ∙ ap (λ (b : Bool). shown form b c.as_slice-more.result.now) before.first
-    ∙ ap (λ (xs : List ℕ). shown form (eqb (length before.lines) 0) xs) lines-are in
+    let lines-are = more-is c.as_slice-more.ensures.value listed.2 before.none in
+    let shown-are = shown-is form c.shown.ensures before.first lines-are in
     let gave = gave-more source c.args.input.now c.loop-count.input c.read.new.self before.bytes piece before.told before.gave c.in-Ok.ensures.given c.in-Ok.ensures.left
     (omega (arith, c.in-Ok.ensures.falls, length-take-le c.in-Ok.count c.read.new.buf c.in-Ok.ensures.within)) in
     let broke = broke-more sink c.args.output.now c.loop-count.output c.write_lines.new.output (opened form before.lines) (shown form (eqb (length before.lines) 0) listed.0) before.tells before.took

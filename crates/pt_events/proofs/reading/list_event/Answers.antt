@@ -1,11 +1,9 @@
-use Rattle.std.proofs.Common.{◌≡◌, Err, [], ◌∷◌, ◌++◌, sym, subst}
-use Rattle.std.specs.Prelude.{Option, true, false, is_some}
-use Rattle.pt_lines.specs.Appends.{Appends}
+use Rattle.std.proofs.Common.{◌≡◌, Err, [], ◌∷◌, ◌++◌}
+use Rattle.std.specs.Prelude.{true, false, is_some}
 use Rattle.pt_events.specs.state.Read.{IsChecked, item_of}
 use Rattle.nt_blocks.specs.Ordered.{kinds_of}
 use Rattle.nt_check.specs.declared.checker.CheckFault.TheVariants.{Bad}
-use Rattle.pt_events.specs.declared.reading.Misplaced.{Misplaced}
-use Rattle.pt_events.proofs.Placed.{checked-more, all-listed, none-there, same-checked, checked-item, misplaced-item}
+use Rattle.pt_events.proofs.Placed.{checked-more, same-checked, item-listed, item-misplaced}
 use Rattle.pt_events.proofs.reading.list_event.Goals as goal
 
 pub returns-then-is_some : goal.returns-then-is_some
@@ -16,20 +14,13 @@ returns-then-is_some c = λ before text checked.
 
 pub returns-in-Ok : goal.returns-in-Ok
 returns-in-Ok c = λ before text checked.
-    let form = c.args.form in
     let apart : is_some c.args.misplaced.now ≡ false = cc in
-    let none = none-there c.args.misplaced.now apart in
-    let listed = all-listed form before text c.args.listing.now c.args.misplaced.now none checked in
-    subst (λ (m : Option Misplaced). Appends (λ more. IsChecked form (before ++ (item_of c.args.event.now) ∷ []) (text ++ more) c.event.new.self m) c.args.out.now.items c.event.new.out.items) (sym none)
-    (checked-item form before (item_of c.args.event.now) text c.args.out.now.items c.event.new.out.items c.args.listing.now c.event.new.self listed
-    (c.in-Ok.ensures.listed (kinds_of before) listed.0) (c.in-Ok.ensures.lines (kinds_of before) listed.0))
+    item-listed c.args.form before (item_of c.args.event.now) text c.args.out.now.items c.event.new.out.items c.args.listing.now c.event.new.self c.args.misplaced.now apart checked
+    (λ had. (c.in-Ok.ensures.listed (kinds_of before) had, c.in-Ok.ensures.lines (kinds_of before) had))
 
 pub returns-in-Err-Bad : goal.returns-in-Err-Bad
 returns-in-Err-Bad c = λ before text checked.
-    let form = c.args.form in
     let apart : is_some c.args.misplaced.now ≡ false = cc in
-    let none = none-there c.args.misplaced.now apart in
-    let listed = all-listed form before text c.args.listing.now c.args.misplaced.now none checked in
     let is : c.event.result ≡ Err (Bad c.in-Err-Bad.kind) = rw c.in-Err-Bad.field-0-is at c.in-Err-Bad.is in
-    misplaced-item form before (item_of c.args.event.now) text c.args.out.now.items c.event.new.out.items c.args.listing.now c.event.new.self c.in-Err-Bad.kind listed
-    (c.event.ensures.refused (kinds_of before) listed.0 c.in-Err-Bad.kind is) (c.event.ensures.unchanged c.in-Err-Bad.kind is)
+    item-misplaced c.args.form before (item_of c.args.event.now) text c.args.out.now.items c.event.new.out.items c.args.listing.now c.event.new.self c.args.misplaced.now c.in-Err-Bad.kind apart checked
+    (λ had. c.event.ensures.refused (kinds_of before) had c.in-Err-Bad.kind is) (c.event.ensures.unchanged c.in-Err-Bad.kind is)

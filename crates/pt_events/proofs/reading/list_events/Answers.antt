@@ -1,11 +1,11 @@
-use Rattle.std.proofs.Common.{◌≡◌, ℕ, ◌+◌, ◌<◌, ◌≤◌, List, [], ◌∷◌, ◌++◌, length, take, sym, ap, ◌∙◌, subst, add-one, arith, append_assoc}
+use Rattle.std.proofs.Common.{◌≡◌, ℕ, ◌+◌, ◌<◌, ◌≤◌, List, [], ◌∷◌, ◌++◌, length, take, sym, ap, ◌∙◌, subst, add-one, arith}
 use Rattle.std.proofs.Math.Seq.{take-suc}
 use Rattle.std.proofs.lemmas.List.{append-nil, take_all}
 use Rattle.ep_defs.specs.declared.item.Item.{Item}
 use Rattle.nt_blocks.specs.Placed.{items_in}
 use Rattle.pt_lines.specs.Appends.{Appends}
 use Rattle.pt_events.specs.state.Read.{IsChecked, item_of}
-use Rattle.pt_events.proofs.Placed.{same-checked}
+use Rattle.pt_events.proofs.Placed.{checked-then, same-checked}
 use Rattle.pt_events.proofs.reading.list_events.Goals as goal
 
 pub loop-index-init : goal.loop-index-init
@@ -20,15 +20,10 @@ loop-index-preserved c = λ before text checked.
     let item = item_of c.event.result in
     let there : count < length items = omega (arith, c.len-index-end.ensures, c.loop-index-test.true) in
     let more : take (count + 1) items ≡ take count items ++ item ∷ [] = rw add-one (take-suc items count item there) ∙ ap (λ (i : Item). take count items ++ i ∷ []) (c.event.ensures item) in
-    let all : before ++ take (count + 1) items ≡ (before ++ take count items) ++ item ∷ [] =
-    ap (λ (last : List Item). before ++ last) more ∙ sym (append_assoc before (take count items) (item ∷ [])) in
     let first = c.loop-index.invariant before text checked in
-    let second = c.in_ok-list_event.ensures (before ++ take count items) (text ++ first.0) first.1 in (
-      first.0 ++ second.0,
-      subst (λ (given : List Item). IsChecked c.args.form given (text ++ (first.0 ++ second.0)) c.list_event.new.listing c.list_event.new.misplaced) (sym all)
-          (subst (λ (put : List ℕ). IsChecked c.args.form ((before ++ take count items) ++ item ∷ []) put c.list_event.new.listing c.list_event.new.misplaced) (append_assoc text first.0 second.0) second.1),
-      second.2 ∙ ap (λ (out : List ℕ). out ++ second.0) first.2 ∙ append_assoc c.args.out.now.items first.0 second.0,
-    )
+    subst (λ (given : List Item). Appends (λ more. IsChecked c.args.form (before ++ given) (text ++ more) c.list_event.new.listing c.list_event.new.misplaced) c.args.out.now.items c.list_event.new.out.items) (sym more)
+    (checked-then c.args.form before (take count items) (item ∷ []) text c.args.out.now.items c.loop-index.out.items c.list_event.new.out.items c.loop-index.listing c.list_event.new.listing c.loop-index.misplaced c.list_event.new.misplaced first
+    (c.in_ok-list_event.ensures (before ++ take count items) (text ++ first.0) first.1))
 
 pub returns : goal.returns
 returns c = λ before text checked.

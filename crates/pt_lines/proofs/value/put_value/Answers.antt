@@ -2,12 +2,13 @@ use Rattle.std.proofs.Common.{refl, rules, SFits}
 use Rattle.std.specs.Prelude.{codes}
 use Rattle.std.specs.Int.{w64}
 use Rattle.std.proofs.lemmas.Int.{to_z-of_z}
-use Rattle.pt_lines.proofs.Steps.{said-eq, ok-items}
+use Rattle.pt_print.proofs.Numbers.{appended}
+use Rattle.pt_lines.proofs.Steps.{said-eq}
 use Rattle.pt_lines.proofs.value.put_value.Goals as goal
 
 pub returns-in-Object : goal.returns-in-Object
 returns-in-Object c =
-    rw c.in-Object.is (said-eq c.extend_from_slice.result c.args.out.now.items _ (codes "{") (ok-items c.extend_from_slice.result c.args.out.now.items _ (codes "{") (codes "{") c.extend_from_slice.ensures.items refl))
+    rw c.in-Object.is (said-eq c.extend_from_slice.result c.args.out.now.items _ (codes "{") (appended c.extend_from_slice.result c.args.out.now.items _ (codes "{") (codes "{") c.extend_from_slice.ensures.items refl))
 
 pub returns-in-Boolean : goal.returns-in-Boolean
 returns-in-Boolean c = rw c.in-Boolean.is (said-eq c.put_truth.result _ _ _ c.put_truth.ensures)

@@ -25,5 +25,5 @@ returns-clause-defined c = λ names known.
           c.in_ok-insert.ensures.ok q
           ∙ ap (λ (k : ℕ). cond (eqb k q) (Some c.in_ok-def.def) (value_at c.args.self.now.definitions q)) c.from.ensures
           ∙ ap (λ (x : EventDef). cond (eqb c.args.id q) (Some x) (value_at c.args.self.now.definitions q)) c.in_ok-def.ensures)
-          refl,
+          refl refl,
     )

@@ -22,7 +22,7 @@ returns-clause-defined c = λ names known.
       stacked-more names c.args.id c.args.bytes.now c.args.self.now _ known
           (λ q.
           c.in_ok-insert.ensures.ok q
-          ∙ ap (λ (k : ℕ). cond (eqb k q) (Some c.in_ok-bytes.bytes) (value_at c.args.self.now.stacks q)) c.from.ensures
-          ∙ ap (λ (x : List ℕ). cond (eqb c.args.id q) (Some x) (value_at c.args.self.now.stacks q)) c.in_ok-bytes.ensures)
-          refl,
+          ∙ ap (λ (k : ℕ). cond (eqb k q) (Some c.in_ok-stack.stack) (value_at c.args.self.now.stacks q)) c.from.ensures
+          ∙ ap (λ (x : List ℕ). cond (eqb c.args.id q) (Some x) (value_at c.args.self.now.stacks q)) c.in_ok-stack.ensures)
+          refl refl,
     )

@@ -1,18 +1,11 @@
 -- A field and those after it.
-use Rattle.std.proofs.Common.{◌≡◌, ℕ, ◌+◌, ◌<◌, List, ◌∷◌, length, drop, get_or, suc, None, sym, ap, ◌∙◌, subst, add-one, drop-cons, rules}
+use Rattle.std.proofs.Common.{◌≡◌, ℕ, ◌+◌, List, ◌∷◌, drop, None, sym, ◌∙◌, subst, rules}
 use Rattle.std.proofs.lemmas.List.{drop_all}
 use Rattle.pt_num.proofs.Joined.{rest_is}
 use Rattle.ep_defs.specs.declared.event.FieldDef.{FieldDef}
-use Rattle.pt_lines.proofs.Going.{no-kind, no-value}
+use Rattle.pt_lines.proofs.Going.{split-at, no-kind, no-value}
 use Rattle.pt_lines.proofs.Members.{Membering, membering-none, membering-on, members-misfit, members-over, members-all}
 use Rattle.pt_lines.proofs.json.fields.put_members.Goals as goal
-
--- The fields that are left begin with this one.
-split-at : (fields : List FieldDef) (index : ℕ) (field : FieldDef) → index < length fields → field ≡ get_or fields index field → drop index fields ≡ field ∷ drop (index + 1) fields
-split-at fields index field within is =
-    drop-cons fields index field within
-    ∙ ap (λ (f : FieldDef). f ∷ drop (suc index) fields) (sym is)
-    ∙ ap (λ (n : ℕ). field ∷ drop n fields) (sym (add-one index))
 
 pub loop-field-init : goal.loop-field-init
 loop-field-init c = membering-none c.args.fields.now c.args.payload.now c.args.out.now.items c.args.nest.now c.requires

@@ -1,20 +1,10 @@
 -- The members are the pieces that were put.
-use Rattle.std.proofs.Common.{◌≡◌, List, ℕ, [], ◌∷◌, ◌++◌, ◌∙◌, sym, ap, replicate}
+use Rattle.std.proofs.Common.{[], ◌∷◌, ◌∙◌, sym}
 use Rattle.std.specs.Prelude.{codes}
 use Rattle.std.proofs.lemmas.Result.{on_ok_weaker}
-use Rattle.ep_defs.proofs.Sameness.{text-means}
 use Rattle.pt_lines.specs.Json.{uuid_text}
 use Rattle.pt_lines.proofs.Steps.{onto, then}
-use Rattle.pt_lines.proofs.Uuids.{none-text}
 use Rattle.pt_lines.proofs.json.line.put_activities.Goals as goal
-
-pub returns-then-is_none-2 : goal.returns-then-is_none-2
-returns-then-is_none-2 c = λ origin processor thread entry tells.
-    let activity : entry.activity ≡ replicate 16 0 =
-    sym tells.activity ∙ text-means c.args.event.now.activity.now (replicate 16 0) (sym c.is_none.ensures ∙ c.if-is_none.true) in
-    let related : entry.related ≡ replicate 16 0 =
-    sym tells.related ∙ text-means c.args.event.now.related.now (replicate 16 0) (sym c.is_none-then-is_none.ensures ∙ c.if-is_none-2.true) in
-    on_ok_weaker c.put_word.result (λ e. e ∙ ap (λ (xs : List ℕ). c.args.out.now.items ++ xs) (none-text entry activity related)) c.put_word.ensures.ok
 
 pub returns : goal.returns
 returns c = λ origin processor thread entry tells.

@@ -1,17 +1,21 @@
-use Rattle.std.proofs.Common.{◌∙◌, ap}
-use Rattle.std.proofs.lemmas.Result.{on_ok_weaker}
-use Rattle.std.specs.Prelude.{ℕ}
+use Rattle.std.proofs.Common.{List, ℕ, ◌++◌, refl, sym, ◌∙◌, ap, append_assoc}
+use Rattle.std.specs.Prelude.{codes}
 use Rattle.ep_defs.specs.declared.event.EventDef.{EventDef}
 use Rattle.pt_lines.specs.declared.origin.Origin.{Origin}
 use Rattle.pt_lines.specs.Json.{width_of}
+use Rattle.pt_lines.specs.state.Opening.{opening}
 use Rattle.pt_lines.proofs.Objects.{event-object-put}
+use Rattle.pt_lines.proofs.Steps.{two-put}
 use Rattle.pt_lines.proofs.json.line.put_event.Goals as goal
 
 pub returns : goal.returns
 returns c = λ origin processor thread entry tells.
-    on_ok_weaker c.put_word-2.result
-    (λ e.
-    event-object-put origin processor thread c.width_of.result entry c.fields.result.now c.args.event.now.stack.now c.args.event.now.payload.now c.args.out.now.items c.put_head.new.out.items c.put_word.new.out.items c.put_stack.new.out.items c.push.new.self.items c.put_payload.new.out.items _
+    let second = c.put_described.new.out.items in
+    let stacked = c.in_ok-put.ensures in
+    let shown = stacked.1.0 in
+    let opened = stacked.2 ∙ ap (λ (xs : List ℕ). second ++ xs) stacked.1.2 ∙ sym (append_assoc second shown opening) in
+    event-object-put origin processor thread c.width_of.result entry c.fields.result.now c.args.event.now.stack.now c.args.event.now.payload.now c.args.out.now.items c.put_place.new.out.items second (second ++ shown) c.put_payload.new.out.items _
     (c.fields.ensures ∙ ap (λ (def : EventDef). def.fields) tells.def) tells.stack tells.payload (c.width_of.ensures.value ∙ ap (λ (n : ℕ). width_of n) (ap (λ (o : Origin). o.address) tells.origin))
-    (c.in_ok-put_head.ensures origin processor thread entry tells) c.in_ok-put_word.ensures.ok c.in_ok-put_stack.ensures c.in_ok-push.ensures.items c.in_ok-put_payload.ensures e)
-    c.put_word-2.ensures.ok
+    (c.in_ok-put_place.ensures origin processor thread entry tells) (c.in_ok-put_described.ensures origin processor thread entry tells) (shown, stacked.1.1, refl)
+    (c.in_ok-put_payload.ensures (second ++ shown) opened)
+    (two-put c.put_payload.new.out.items (codes "}") (codes "\n") c.in_ok-push.ensures.items c.in_ok-push-2.ensures.items)

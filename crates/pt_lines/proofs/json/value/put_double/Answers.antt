@@ -4,7 +4,8 @@ use Rattle.std.specs.Float.{binary64}
 use Rattle.std.proofs.lemmas.Float.{not_nan_f64_bits}
 use Rattle.pt_lines.specs.Json.{IsNumber, in_quotes}
 use Rattle.pt_lines.proofs.Floats.{finite-number, not-above, word-number}
-use Rattle.pt_lines.proofs.Steps.{ok-items, said}
+use Rattle.pt_print.proofs.Numbers.{appended}
+use Rattle.pt_lines.proofs.Steps.{said}
 use Rattle.pt_lines.proofs.json.value.put_double.Goals as goal
 
 pub float_from_bits-float : goal.float_from_bits-float
@@ -17,7 +18,7 @@ returns-then-is_finite c =
     rw (not-above 0x7ff0000000000000 _ c.if-bits-gt-DOUBLE_INFINITE.false)
     (said (IsNumber binary64 float) c.extend_from_slice-then-is_finite.result c.args.out.now.items _ text
     (finite-number binary64 float text (sym c.is_finite.ensures.value ∙ c.if-is_finite.true) c.format_finite.ensures.plain c.format_finite.ensures.parses)
-    (ok-items c.extend_from_slice-then-is_finite.result c.args.out.now.items _ c.as_bytes.result.now text c.extend_from_slice-then-is_finite.ensures.items c.as_bytes.ensures.value))
+    (appended c.extend_from_slice-then-is_finite.result c.args.out.now.items _ c.as_bytes.result.now text c.extend_from_slice-then-is_finite.ensures.items c.as_bytes.ensures.value))
 
 pub returns : goal.returns
 returns c =
