@@ -16,8 +16,8 @@ use Rattle.pt_lines.specs.Texts.{quoted}
 use Rattle.pt_lines.specs.Json.{behind_commas, integer, object}
 use Rattle.pt_lines.specs.Chromium.{event_phase, lost_counter, microseconds, moment_text, nanoseconds, next_object, phase_of, phase_text, point_instant}
 use Rattle.pt_lines.specs.Appends.{Appends}
-use Rattle.pt_lines.specs.state.Opening.{IsNextPayload}
-use Rattle.pt_lines.specs.state.Pieces.{end_of, instant_text, named_pieces, placed_text, span_text}
+use Rattle.pt_lines.specs.state.Opening.{IsNextPayload, opening}
+use Rattle.pt_lines.specs.state.Pieces.{end_of, ids_of, instant_text, named_pieces, placed_text, span_text}
 use Rattle.pt_lines.proofs.Steps.{payload-of, then}
 
 -- ---- an object, member by member
@@ -125,10 +125,25 @@ phased-is event some =
     let start = codes ",\n{\"name\":" ∷ quoted (end_of event.def.name).1 ∷ codes ",\"cat\":" ∷ quoted event.def.provider ∷ codes "," ∷ [] in
     rw some (concat-append start (phase ∷ []) ∙ ap (λ (xs : List ℕ). concat start ++ xs) (append-nil phase))
 
--- Where an event was, and what opens its fields.
-pub ids-is : (pid process tid thread args number begun : List ℕ)
+ids-is : (pid process tid thread args number begun : List ℕ)
     → pid ++ (process ++ (tid ++ (thread ++ (args ++ (number ++ begun))))) ≡ (pid ++ (process ++ (tid ++ (thread ++ (args ++ number))))) ++ begun
 ids-is pid process tid thread args number begun = simp append_assoc
+
+-- Where an event was, and what opens its fields, placed one before another.
+pub ids-placed : {p process n number : ℕ} (thread : ℕ) {first second third fourth : List ℕ} → p ≡ process → n ≡ number
+    → fourth ≡ codes ",\"pid\":" ++ (integer p ++ third) → third ≡ codes ",\"tid\":" ++ (integer thread ++ second)
+    → second ≡ codes ",\"args\":{\"number\":" ++ (integer n ++ first) → first ≡ opening
+    → fourth ≡ ids_of process thread number ++ opening
+ids-placed {p} {process} {n} {number} thread {first} {second} {third} {fourth} same_process same_number here next last end =
+    here
+    ∙ ap (λ (m : ℕ). codes ",\"pid\":" ++ (integer m ++ third)) same_process
+    ∙ ap (λ (xs : List ℕ). codes ",\"pid\":" ++ (integer process ++ xs))
+    (next
+    ∙ ap (λ (xs : List ℕ). codes ",\"tid\":" ++ (integer thread ++ xs))
+    (last
+    ∙ ap (λ (m : ℕ). codes ",\"args\":{\"number\":" ++ (integer m ++ first)) same_number
+    ∙ ap (λ (xs : List ℕ). codes ",\"args\":{\"number\":" ++ (integer number ++ xs)) end))
+    ∙ ids-is (codes ",\"pid\":") (integer process) (codes ",\"tid\":") (integer thread) (codes ",\"args\":{\"number\":") (integer number) opening
 
 -- They behind its moment, in one piece or in three.
 pub placed-on : (name time ids begun : List ℕ) → name ++ (time ++ (ids ++ begun)) ≡ (name ++ (time ++ ids)) ++ begun

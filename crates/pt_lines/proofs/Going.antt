@@ -19,12 +19,14 @@ pub record Going (fields : List FieldDef) (payload : List ℕ) (old : List ℕ) 
       → (all : List FieldValue) × (values_at fields payload ≡ Ok (all, rest)) × ((more : List ℕ) → AreFields opened left values more → AreFields 0 fields all (text ++ more))
   pub stops : values_at left bytes ≡ Err DoesNotFit → values_at fields payload ≡ Err DoesNotFit
 
--- The fields that are left begin with this one.
-pub split-at : (fields : List FieldDef) (index : ℕ) (field : FieldDef) → index < length fields → field ≡ get_or fields index field → drop index fields ≡ field ∷ drop (index + 1) fields
-split-at fields index field within is =
-    drop-cons fields index field within
+-- What holds of the fields that are left holds of this one, with which they begin, and those after it.
+pub at-field : (P : List FieldDef → Type 0) (fields : List FieldDef) (index : ℕ) (field : FieldDef) → index < length fields → field ≡ get_or fields index field
+    → P (drop index fields) → P (field ∷ drop (index + 1) fields)
+at-field P fields index field within is =
+    subst P
+    (drop-cons fields index field within
     ∙ ap (λ (f : FieldDef). f ∷ drop (suc index) fields) (sym is)
-    ∙ ap (λ (n : ℕ). field ∷ drop n fields) (sym (add-one index))
+    ∙ ap (λ (n : ℕ). field ∷ drop n fields) (sym (add-one index)))
 
 -- A field and those after it.
 pub values-on : (field : FieldDef) (others : List FieldDef) (bytes next rest : List ℕ) (kind : FieldKind) (value : FieldValue) (values : List FieldValue) → kind_of field.code ≡ Some kind → value_at kind bytes ≡ Ok (value, next) → values_at others next ≡ Ok (values, rest) → values_at (field ∷ others) bytes ≡ Ok (value ∷ values, rest)

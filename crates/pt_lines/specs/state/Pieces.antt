@@ -20,14 +20,14 @@ pieces_in phase event =
 abbrev pub named_pieces : EventEntry → List (List ℕ)
 named_pieces event = pieces_in (phase_of event.activity event.def.name) event
 
--- Where it was, up to its payload.
-abbrev pub ids_text : Origin → EventEntry → List ℕ
-ids_text origin event =
-    codes ",\"pid\":" ++ (integer origin.process ++ (codes ",\"tid\":" ++ (integer event.thread ++ (codes ",\"args\":{\"number\":" ++ integer event.number))))
+-- Where it was, up to its payload: its process, thread and number.
+abbrev pub ids_of : ℕ → ℕ → ℕ → List ℕ
+ids_of process thread number =
+    codes ",\"pid\":" ++ (integer process ++ (codes ",\"tid\":" ++ (integer thread ++ (codes ",\"args\":{\"number\":" ++ integer number))))
 
 -- When and where it was.
 abbrev pub placed_text : Origin → EventEntry → List ℕ
-placed_text origin event = codes ",\"ts\":" ++ (microseconds (nanoseconds origin.frequency event.stamp) ++ ids_text origin event)
+placed_text origin event = codes ",\"ts\":" ++ (microseconds (nanoseconds origin.frequency event.stamp) ++ ids_of origin.process event.thread event.number)
 
 -- What it is in an object, and its activities, up to its stack.
 abbrev pub described_text : EventEntry → List ℕ

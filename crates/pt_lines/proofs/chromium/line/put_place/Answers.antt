@@ -1,13 +1,13 @@
 -- The members are the pieces that were put.
-use Rattle.std.proofs.Common.{◌≡◌, List, ℕ, ◌++◌, drop, ap, ◌∙◌, sym, arith}
+use Rattle.std.proofs.Common.{List, ℕ, [], ◌++◌, drop, ap, ◌∙◌, sym, arith}
 use Rattle.std.specs.Prelude.{codes}
 use Rattle.std.proofs.lemmas.List.{take_all, length-drop}
 use Rattle.std.proofs.lemmas.Result.{on_ok_weaker}
 use Rattle.pt_print.proofs.Numbers.{appended}
 use Rattle.pt_lines.specs.Chromium.{microseconds, nanoseconds}
-use Rattle.pt_lines.specs.Json.{integer}
 use Rattle.pt_lines.specs.state.Opening.{opening}
-use Rattle.pt_lines.proofs.Entries.{ids-is, late-is, placed-on}
+use Rattle.pt_lines.specs.state.Pieces.{ids_of}
+use Rattle.pt_lines.proofs.Entries.{ids-placed, late-is, placed-on}
 use Rattle.pt_lines.proofs.Steps.{then}
 use Rattle.pt_lines.proofs.chromium.line.put_place.Goals as goal
 
@@ -16,15 +16,9 @@ returns-in_default c = λ origin processor thread entry tells.
     let event = c.args.event.now in
     let first = c.place_member-process in
     let time = microseconds (nanoseconds event.origin.frequency event.stamp) in
-    let ids : List ℕ = codes ",\"pid\":" ++ (integer event.origin.process ++ (codes ",\"tid\":" ++ (integer event.thread ++ (codes ",\"args\":{\"number\":" ++ integer event.number)))) in
-    let all = rw (
-      c.place_member-thread.ensures.written,
-      c.place_member-number.ensures.written,
-      c.place_word-fields.ensures.written,
-      c.as_bytes.ensures.value,
-      c.from.ensures,
-      c.from-2.ensures,
-    ) at first.ensures.written in
+    let behind = ids-placed event.thread c.from-2.ensures c.from.ensures first.ensures.written c.place_member-thread.ensures.written c.place_member-number.ensures.written
+    (c.place_word-fields.ensures.written ∙ ap (λ (xs : List ℕ). xs ++ []) c.as_bytes.ensures.value) in
+    let ids = ids_of event.origin.process event.thread event.number in
     rw (sym tells.origin, sym tells.stamp, sym tells.thread, sym tells.number)
     (on_ok_weaker c.extend_from_slice.result
     (λ e.
@@ -33,29 +27,22 @@ returns-in_default c = λ origin processor thread entry tells.
     (appended c.extend_from_slice.result c.put_time.new.out.items _ _ (ids ++ opening) c.extend_from_slice.ensures.items
     (take_all _ (drop first.result first.new.text)
     (omega (arith, length-drop first.result first.new.text, first.ensures.len, c.place_member-thread.ensures.len, c.place_member-number.ensures.len, c.place_word-fields.ensures.len))
-    ∙ all
-    ∙ ids-is (codes ",\"pid\":") (integer event.origin.process) (codes ",\"tid\":") (integer event.thread) (codes ",\"args\":{\"number\":") (integer event.number) opening)))
+    ∙ behind)))
 
 pub returns : goal.returns
 returns c = λ origin processor thread entry tells.
     let event = c.args.event.now in
     let first = c.place_member-process in
+    let start = c.place_time-start in
     let time = microseconds (nanoseconds event.origin.frequency event.stamp) in
-    let ids : List ℕ = codes ",\"pid\":" ++ (integer event.origin.process ++ (codes ",\"tid\":" ++ (integer event.thread ++ (codes ",\"args\":{\"number\":" ++ integer event.number)))) in
-    let all = rw (
-      c.place_member-thread.ensures.written,
-      c.place_member-number.ensures.written,
-      c.place_word-fields.ensures.written,
-      c.as_bytes.ensures.value,
-      c.from.ensures,
-      c.from-2.ensures,
-    ) at first.ensures.written in
-    let behind = all ∙ ids-is (codes ",\"pid\":") (integer event.origin.process) (codes ",\"tid\":") (integer event.thread) (codes ",\"args\":{\"number\":") (integer event.number) opening in
+    let ids = ids_of event.origin.process event.thread event.number in
+    let behind = ids-placed event.thread c.from-2.ensures c.from.ensures first.ensures.written c.place_member-thread.ensures.written c.place_member-number.ensures.written
+    (c.place_word-fields.ensures.written ∙ ap (λ (xs : List ℕ). xs ++ []) c.as_bytes.ensures.value) in
     rw (sym tells.origin, sym tells.stamp, sym tells.thread, sym tells.number)
     (appended c.extend_from_slice-2.result c.args.out.now.items _ _ ((codes ",\"ts\":" ++ (time ++ ids)) ++ opening) c.extend_from_slice-2.ensures.items
-    (take_all _ (drop c.place_time-start.result c.place_time-start.new.text)
-    (omega (arith, length-drop c.place_time-start.result c.place_time-start.new.text, c.place_time-start.ensures.len, first.ensures.len, c.place_member-thread.ensures.len, c.place_member-number.ensures.len, c.place_word-fields.ensures.len))
-    ∙ c.place_time-start.ensures.written
+    (take_all _ (drop start.result start.new.text)
+    (omega (arith, length-drop start.result start.new.text, start.ensures.len, first.ensures.len, c.place_member-thread.ensures.len, c.place_member-number.ensures.len, c.place_word-fields.ensures.len))
+    ∙ start.ensures.written
     ∙ ap (λ (n : ℕ). codes ",\"ts\":" ++ (microseconds n ++ drop first.result first.new.text)) c.in-Some.ensures
     ∙ ap (λ (xs : List ℕ). codes ",\"ts\":" ++ (time ++ xs)) behind
     ∙ placed-on (codes ",\"ts\":") time ids opening))
