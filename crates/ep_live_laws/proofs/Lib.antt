@@ -13,3 +13,4 @@ mod Points
 mod Rundown
 mod Shares
 mod Sweeps
+mod TwoThreads
