@@ -115,7 +115,13 @@ impl<'a, P: Run, S: Sink> Stream<'a, P, S> {
                 };
                 let stands = Stands::none(alloc);
                 let rows = LiveRows::new(rt, live, free, grant, pool, stands, lives);
-                begin(alloc, rt, rows, sink, reply, seat, config, info, places)
+                let fresh = Fresh {
+                    rows,
+                    seat,
+                    config,
+                    places,
+                };
+                begin(alloc, rt, fresh, sink, reply, info)
             }
             Err(_) => {
                 let mut seat = pool;
@@ -496,28 +502,35 @@ impl Memory {
     }
 }
 
+// A session's rows, on none of which it is open, its seat and its configuration, and a place for each row.
+#[derive(Drop)]
+struct Fresh<'r, 'a, P: Run, R: Wait> {
+    rows: LiveRows<'r, 'a, P, R>,
+    seat: Seat,
+    config: Config,
+    places: Vec<Place>,
+}
+
 // Begins the stream of a session that is open on none of its rows.
 fn begin<'a, P: Run, R: Wait, S: Sink>(
     alloc: Global,
     rt: &R,
-    rows: LiveRows<'_, 'a, P, R>,
+    fresh: Fresh<'_, 'a, P, R>,
     sink: S,
     reply: &[u8],
-    seat: Seat,
-    config: Config,
     info: &TraceInfo,
-    places: Vec<Place>,
 ) -> Result<Stream<'a, P, S>, NotStarted<'a, P, S>>
-    requires slot { (seat.slot ≡ rows.slot) × (seat.slot < SESSIONS) }
-    requires config { config ≡ rows.grant.config }
-    requires fresh { AreFresh P.rows seat.slot rows.grant rows.seat None rows.lives rows }
-    requires dry { rows.seat.dry ≡ 0 }
-    requires places { places.items ≡ replicate P.rows no_place }
+    requires slot { (fresh.seat.slot ≡ fresh.rows.slot) × (fresh.seat.slot < SESSIONS) }
+    requires config { fresh.config ≡ fresh.rows.grant.config }
+    requires fresh { AreFresh P.rows fresh.seat.slot fresh.rows.grant fresh.rows.seat None fresh.rows.lives fresh.rows }
+    requires dry { fresh.rows.seat.dry ≡ 0 }
+    requires places { fresh.places.items ≡ replicate P.rows no_place }
     requires info { info.now ≡ P.setting.info }
-    requires before { IsTrue (S.tells_taken sink) → S.taken sink ++ reply.now ≡ P.setting.before seat.id }
-    requires faults { S.write_faults sink ≡ P.setting.faults seat.id }
-    ensures started { IfOk result (λ stream. stream ≡ new_stream P.rows seat.id seat.slot seat.conn config (S.read_side sink)) }
-    ensures free { IfErr result (λ failed. failed.free ≡ seat.slot) }
+    requires before { IsTrue (S.tells_taken sink) → S.taken sink ++ reply.now ≡ P.setting.before fresh.seat.id }
+    requires faults { S.write_faults sink ≡ P.setting.faults fresh.seat.id }
+    ensures started { IfOk result (λ stream. stream ≡ new_stream P.rows fresh.entry.seat.id fresh.entry.seat.slot
+        fresh.entry.seat.conn fresh.entry.config (S.read_side sink)) }
+    ensures free { IfErr result (λ failed. failed.free ≡ fresh.entry.seat.slot) }
     ensures part { IfErr result (λ failed. TookStart S.tells_taken S.taken reply.now info.now sink failed.sink) }
     ensures told { IfErr result (λ failed. S.tells_taken failed.sink ≡ S.tells_taken sink) }
     ensures write_fault { IfErr result (λ failed. failed.fault ≡ WriteFault
@@ -527,6 +540,12 @@ fn begin<'a, P: Run, R: Wait, S: Sink>(
         → S.write_faults failed.sink ≡ S.write_faults sink) }
 {
     a_session_starts_with_no_trace::<S>();
+    let Fresh {
+        rows,
+        seat,
+        config,
+        places,
+    } = fresh;
     let count = rows.threads();
     match Session::start(alloc, sink, reply, seat, config, info, count) {
         Ok(session) => Ok(Stream {

@@ -10,10 +10,10 @@ pub invariant_of-result : goal.invariant_of-result
 invariant_of-result g c =
     let session = c.in-Ok.session in
     let e = c.in-Ok.ensures in
-    let new = is-new g.S.Sink g.P.Program.rows g.P.Program.events g.P.Program.writes g.P.Run.setting c.args.sink session c.args.seat c.args.config c.args.reply.now c.args.info.now c.requires.info e.started e.told c.requires.before e.hands e.rest in
-    let tracing = c.a_session_starts_with_no_trace.ensures (watch_of g.P.Program.rows g.P.Program.events g.P.Program.writes g.P.Run.setting c.args.config c.args.seat.id) session new in
-    let kept = kept-new g.S.Sink g.P.Program.rows g.P.Program.events g.P.Program.writes g.P.Run.setting c.args.rows session c.args.seat c.args.config c.args.rows.lives (sym c.requires.slot.0) (sym c.requires.config) c.requires.fresh c.requires.dry e.hands e.rest e.count tracing e.sound (e.wrote ∙ c.requires.faults) in (
+    let new = is-new g.S.Sink g.P.Program.rows g.P.Program.events g.P.Program.writes g.P.Run.setting c.args.sink session c.args.fresh.seat c.args.fresh.config c.args.reply.now c.args.info.now c.requires.info e.started e.told c.requires.before e.hands e.rest in
+    let tracing = c.a_session_starts_with_no_trace.ensures (watch_of g.P.Program.rows g.P.Program.events g.P.Program.writes g.P.Run.setting c.args.fresh.config c.args.fresh.seat.id) session new in
+    let kept = kept-new g.S.Sink g.P.Program.rows g.P.Program.events g.P.Program.writes g.P.Run.setting c.args.fresh.rows session c.args.fresh.seat c.args.fresh.config c.args.fresh.rows.lives (sym c.requires.slot.0) (sym c.requires.config) c.requires.fresh c.requires.dry e.hands e.rest e.count tracing e.sound (e.wrote ∙ c.requires.faults) in (
       ap (λ (set : LiveRowsState). set.stands) c.park.ensures ∙ c.requires.fresh.stands_are,
-      subst (λ (set : LiveRowsState). IsKept {S = g.row.S.Denot} g.S.Sink g.P.Program.rows g.P.Program.events g.P.Program.writes g.P.Run.setting set session 0 c.args.seat c.args.places.items true) (sym c.park.ensures)
-          (subst (λ (ps : List Place). IsKept {S = g.row.S.Denot} g.S.Sink g.P.Program.rows g.P.Program.events g.P.Program.writes g.P.Run.setting c.args.rows session 0 c.args.seat ps true) (sym c.requires.places) kept),
+      subst (λ (set : LiveRowsState). IsKept {S = g.row.S.Denot} g.S.Sink g.P.Program.rows g.P.Program.events g.P.Program.writes g.P.Run.setting set session 0 c.args.fresh.seat c.args.fresh.places.items true) (sym c.park.ensures)
+          (subst (λ (ps : List Place). IsKept {S = g.row.S.Denot} g.S.Sink g.P.Program.rows g.P.Program.events g.P.Program.writes g.P.Run.setting c.args.fresh.rows session 0 c.args.fresh.seat ps true) (sym c.requires.places) kept),
     )
