@@ -56,38 +56,47 @@ fn put(column: &mut Option<Column>, number: u32, one: Open)
     }
 }
 
+/// A session that is to be opened, and in which slot.
+#[derive(Drop)]
+pub(crate) struct ToOpen<'c> {
+    pub(crate) slot: u32,
+    pub(crate) session: u64,
+    pub(crate) config: &'c Config,
+}
+
 /// Opens a session on a row, where it is not open.
 pub(crate) fn attach(
     alloc: Global,
     column: &mut Option<Column>,
     row: &mut Row,
     number: u32,
-    slot: u32,
-    session: u64,
-    config: &Config,
+    asked: &ToOpen<'_>,
     events: &[EventDef],
 ) -> Result<Hand, AllocError>
     requires number { 0 < number }
     requires most { number ≤ THREADS }
-    requires within { slot < SESSIONS }
-    requires off { IsNone (slot_of row.old slot) }
+    requires within { asked.now.slot < SESSIONS }
+    requires off { IsNone (slot_of row.old asked.now.slot) }
     requires quiet { row.old.in_write ≡ false }
     requires stays { row.old.left ≡ false }
     requires events { length events.now ≡ length row.old.masks }
     requires none { cell_in column.old number ≡ None }
-    ensures hand { IfOk result (λ hand. hand ≡ first_hand session row.old.thread row.old.index) }
-    ensures opens { OnOk result (OpensRow events.now slot session config.now row.old row.new) }
-    ensures known { OnOk result (HasOpen row.new slot (opened session row.old.thread row.old.index config.now.chunks)) }
+    ensures hand { IfOk result (λ hand. hand ≡ first_hand asked.now.session row.old.thread row.old.index) }
+    ensures opens { OnOk result (OpensRow events.now asked.now.slot asked.now.session asked.now.config.now
+        row.old row.new) }
+    ensures known { OnOk result (HasOpen row.new asked.now.slot
+        (opened asked.now.session row.old.thread row.old.index asked.now.config.now.chunks)) }
     ensures cells { OnOk result ((r : ℕ) → cell_in column.new r
-        ≡ (if r == number then Some (opened_with session row.old config.now) else cell_in column.old r)) }
+        ≡ (if r == number then Some (opened_with asked.now.session row.old asked.now.config.now)
+        else cell_in column.old r)) }
     ensures same { OnErr result ((r : ℕ) → cell_in column.new r ≡ cell_in column.old r) }
     ensures row { OnErr result (row.new ≡ row.old) }
     ensures pool { pool_in column.new ≡ pool_in column.old }
     ensures chunks { pending_in column.new ≡ pending_in column.old }
 {
-    let copy = config.copy(alloc)?;
+    let copy = asked.config.copy(alloc)?;
     reserve(alloc, column, number)?;
-    let (made, hand) = row.open_on(alloc, slot, session, config, events)?;
+    let (made, hand) = row.open_on(alloc, asked.slot, asked.session, asked.config, events)?;
     let one = Open {
         slot: made,
         config: copy,

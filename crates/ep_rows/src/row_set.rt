@@ -49,14 +49,17 @@ impl RowSet for Rows {
         session: u64,
         config: &Config,
     ) -> Result<Hand, AllocError> {
+        let asked = places::ToOpen {
+            slot,
+            session,
+            config,
+        };
         places::attach(
             alloc,
             &mut self.columns[slot as usize],
             &mut self.rows[row as usize - 1],
             row,
-            slot,
-            session,
-            config,
+            &asked,
             self.events.as_slice(),
         )
     }
