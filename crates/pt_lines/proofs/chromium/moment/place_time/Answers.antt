@@ -1,5 +1,5 @@
 -- The pieces are written one before another.
-use Rattle.std.proofs.Common.{◌≡◌, List, ℕ, ◌++◌, ◌/◌, ◌%◌, drop, decimal, ap, sym, ◌∙◌, append_assoc, arith}
+use Rattle.std.proofs.Common.{List, ℕ, ◌++◌, ◌/◌, ◌%◌, drop, decimal, ap, sym, ◌∙◌, append_assoc, arith}
 use Rattle.std.specs.Prelude.{codes}
 use Rattle.std.proofs.lemmas.Fmt.{length-decimal-le}
 use Rattle.pt_lines.specs.Texts.{digits_in}
