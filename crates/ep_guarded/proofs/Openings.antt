@@ -3,7 +3,7 @@ use Rattle.std.proofs.Common.{◌≡◌, ℕ, zero, suc, ◌+◌, ◌*◌, ◌<�
 use Rattle.std.specs.Prelude.{if◌then◌else◌, option_map, slice_get, slice_set, replicate}
 use Rattle.std.proofs.Math.ListN.{length-set}
 use Rattle.std.proofs.lemmas.Bool.{true≢false, eq-eqb, ne_eqb}
-use Rattle.std.proofs.lemmas.Option.{none-some}
+use Rattle.std.proofs.lemmas.Option.{none-some, slice_get_read}
 use Rattle.std.proofs.lemmas.List.{get_or-set_other, length-replicate, length-take}
 use Rattle.ep_defs.specs.declared.event.EventDef.{EventDef}
 use Rattle.ep_defs.specs.declared.session.Config.{Config}
@@ -25,7 +25,7 @@ use Rattle.ep_guarded.specs.declared.kept.Kept.{Kept}
 use Rattle.ep_guarded.specs.Tied.{told_in, hand_in, grant_in, buffer_number, buffer_place, AreMarks, AreCounted}
 use Rattle.ep_guarded.specs.Resting.{RowOver, IsToldBy, RowRests, held_as, stand_as}
 use Rattle.ep_guarded.specs.Calls.{OpensRow, ClosesRow}
-use Rattle.ep_guarded.proofs.Resting.{each-set, told-kept, over-kept}
+use Rattle.ep_guarded.proofs.Resting.{each-set, get-set-same, told-kept, over-kept}
 use Rattle.ep_guarded.proofs.Lives.{first-life}
 
 -- ---- lists
@@ -35,6 +35,11 @@ pub set-twice : {A : Type 0} (xs : List A) (i : ℕ) (x y : A) → slice_set (sl
 set-twice [] i x y = refl
 set-twice (first ∷ xs) zero x y = refl
 set-twice (first ∷ xs) (suc i) x y = ap (λ (rest : List _). first ∷ rest) (set-twice xs i x y)
+
+-- What is read at a place where something was put is what was put there.
+pub put-back : {A : Type 0} (xs : List A) (i : ℕ) (met x : A) → i < length xs → x ≡ get_or (slice_set xs i met) i x → x ≡ met
+put-back xs i met x small read =
+    get-set-same xs i x met (slice_get_read (slice_set xs i met) _ i x refl (omega (arith, small, length-set xs i met)) read)
 
 none-set : {A : Type 0} (xs : List (Option A)) (i : ℕ) → get_or (slice_set xs i None) i None ≡ None
 none-set [] i = refl

@@ -1,5 +1,5 @@
 -- What is open in a buffer, once the row's write was shown to it.
-use Rattle.std.proofs.Common.{◌≡◌, ℕ, ◌+◌, ◌<◌, ◌≤◌, Bool, true, false, List, Option, Some, refl, ap, sym, ◌∙◌, subst, arith}
+use Rattle.std.proofs.Common.{◌≡◌, ℕ, ◌+◌, ◌<◌, ◌≤◌, Bool, true, false, List, Some, refl, ap, sym, ◌∙◌, subst, arith}
 use Rattle.std.specs.Prelude.{◌^◌, if◌then◌else◌, IsTrue, slice_set}
 use Rattle.std.specs.List.{All}
 use Rattle.std.proofs.lemmas.List.Elements.{All-push}
@@ -15,14 +15,14 @@ use Rattle.ep_defs.specs.declared.session.Config.{Config}
 use Rattle.ep_slot.specs.Hand.{HandState, hand_of}
 use Rattle.ep_row.specs.Bits.{ClearsBit, one_if}
 use Rattle.ep_row.specs.declared.row.Opening.{Opening}
-use Rattle.ep_row.specs.Row.{RowState, opening_of, shown_once, slot_of}
+use Rattle.ep_row.specs.Row.{RowState, opening_of, slot_of}
 use Rattle.ep_row.specs.AtRest.{SlotAtRest, KeepsRest, KeepsSlotRest, write_of}
 use Rattle.ep_guarded.specs.declared.agreed.Agreed.TheVariants as agreed
 use Rattle.ep_guarded.proofs.Rows.{due-few, slot-shown}
 use Rattle.ep_guarded.specs.declared.agreed.Told.{Told}
 use Rattle.ep_guarded.specs.declared.kept.Kept.{Kept}
 use Rattle.ep_guarded.specs.Resting.{KeptRests, state_of}
-use Rattle.ep_guarded.specs.Tied.{KeptState, Answers, IsAnswered}
+use Rattle.ep_guarded.specs.Tied.{IsAnswered}
 use Rattle.std.proofs.lemmas.Bool.{true≢false}
 use Rattle.ep_guarded.specs.Calls.{raised, IsDueFor, IsShown}
 

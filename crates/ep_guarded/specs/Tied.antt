@@ -71,11 +71,20 @@ buffer_number row slot = row * SESSIONS + slot
 abbrev pub buffer_place : ℕ → ℕ → ℕ
 buffer_place rows number = rows + 2 * number
 
+-- Where a buffer's tie to its hand stands.
+abbrev pub hand_place : ℕ → ℕ → ℕ
+hand_place rows number = buffer_place rows number + 1
+
 -- A row: its number, from 0, its life, from 0, and itself.
 pub record TiedRowState : Type 0 where
   pub number : ℕ
   pub life : ℕ
   pub row : RowState
+
+-- The row changes in what is open on it, and in nothing else.
+abbrev pub ChangesOpenings : TiedRowState → TiedRowState → Type 0
+ChangesOpenings old new =
+    new ≡ record old { row = record old.row { masks = new.row.masks; slots = new.row.slots } }
 
 -- A session that is to be opened on the row in this life finds that it has left, or serves another life.
 abbrev pub IsAway : ℕ → TiedRowState → Type 0

@@ -1,12 +1,11 @@
 //! A buffer of a session on a row.
-ghost use Rattle.std.specs.Prelude.{◌≡◌, ◌+◌, ◌<◌, ◌≤◌, ℕ, All, length, None, Some, IsSome, IsTrue};
-ghost use Rattle.std.specs.Option.{ForSome};
+ghost use Rattle.std.specs.Prelude.{◌≡◌, ◌+◌, ◌<◌, None, Some, IsSome, IsTrue};
 ghost use Rattle.ep_defs.specs.Session as valid;
-ghost use Rattle.ep_slot.specs.Chain.{records_of, HasRecords};
-ghost use Rattle.ep_row.specs.AtRest.{IsNumbered};
+ghost use Rattle.ep_slot.specs.Chain.{records_of};
 ghost use Rattle.ep_slot.specs.Hand.{Agrees};
 ghost use Rattle.ep_guarded.specs.declared.agreed.Agreed.TheVariants as agreed;
-ghost use Rattle.ep_guarded.specs.Tied.{told_in, hand_in, grant_in, hand_after, AreTaken, AnswersShow, TakesAll};
+ghost use Rattle.ep_guarded.specs.Tied.{told_in, hand_in, AnswersShow, TakesAll};
+ghost use Rattle.ep_guarded.specs.Sessions.{TakesWith};
 ghost use Rattle.ep_guarded.specs.Resting.{KeptRests, held_as};
 ghost use Rattle.ep_guarded.specs.Calls.{TellsDue, ShownBy};
 
@@ -14,7 +13,7 @@ use crate::agreed::Agreed;
 use crate::kept::{Kept, held_with, next_told, show_in, steal_in, told_of};
 use crate::program::Program;
 use ep_defs::Write;
-use ep_defs::limits::{SESSIONS, WRITES};
+use ep_defs::limits::SESSIONS;
 use ep_row::Row;
 use ep_slot::{Batch, Hand, Shown};
 use ep_tie::{Left, Right, Ties};
@@ -67,13 +66,8 @@ impl<'a, P: Program> TiedBuffer<'a, P> {
     ) -> Batch
         requires place { half.old.place ≡ self.old.place + 1 }
         requires hand { hand_in half.old.value ≡ Some hand.old }
-        ensures hand { hand.new ≡ hand_after hand.old (length (records_of result.chain)) result.last (length result.chain) }
-        ensures taken { AreTaken hand.old (records_of result.chain) result.last }
-        ensures numbered { ForSome (grant_in half.old.value) (λ grant. All (IsNumbered P.events grant.config (P.writes hand.old.thread) hand.old.from) (records_of result.chain)) }
-        ensures filled { All HasRecords result.chain }
-        ensures few { hand.new.stolen ≤ WRITES }
-        ensures half { hand_in half.new.value ≡ Some hand.new }
-        ensures grant { grant_in half.new.value ≡ grant_in half.old.value }
+        ensures takes { TakesWith P.events P.writes half.old.value half.new.value hand.old hand.new
+            result.chain result.last }
         ensures all { TakesAll (records_of result.chain) result.last self.old.kept self.new.kept }
         ensures places { (self.new.place ≡ self.old.place) × (half.new.place ≡ half.old.place) }
     {

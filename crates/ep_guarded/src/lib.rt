@@ -17,9 +17,11 @@ mod grant;
 mod kept;
 mod program;
 mod row;
+mod site;
 
 pub use agreed::{Agreed, HandNumbers, Held, Stand, Told};
 pub use buffer::TiedBuffer;
 pub use grant::Grant;
 pub use program::Program;
 pub use row::{NotOpened, TiedRow};
+pub use site::{Site, ToOpen};

@@ -1,25 +1,22 @@
 //! A row with its halves of ties.
-ghost use Rattle.std.specs.Prelude.{◌≡◌, ◌⊎◌, ◌+◌, ◌-◌, ◌^◌, ◌<◌, ◌≤◌, ◌↔◌, ℕ, false, true, length, option_map, take, slice_get, vec_len, All, Some, None, IsNone, IfSome, IfOk, IfErr, IsOk, OnOk, OnErr, IsSome, IsTrue, Err};
+ghost use Rattle.std.specs.Prelude.{◌≡◌, ◌⊎◌, ◌+◌, ◌-◌, ◌^◌, ◌<◌, ◌≤◌, ◌↔◌, ℕ, false, true, length, option_map, take, slice_get, vec_len, All, Some, None, IsNone, IfSome, IfOk, OnErr, IsSome, IsTrue, Err};
 ghost use Rattle.std.specs.Int.{bit_at};
 ghost use Rattle.std.specs.Option.{ForSome};
 ghost use Rattle.ep_defs.specs.Session as valid;
 ghost use Rattle.ep_row.specs.Bits.{ClearsBit};
 ghost use Rattle.ep_row.specs.Row.{mask_of, new_row, with_begin};
-ghost use Rattle.ep_pool.specs.Shared.{IsSeatOf};
-ghost use Rattle.ep_pool.specs.declared.limits.TheConstants.{SEAT_COUNTS};
 ghost use Rattle.ep_tie.specs.Tied.{Tied};
 ghost use Rattle.ep_guarded.specs.declared.agreed.Agreed.{Agreed as AgreedValue};
 ghost use Rattle.ep_guarded.specs.declared.agreed.Agreed.TheVariants as agreed;
 ghost use Rattle.ep_guarded.specs.declared.row.NotOpened.TheVariants as not_opened;
-ghost use Rattle.ep_guarded.specs.Tied.{stand_in, left_in, hand_in, grant_in, next_stand, thread_of, buffer_number, buffer_place, AnswersShow, IsAway, IsDone};
-ghost use Rattle.ep_guarded.specs.Granted.{IsGrantFor};
-ghost use Rattle.ep_guarded.specs.Sessions.{Opens, Closes};
+ghost use Rattle.ep_guarded.specs.Tied.{stand_in, left_in, next_stand, thread_of, buffer_number, buffer_place, AnswersShow, ChangesOpenings, IsAway, IsDone};
+ghost use Rattle.ep_guarded.specs.Sessions.{Opens, Closes, IsOpenable, IsClosable};
 
 use crate::agreed::{Agreed, Stand};
 use crate::buffer::TiedBuffer;
-use crate::grant::Grant;
 use crate::kept::{close, open};
 use crate::program::Program;
+use crate::site::{Site, ToOpen};
 use ep_defs::limits::{SESSIONS, WRITES};
 use ep_defs::{Marks, Write};
 use ep_pool::PoolSeat;
@@ -36,6 +33,14 @@ pub enum NotOpened {
     /// The row has left, or serves another life.
     Away,
     OutOfMemory,
+}
+
+impl From<AllocError> for NotOpened {
+    ghost from_gives = { λ _ why. why ≡ not_opened.OutOfMemory };
+
+    fn from(_error: AllocError) -> NotOpened {
+        NotOpened::OutOfMemory
+    }
 }
 
 /// A thread's row with its halves of ties, as it stands under its lock. The threads that it serves in a run come one after
@@ -274,83 +279,45 @@ impl<'a, P: Program> TiedRow<'a, P> {
         true
     }
 
-    /// Opens a session, with what it was granted, in a slot whose buffer and whose hand's half are lent. Where the row has
-    /// left or serves another life, and out of memory, all stays as it was.
+    /// Whether the row serves this life, and its thread has begun so many writes.
+    pub fn is_done(&self, life: u32, writes: u32) -> bool
+        ensures done { IsTrue result ↔ IsDone life writes self.now }
+        ensures thread { self.now.row.thread ≡ thread_of P.rows self.now.number self.now.life }
+    {
+        self.life == life && self.row.index() == writes
+    }
+
+    /// Opens a session in a slot whose buffer and whose hand's half are lent. Where the row has left or serves another life,
+    /// and out of memory, all stays as it was.
     pub fn open(
         &mut self,
         alloc: Global,
         ties: &Ties<P, Agreed<'a>>,
-        slot: u32,
-        life: u32,
+        asked: &ToOpen<'a>,
         buffer: &mut TiedBuffer<'a, P>,
         half: &mut Right<P, Agreed<'a>>,
-        session: u64,
-        grant: &'a Grant,
         seat: &mut PoolSeat,
     ) -> Result<Hand, NotOpened>
-        requires within { slot < SESSIONS }
+        requires row { asked.now.site.number ≡ self.old.number }
         requires quiet { self.old.row.in_write ≡ false }
-        requires place { buffer.old.place ≡ buffer_place P.rows (buffer_number self.old.number slot) }
-        requires hand_place { half.old.place ≡ buffer.old.place + 1 }
-        requires off { hand_in half.old.value ≡ None }
-        requires admitted { IsGrantFor P.events grant.now }
-        requires seat { IsSeatOf grant.now.pool seat.old }
-        requires share { 1 < seat.old.share }
-        ensures away { (result ≡ Err not_opened.Away) ↔ IsAway life self.old }
-        ensures opens { IfOk result (λ hand. Opens session (thread_of P.rows self.old.number life)
-            grant.now hand half.new.value seat.old seat.new) }
+        requires place { buffer.old.place ≡ buffer_place P.rows (buffer_number self.old.number asked.now.site.slot) }
+        requires can { IsOpenable P.rows P.events asked.now.site asked.now.grant.now half.old seat.old }
+        ensures away { (result ≡ Err not_opened.Away) ↔ IsAway asked.now.site.life self.old }
+        ensures opens { IfOk result (λ hand. Opens asked.now.session
+            (thread_of P.rows self.old.number asked.now.site.life) asked.now.grant.now hand
+            half.new.value seat.old seat.new) }
         ensures from { IfOk result (λ hand. hand.from ≡ self.old.row.index) }
         ensures none { OnErr result ((half.new ≡ half.old) × (seat.new ≡ seat.old)) }
-        ensures row { self.new ≡ record self.old {
-          row = record self.old.row
-              { masks = self.new.row.masks; slots = self.new.row.slots };
-        } }
+        ensures row { ChangesOpenings self.old self.new }
         ensures none_row { OnErr result (self.new ≡ self.old) }
         ensures places { (buffer.new.place ≡ buffer.old.place) × (half.new.place ≡ half.old.place) }
     {
-        if self.row.left() || self.life != life {
+        if self.row.left() || self.life != asked.site.life {
             return Err(NotOpened::Away);
         }
-        match self.open_here(alloc, ties, slot, buffer, half, session, grant, seat) {
-            Ok(hand) => Ok(hand),
-            Err(AllocError) => Err(NotOpened::OutOfMemory),
-        }
-    }
-
-    // The same where the row has not left.
-    fn open_here(
-        &mut self,
-        alloc: Global,
-        ties: &Ties<P, Agreed<'a>>,
-        slot: u32,
-        buffer: &mut TiedBuffer<'a, P>,
-        half: &mut Right<P, Agreed<'a>>,
-        session: u64,
-        grant: &'a Grant,
-        seat: &mut PoolSeat,
-    ) -> Result<Hand, AllocError>
-        requires within { slot < SESSIONS }
-        requires quiet { self.old.row.in_write ≡ false }
-        requires stays { self.old.row.left ≡ false }
-        requires place { buffer.old.place ≡ buffer_place P.rows (buffer_number self.old.number slot) }
-        requires hand_place { half.old.place ≡ buffer.old.place + 1 }
-        requires off { hand_in half.old.value ≡ None }
-        requires admitted { IsGrantFor P.events grant.now }
-        requires seat { IsSeatOf grant.now.pool seat.old }
-        requires share { 1 < seat.old.share }
-        ensures opens { IfOk result (λ hand. Opens session self.old.row.thread
-            grant.now hand half.new.value seat.old seat.new) }
-        ensures from { IfOk result (λ hand. hand.from ≡ self.old.row.index) }
-        ensures none { OnErr result ((half.new ≡ half.old) × (seat.new ≡ seat.old)) }
-        ensures row { self.new ≡ record self.old {
-          row = record self.old.row
-              { masks = self.new.row.masks; slots = self.new.row.slots };
-        } }
-        ensures none_row { OnErr result (self.new ≡ self.old) }
-        ensures places { (buffer.new.place ≡ buffer.old.place) × (half.new.place ≡ half.old.place) }
-    {
+        let slot = asked.site.slot;
         buffer.meet(ties, &mut self.buffers[slot as usize], half);
-        let (kept, hand) = open::<P>(alloc, &mut self.row, slot, session, grant, seat)?;
+        let (kept, hand) = open::<P>(alloc, &mut self.row, slot, asked.session, asked.grant, seat)?;
         buffer.put(ties, &mut self.buffers[slot as usize], half, kept, &hand);
         Ok(hand)
     }
@@ -361,73 +328,25 @@ impl<'a, P: Program> TiedRow<'a, P> {
     pub fn close(
         &mut self,
         ties: &Ties<P, Agreed<'a>>,
-        slot: u32,
+        site: Site,
         buffer: &mut TiedBuffer<'a, P>,
         half: &mut Right<P, Agreed<'a>>,
         hand: Hand,
         seat: &mut PoolSeat,
     ) -> (Batch, Marks)
-        requires within { slot < SESSIONS }
+        requires row { site.number ≡ self.old.number }
         requires quiet { self.old.row.in_write ≡ false }
-        requires place { buffer.old.place ≡ buffer_place P.rows (buffer_number self.old.number slot) }
-        requires hand_place { half.old.place ≡ buffer.old.place + 1 }
-        requires hand { hand_in half.old.value ≡ Some hand }
-        requires seat { ForSome (grant_in half.old.value) (λ grant. IsSeatOf grant.pool seat.old) }
-        requires few { seat.old.taken + WRITES < SEAT_COUNTS }
-        requires few_given { seat.old.given < SEAT_COUNTS }
+        requires place { buffer.old.place ≡ buffer_place P.rows (buffer_number self.old.number site.slot) }
+        requires can { IsClosable P.rows site half.old hand seat.old }
         ensures closes { Closes P.events P.writes half.old.value hand result.0.chain result.0.last
             result.1 seat.old seat.new }
         ensures to { result.1.to ≡ self.old.row.index }
         ensures thread { hand.thread ≡ self.old.row.thread }
         ensures half { half.new.value ≡ Some agreed.Nothing }
-        ensures row { self.new ≡ record self.old {
-          row = record self.old.row
-              { masks = self.new.row.masks; slots = self.new.row.slots };
-        } }
+        ensures row { ChangesOpenings self.old self.new }
         ensures places { (buffer.new.place ≡ buffer.old.place) × (half.new.place ≡ half.old.place) }
     {
-        let kept = buffer.take(ties, &mut self.buffers[slot as usize], half);
-        close::<P>(&mut self.row, slot, kept, hand, seat)
-    }
-
-    /// Closes the session where the row serves this life and its thread has begun so many writes. Elsewhere the hand comes
-    /// back, and all stays as it was.
-    pub fn close_done(
-        &mut self,
-        ties: &Ties<P, Agreed<'a>>,
-        slot: u32,
-        life: u32,
-        writes: u32,
-        buffer: &mut TiedBuffer<'a, P>,
-        half: &mut Right<P, Agreed<'a>>,
-        hand: Hand,
-        seat: &mut PoolSeat,
-    ) -> Result<(Batch, Marks), Hand>
-        requires within { slot < SESSIONS }
-        requires quiet { self.old.row.in_write ≡ false }
-        requires place { buffer.old.place ≡ buffer_place P.rows (buffer_number self.old.number slot) }
-        requires hand_place { half.old.place ≡ buffer.old.place + 1 }
-        requires hand { hand_in half.old.value ≡ Some hand }
-        requires seat { ForSome (grant_in half.old.value) (λ grant. IsSeatOf grant.pool seat.old) }
-        requires few { seat.old.taken + WRITES < SEAT_COUNTS }
-        requires few_given { seat.old.given < SEAT_COUNTS }
-        ensures done { IsOk result ↔ IsDone life writes self.old }
-        ensures closes { IfOk result (λ closed. Closes P.events P.writes half.old.value hand
-            closed.0.chain closed.0.last closed.1 seat.old seat.new) }
-        ensures to { IfOk result (λ closed. closed.1.to ≡ writes) }
-        ensures thread { OnOk result (hand.thread ≡ thread_of P.rows self.old.number life) }
-        ensures half { OnOk result (half.new.value ≡ Some agreed.Nothing) }
-        ensures back { IfErr result (λ back. back ≡ hand) }
-        ensures none { OnErr result ((half.new ≡ half.old) × (seat.new ≡ seat.old) × (self.new ≡ self.old)) }
-        ensures row { self.new ≡ record self.old {
-          row = record self.old.row
-              { masks = self.new.row.masks; slots = self.new.row.slots };
-        } }
-        ensures places { (buffer.new.place ≡ buffer.old.place) × (half.new.place ≡ half.old.place) }
-    {
-        if self.life != life || self.row.index() != writes {
-            return Err(hand);
-        }
-        Ok(self.close(ties, slot, buffer, half, hand, seat))
+        let kept = buffer.take(ties, &mut self.buffers[site.slot as usize], half);
+        close::<P>(&mut self.row, site.slot, kept, hand, seat)
     }
 }

@@ -5,10 +5,9 @@ use Rattle.std.proofs.Math.ListN.{length-set}
 use Rattle.std.proofs.lemmas.Option.{slice_get_within}
 use Rattle.ep_tie.specs.Tied.{Tied}
 use Rattle.ep_guarded.specs.declared.agreed.Agreed.{Agreed}
-use Rattle.ep_guarded.specs.Tied.{hand_in}
+use Rattle.ep_guarded.specs.Tied.{hand_in, hand_place}
 use Rattle.ep_guarded.proofs.Resting.{each-set}
 use Rattle.ep_live.specs.Free.{ColumnState, AreColumns}
-use Rattle.ep_live.specs.Live.{hand_place}
 use Rattle.ep_live.specs.Made.{IsHandTie, IsSlotTie}
 
 -- How many halves a column has, of so many that were dealt.

@@ -8,8 +8,7 @@ use Rattle.ep_pool.specs.Shared.{SeatState}
 use Rattle.ep_slot.specs.Hand.{HandState}
 use Rattle.ep_tie.specs.Tied.{Tied}
 use Rattle.ep_guarded.specs.declared.agreed.Agreed.{Agreed}
-use Rattle.ep_guarded.specs.Tied.{hand_in, buffer_number}
-use Rattle.ep_live.specs.Live.{hand_place}
+use Rattle.ep_guarded.specs.Tied.{hand_in, buffer_number, hand_place}
 use Rattle.ep_live.specs.RowSet.{LiveRowsState, half_at, expected_in, out_in, stolen_in, AreRowsOfOne}
 use Rattle.ep_live.proofs.Halves.{half-is, said-own, said-there, sum-set, out-more}
 

@@ -6,21 +6,13 @@ use Rattle.ep_defs.specs.declared.limits.TheConstants.{SESSIONS, WRITES}
 use Rattle.ep_defs.specs.declared.event.EventDef.{EventDef}
 use Rattle.ep_defs.specs.declared.session.Write.{Write}
 use Rattle.ep_defs.specs.Session as valid
-use Rattle.ep_pool.specs.declared.limits.TheConstants.{SEAT_COUNTS}
-use Rattle.ep_pool.specs.Shared.{SeatState, IsSeatOf}
-use Rattle.ep_slot.specs.Hand.{HandState}
-use Rattle.ep_tie.specs.Tied.{Tied}
 use Rattle.ep_guarded.specs.declared.agreed.Agreed.{Agreed}
 use Rattle.ep_guarded.specs.declared.agreed.Stand.{Stand}
-use Rattle.ep_guarded.specs.Tied.{stand_in, hand_in, grant_in, buffer_number, buffer_place}
+use Rattle.ep_guarded.specs.Tied.{stand_in}
 
 -- How many rows there are.
 pub record LiveState : Type 0 where
   pub rows : ℕ
-
--- Where a buffer's tie to its hand stands.
-abbrev pub hand_place : ℕ → ℕ → ℕ
-hand_place rows number = buffer_place rows number + 1
 
 -- A thread that has begun one write more.
 abbrev pub with_one : Stand → Stand
@@ -34,17 +26,6 @@ pub record IsNextWrite (events : List EventDef) (writes : ℕ → List Write) (h
   pub some : 0 < write.event
   pub event : write.event ≤ length events
   pub fits : IsTrue (valid.fits write)
-
--- The session of a hand can be closed in a slot of the row with this number, from 0: the half of the tie to the buffer there
--- agrees on the hand, and the seat of the session's pool can still count what was taken and given through it.
-pub record IsClosable (rows number slot : ℕ) (half : Tied Agreed) (hand : HandState) (seat : SeatState) : Type 0 where
-  pub row : number < rows
-  pub slot_is : slot < SESSIONS
-  pub place : half.place ≡ hand_place rows (buffer_number number slot)
-  pub hand_is : hand_in half.value ≡ Some hand
-  pub seat_is : ForSome (grant_in half.value) (λ grant. IsSeatOf grant.pool seat)
-  pub few : seat.taken + WRITES < SEAT_COUNTS
-  pub few_given : seat.given < SEAT_COUNTS
 
 -- There is a row for each thread, and a buffer for each row and slot, and the events are those of the program.
 pub record IsWhole (rows : ℕ) (events : List EventDef) (row_locks buffer_locks : ℕ) (kept : List EventDef) : Type 0 where

@@ -4,8 +4,7 @@ use Rattle.std.specs.Global.{Box}
 use Rattle.ep_tie.specs.Tied.{Tied}
 use Rattle.ep_guarded.specs.declared.agreed.Agreed.{Agreed}
 use Rattle.ep_guarded.specs.declared.agreed.Agreed.TheVariants as agreed
-use Rattle.ep_guarded.specs.Tied.{BufferState, TiedRowState, buffer_number, buffer_place, stand_in, hand_in}
-use Rattle.ep_live.specs.Live.{hand_place}
+use Rattle.ep_guarded.specs.Tied.{BufferState, TiedRowState, buffer_number, buffer_place, hand_place, stand_in, hand_in}
 
 -- The half is of the tie between the row with this number and its thread, which has begun so many writes.
 pub record IsStand (index number : ℕ) (half : Tied Agreed) : Type 0 where

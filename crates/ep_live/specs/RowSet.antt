@@ -13,8 +13,7 @@ use Rattle.ep_tie.specs.Tied.{Tied}
 use Rattle.ep_guarded.specs.declared.agreed.Agreed.{Agreed}
 use Rattle.ep_guarded.specs.declared.grant.Grant.{Grant}
 use Rattle.ep_guarded.specs.Granted.{IsGrantFor}
-use Rattle.ep_guarded.specs.Tied.{hand_in, grant_in, thread_of, buffer_number, AreCounted}
-use Rattle.ep_live.specs.Live.{hand_place}
+use Rattle.ep_guarded.specs.Tied.{hand_in, grant_in, thread_of, buffer_number, hand_place, AreCounted}
 
 -- ---- the halves of a session's hands
 

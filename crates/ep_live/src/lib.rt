@@ -21,8 +21,10 @@ mod limits;
 mod live;
 mod live_rows;
 mod made;
+mod next_write;
 mod parked;
 mod stands;
+mod to_close;
 mod written;
 
 pub use ended::Ended;
@@ -31,6 +33,7 @@ pub use grants::place;
 pub use limits::ROW_TIES;
 pub use live::{BuffersByNumber, Live, RowsByNumber};
 pub use live_rows::{LiveRows, same_tests_have_the_same_lives, same_tests_have_the_same_stands};
+pub use next_write::NextWrite;
 pub use parked::Parked;
 pub use stands::Stands;
 pub use written::Written;

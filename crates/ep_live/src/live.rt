@@ -1,35 +1,32 @@
 //! Rows and buffers behind locks.
-ghost use Rattle.std.specs.Prelude.{◌≡◌, ◌+◌, ◌-◌, ◌*◌, ◌^◌, ◌<◌, ◌≤◌, ℕ, true, false, length, vec_len, option_map, slice_get, All, Some, None, IfOk, IfErr, OnOk, OnErr, IsSome, IsTrue, ◌==◌, if◌then◌else◌};
+ghost use Rattle.std.specs.Prelude.{◌≡◌, ◌+◌, ◌-◌, ◌*◌, ◌^◌, ◌<◌, ◌≤◌, ℕ, true, false, length, vec_len, option_map, slice_get, Some, None, IfOk, IfErr, OnOk, OnErr, IsSome, IsTrue, ◌==◌, if◌then◌else◌};
 ghost use Rattle.std.specs.Int.{bit_at};
 ghost use Rattle.std.specs.Option.{ForSome};
 ghost use Rattle.ep_row.specs.Bits.{one_if, ClearsBit};
 ghost use Rattle.ep_row.specs.Row.{with_begin};
 ghost use Rattle.ep_defs.specs.Session as valid;
-ghost use Rattle.ep_pool.specs.Shared.{IsSeatOf};
-ghost use Rattle.ep_pool.specs.declared.limits.TheConstants.{SEAT_COUNTS};
-ghost use Rattle.ep_slot.specs.Chain.{records_of, HasRecords};
 ghost use Rattle.ep_slot.specs.Slot.{is_refused};
-ghost use Rattle.ep_row.specs.AtRest.{IsNumbered};
 ghost use Rattle.ep_guarded.specs.declared.agreed.Agreed.TheVariants as agreed;
-ghost use Rattle.ep_guarded.specs.Tied.{stand_in, left_in, hand_in, grant_in, next_stand, thread_of, buffer_number, buffer_place, hand_after, AreTaken};
-ghost use Rattle.ep_guarded.specs.Granted.{IsGrantFor};
-ghost use Rattle.ep_guarded.specs.Sessions.{Opens, Closes};
-ghost use Rattle.ep_live.specs.Live.{hand_place, with_one, IsClosable, IsNextWrite};
+ghost use Rattle.ep_guarded.specs.Tied.{stand_in, left_in, hand_in, next_stand, thread_of, buffer_number, buffer_place, hand_place, ChangesOpenings};
+ghost use Rattle.ep_guarded.specs.Sessions.{Opens, TakesWith, Closes, IsOpenable, IsClosable};
+ghost use Rattle.ep_live.specs.Live.{with_one, IsNextWrite};
 ghost use Rattle.ep_live.specs.Written.{AnswersBehind, AreAnswered, IsWritten, IsWrittenBehind};
 ghost use Rattle.ep_live.specs.Made.{AreStands, AreHandTies};
 
 use crate::limits::ROW_TIES;
 use crate::made::{make_rows, make_stands};
+use crate::next_write::NextWrite;
 use crate::stands::Stands;
+use crate::to_close::ToClose;
 use crate::written::Written;
 use ep_defs::limits::{EVENTS, SESSIONS, WRITES};
 use ep_defs::{EventDef, Marks, Write};
-use ep_guarded::{Agreed, Grant, NotOpened, Program, Stand, TiedBuffer, TiedRow};
+use ep_guarded::{Agreed, NotOpened, Program, Site, Stand, TiedBuffer, TiedRow, ToOpen};
 use ep_locks::{Guards, Locks};
 use ep_pool::PoolSeat;
 use ep_slot::{Batch, Hand, Shown};
 use ep_tie::{Blank, Right, Ties};
-use pt_io::{Gate, Moment};
+use pt_io::Gate;
 use std::alloc::{AllocError, Global};
 use std::marker::{Model, PhantomData};
 use std::sync::Wait;
@@ -155,26 +152,24 @@ impl<'a, P: Program> Live<'a, P> {
         &self,
         rt: &R,
         gate: &G,
-        at: Moment,
         number: usize,
         half: &mut Right<P, Agreed<'a>>,
-        stamp: u64,
-        write: &Write,
+        next: &NextWrite<'_>,
     ) -> Written
         requires row { number < P.rows }
         requires place { half.old.place ≡ number }
         requires here { IsSome (stand_in half.old.value) }
         requires few { ForSome (stand_in half.old.value) (λ s. s.index < WRITES) }
-        requires next { ForSome (stand_in half.old.value) (λ s. slice_get (P.writes s.thread) s.index ≡ Some write.now) }
-        requires some { 0 < write.now.event }
-        requires event { write.now.event ≤ length P.events }
-        requires fits { IsTrue (valid.fits write.now) }
-        ensures answer { IsWrittenBehind stamp write.now half.old.value result }
+        requires next { ForSome (stand_in half.old.value) (λ s. slice_get (P.writes s.thread) s.index ≡ Some next.now.write.now) }
+        requires some { 0 < next.now.write.now.event }
+        requires event { next.now.write.now.event ≤ length P.events }
+        requires fits { IsTrue (valid.fits next.now.write.now) }
+        ensures answer { IsWrittenBehind next.now.stamp next.now.write.now half.old.value result }
         ensures stands { stand_in half.new.value ≡ option_map with_one (stand_in half.old.value) }
         ensures place { half.new.place ≡ half.old.place }
     {
         let (mut row, held) = self.rows.take(rt, number);
-        let written = self.write_on(rt, gate, at, number, &mut row, half, stamp, write);
+        let written = self.write_on(rt, gate, number, &mut row, half, next);
         self.rows.put(held, row);
         written
     }
@@ -184,29 +179,27 @@ impl<'a, P: Program> Live<'a, P> {
         &self,
         rt: &R,
         gate: &G,
-        at: Moment,
         number: usize,
         row: &mut TiedRow<'a, P>,
         half: &mut Right<P, Agreed<'a>>,
-        stamp: u64,
-        write: &Write,
+        next: &NextWrite<'_>,
     ) -> Written
         requires within { number < P.rows }
         requires number { row.old.number ≡ number }
         requires quiet { row.old.row.in_write ≡ false }
         requires place { half.old.place ≡ number }
-        requires write { IsNextWrite P.events P.writes half.old.value write.now }
-        ensures answer { IsWritten stamp write.now row.old.row row.new.row result }
-        ensures row { row.new.row ≡ record (with_begin row.old.row stamp write.now)
+        requires write { IsNextWrite P.events P.writes half.old.value next.now.write.now }
+        ensures answer { IsWritten next.now.stamp next.now.write.now row.old.row row.new.row result }
+        ensures row { row.new.row ≡ record (with_begin row.old.row next.now.stamp next.now.write.now)
             { in_write = false; due = 0; slots = row.new.row.slots } }
         ensures number { row.new.number ≡ row.old.number }
         ensures stood { stand_in half.old.value ≡ Some (record { thread = row.old.row.thread; index = row.old.row.index }) }
         ensures stands { stand_in half.new.value ≡ option_map with_one (stand_in half.old.value) }
         ensures place { half.new.place ≡ half.old.place }
     {
-        let shown = row.begin(&self.ties, half, stamp, write);
-        gate.pass(at);
-        let refused = self.show_all(rt, number, row, write);
+        let shown = row.begin(&self.ties, half, next.stamp, next.write);
+        gate.pass(next.at);
+        let refused = self.show_all(rt, number, row, next.write);
         row.end();
         Written {
             number: row.index(),
@@ -319,77 +312,52 @@ impl<'a, P: Program> Live<'a, P> {
         said
     }
 
-    /// Opens a session, with what it was granted, in a slot of the row with this number, and gives its hand. Where the row
-    /// has left, or serves another life than this one, it answers so. Where the threads' halves are lent, the session
-    /// begins where the thread stands. The seat of its pool gives a share to the buffer. It waits for the row and for the
-    /// buffer. Unless it opens the session all stays as it was.
+    /// Opens a session, and gives its hand. Where the row has left, or serves another life, it answers so. Where the
+    /// threads' halves are lent, the session begins where the thread stands. The seat of its pool gives a share to the
+    /// buffer. It waits for the row and for the buffer. Unless it opens the session all stays as it was.
     pub fn open<R: Wait>(
         &self,
         rt: &R,
         alloc: Global,
-        number: usize,
-        slot: u32,
-        life: u32,
+        asked: &ToOpen<'a>,
         half: &mut Right<P, Agreed<'a>>,
         stands: &mut Stands<'a, P>,
-        session: u64,
-        grant: &'a Grant,
         seat: &mut PoolSeat,
     ) -> Result<Hand, NotOpened>
-        requires row { number < P.rows }
-        requires slot { slot < SESSIONS }
-        requires place { half.old.place ≡ hand_place P.rows (buffer_number number slot) }
-        requires off { hand_in half.old.value ≡ None }
-        requires admitted { IsGrantFor P.events grant.now }
-        requires seat { IsSeatOf grant.now.pool seat.old }
-        requires share { 1 < seat.old.share }
-        ensures opens { IfOk result (λ hand. Opens session (thread_of P.rows number life) grant.now hand
+        requires row { asked.now.site.number < P.rows }
+        requires can { IsOpenable P.rows P.events asked.now.site asked.now.grant.now half.old seat.old }
+        ensures opens { IfOk result (λ hand. Opens asked.now.session
+            (thread_of P.rows asked.now.site.number asked.now.site.life) asked.now.grant.now hand
             half.new.value seat.old seat.new) }
         ensures from { IfOk result (λ hand. ForSome stands.old (λ index. hand.from ≡ index)) }
         ensures none { OnErr result ((half.new ≡ half.old) × (seat.new ≡ seat.old)) }
         ensures place { half.new.place ≡ half.old.place }
         ensures stands { stands.new ≡ stands.old }
     {
+        let number = asked.site.number;
         let (mut row, row_held) = self.rows.take(rt, number);
         stands.meet(&self.ties, &mut row, number);
-        let (mut buffer, buffer_held) = self.buffers.take(rt, buffer_at(number, slot));
-        let opened = row.open(
-            alloc,
-            &self.ties,
-            slot,
-            life,
-            &mut buffer,
-            half,
-            session,
-            grant,
-            seat,
-        );
+        let (mut buffer, buffer_held) = self.buffers.take(rt, buffer_at(number, asked.site.slot));
+        let opened = row.open(alloc, &self.ties, asked, &mut buffer, half, seat);
         self.buffers.put(buffer_held, buffer);
         self.rows.put(row_held, row);
         opened
     }
 
-    /// Closes the session of a hand in a slot of the row with this number, and gives what was pending and what the session
-    /// had of the row's thread. Where the threads' halves are lent, the session ends where the thread stands. The seat of
-    /// its pool gets the buffer's share back, with what was taken through it. It waits for the row and for the buffer, and
-    /// takes no memory.
+    /// Closes the session of a hand, and gives what was pending and what the session had of the row's thread. Where the
+    /// threads' halves are lent, the session ends where the thread stands. The seat of its pool gets the buffer's share back,
+    /// with what was taken through it. It waits for the row and for the buffer, and takes no memory.
     pub fn close<R: Wait>(
         &self,
         rt: &R,
-        number: usize,
-        slot: u32,
+        site: Site,
         half: &mut Right<P, Agreed<'a>>,
         stands: &mut Stands<'a, P>,
         hand: Hand,
         seat: &mut PoolSeat,
     ) -> (Batch, Marks)
-        requires row { number < P.rows }
-        requires slot { slot < SESSIONS }
-        requires place { half.old.place ≡ hand_place P.rows (buffer_number number slot) }
-        requires hand { hand_in half.old.value ≡ Some hand }
-        requires seat { ForSome (grant_in half.old.value) (λ grant. IsSeatOf grant.pool seat.old) }
-        requires few { seat.old.taken + WRITES < SEAT_COUNTS }
-        requires few_given { seat.old.given < SEAT_COUNTS }
+        requires row { site.number < P.rows }
+        requires can { IsClosable P.rows site half.old hand seat.old }
         ensures closes { Closes P.events P.writes half.old.value hand result.0.chain result.0.last result.1
             seat.old seat.new }
         ensures to { ForSome stands.old (λ index. result.1.to ≡ index) }
@@ -397,12 +365,38 @@ impl<'a, P: Program> Live<'a, P> {
         ensures place { half.new.place ≡ half.old.place }
         ensures stands { stands.new ≡ stands.old }
     {
-        let (mut row, row_held) = self.rows.take(rt, number);
-        stands.meet(&self.ties, &mut row, number);
-        let (mut buffer, buffer_held) = self.buffers.take(rt, buffer_at(number, slot));
-        let closed = row.close(&self.ties, slot, &mut buffer, half, hand, seat);
-        self.buffers.put(buffer_held, buffer);
-        self.rows.put(row_held, row);
+        let (mut row, held) = self.rows.take(rt, site.number);
+        stands.meet(&self.ties, &mut row, site.number);
+        let closed = self.close_on(rt, site, &mut row, half, hand, seat);
+        self.rows.put(held, row);
+        closed
+    }
+
+    // The same on this row, which was taken, wherever its thread stands.
+    fn close_on<R: Wait>(
+        &self,
+        rt: &R,
+        site: Site,
+        row: &mut TiedRow<'a, P>,
+        half: &mut Right<P, Agreed<'a>>,
+        hand: Hand,
+        seat: &mut PoolSeat,
+    ) -> (Batch, Marks)
+        requires within { site.number < P.rows }
+        requires number { row.old.number ≡ site.number }
+        requires quiet { row.old.row.in_write ≡ false }
+        requires can { IsClosable P.rows site half.old hand seat.old }
+        ensures closes { Closes P.events P.writes half.old.value hand result.0.chain result.0.last result.1
+            seat.old seat.new }
+        ensures to { result.1.to ≡ row.old.row.index }
+        ensures thread { hand.thread ≡ row.old.row.thread }
+        ensures half { half.new.value ≡ Some agreed.Nothing }
+        ensures place { half.new.place ≡ half.old.place }
+        ensures row { ChangesOpenings row.old row.new }
+    {
+        let (mut buffer, held) = self.buffers.take(rt, buffer_at(site.number, site.slot));
+        let closed = row.close(&self.ties, site, &mut buffer, half, hand, seat);
+        self.buffers.put(held, buffer);
         closed
     }
 
@@ -411,101 +405,69 @@ impl<'a, P: Program> Live<'a, P> {
     pub fn close_done<R: Wait>(
         &self,
         rt: &R,
-        number: usize,
-        slot: u32,
-        life: u32,
+        site: Site,
         writes: u32,
         half: &mut Right<P, Agreed<'a>>,
         hand: Hand,
         seat: &mut PoolSeat,
     ) -> Result<(Batch, Marks), Hand>
-        requires { IsClosable P.rows number slot half.old hand seat.old }
+        requires row { site.number < P.rows }
+        requires can { IsClosable P.rows site half.old hand seat.old }
         ensures closes { IfOk result (λ closed. Closes P.events P.writes half.old.value hand closed.0.chain
             closed.0.last closed.1 seat.old seat.new) }
         ensures to { IfOk result (λ closed. closed.1.to ≡ writes) }
-        ensures thread { OnOk result (hand.thread ≡ thread_of P.rows number life) }
+        ensures thread { OnOk result (hand.thread ≡ thread_of P.rows site.number site.life) }
         ensures half { OnOk result (half.new.value ≡ Some agreed.Nothing) }
         ensures back { IfErr result (λ back. back ≡ hand) }
         ensures none { OnErr result ((half.new ≡ half.old) × (seat.new ≡ seat.old)) }
         ensures place { half.new.place ≡ half.old.place }
     {
-        let (mut row, row_held) = self.rows.take(rt, number);
-        let (mut buffer, buffer_held) = self.buffers.take(rt, buffer_at(number, slot));
-        let closed = row.close_done(
-            &self.ties,
-            slot,
-            life,
-            writes,
-            &mut buffer,
-            half,
-            hand,
-            seat,
-        );
-        self.buffers.put(buffer_held, buffer);
-        self.rows.put(row_held, row);
-        closed
+        let (mut row, held) = self.rows.take(rt, site.number);
+        if !row.is_done(site.life, writes) {
+            self.rows.put(held, row);
+            return Err(hand);
+        }
+        let closed = self.close_on(rt, site, &mut row, half, hand, seat);
+        self.rows.put(held, row);
+        Ok(closed)
     }
 
-    /// The same once the row's thread has begun so many writes, for which it waits too.
-    pub(crate) fn close_last<R: Wait>(
+    /// Closes the session as `close` does, or, where it is to end once the row's thread has begun so many writes and the
+    /// threads' halves are not lent, as `close_done` does, for which it then waits too.
+    pub(crate) fn close_by<R: Wait>(
         &self,
         rt: &R,
-        number: usize,
-        slot: u32,
-        life: u32,
-        writes: u32,
+        asked: ToClose,
         half: &mut Right<P, Agreed<'a>>,
+        stands: &mut Stands<'a, P>,
         hand: Hand,
         seat: &mut PoolSeat,
     ) -> (Batch, Marks)
-        requires { IsClosable P.rows number slot half.old hand seat.old }
+        requires row { asked.site.number < P.rows }
+        requires can { IsClosable P.rows asked.site half.old hand seat.old }
         ensures closes { Closes P.events P.writes half.old.value hand result.0.chain result.0.last result.1
             seat.old seat.new }
-        ensures to { result.1.to ≡ writes }
+        ensures to { ForSome stands.old (λ index. result.1.to ≡ index) }
+        ensures ends { stands.old ≡ None → ForSome asked.ends (λ writes. result.1.to ≡ writes) }
         ensures half { half.new.value ≡ Some agreed.Nothing }
         ensures place { half.new.place ≡ half.old.place }
+        ensures stands { stands.new ≡ stands.old }
     {
+        let Some(writes) = asked.ends else {
+            return self.close(rt, asked.site, half, stands, hand, seat);
+        };
+        if stands.are_here() {
+            return self.close(rt, asked.site, half, stands, hand, seat);
+        }
         let mut hand = hand;
         for _ in rt.forever() {
-            hand = match self.close_done(rt, number, slot, life, writes, half, hand, seat) {
+            hand = match self.close_done(rt, asked.site, writes, half, hand, seat) {
                 Ok(closed) => return closed,
                 Err(back) => back,
             };
             thread::yield_now();
         }
         unreachable!()
-    }
-
-    /// Closes the session as `close` does, or, where it is to end once the row's thread has begun so many writes and the
-    /// threads' halves are not lent, as `close_last` does.
-    pub(crate) fn close_by<R: Wait>(
-        &self,
-        rt: &R,
-        number: usize,
-        slot: u32,
-        life: u32,
-        ends: Option<u32>,
-        half: &mut Right<P, Agreed<'a>>,
-        stands: &mut Stands<'a, P>,
-        hand: Hand,
-        seat: &mut PoolSeat,
-    ) -> (Batch, Marks)
-        requires { IsClosable P.rows number slot half.old hand seat.old }
-        ensures closes { Closes P.events P.writes half.old.value hand result.0.chain result.0.last result.1
-            seat.old seat.new }
-        ensures to { ForSome stands.old (λ index. result.1.to ≡ index) }
-        ensures ends { stands.old ≡ None → ForSome ends (λ writes. result.1.to ≡ writes) }
-        ensures half { half.new.value ≡ Some agreed.Nothing }
-        ensures place { half.new.place ≡ half.old.place }
-        ensures stands { stands.new ≡ stands.old }
-    {
-        let Some(writes) = ends else {
-            return self.close(rt, number, slot, half, stands, hand, seat);
-        };
-        if stands.are_here() {
-            return self.close(rt, number, slot, half, stands, hand, seat);
-        }
-        self.close_last(rt, number, slot, life, writes, half, hand, seat)
     }
 
     /// Takes all that is pending in a slot of the row with this number, with the session's hand and its half of the tie. It
@@ -522,13 +484,8 @@ impl<'a, P: Program> Live<'a, P> {
         requires slot { slot < SESSIONS }
         requires place { half.old.place ≡ hand_place P.rows (buffer_number number slot) }
         requires hand { hand_in half.old.value ≡ Some hand.old }
-        ensures hand { hand.new ≡ hand_after hand.old (length (records_of result.chain)) result.last (length result.chain) }
-        ensures taken { AreTaken hand.old (records_of result.chain) result.last }
-        ensures numbered { ForSome (grant_in half.old.value) (λ grant. All (IsNumbered P.events grant.config (P.writes hand.old.thread) hand.old.from) (records_of result.chain)) }
-        ensures filled { All HasRecords result.chain }
-        ensures few { hand.new.stolen ≤ WRITES }
-        ensures half { hand_in half.new.value ≡ Some hand.new }
-        ensures grant { grant_in half.new.value ≡ grant_in half.old.value }
+        ensures takes { TakesWith P.events P.writes half.old.value half.new.value hand.old hand.new
+            result.chain result.last }
         ensures place { half.new.place ≡ half.old.place }
     {
         let (mut buffer, held) = self.buffers.take(rt, buffer_at(number, slot));

@@ -12,9 +12,10 @@ use crate::free::Free;
 use crate::live::Live;
 use crate::parked::Parked;
 use crate::stands::Stands;
+use crate::to_close::ToClose;
 use ep_defs::limits::SESSION_THREADS;
 use ep_defs::{Config, Marks};
-use ep_guarded::{Agreed, Grant, NotOpened, Program};
+use ep_guarded::{Agreed, Grant, NotOpened, Program, Site, ToOpen};
 use ep_pool::PoolSeat;
 use ep_slot::{Batch, Hand};
 use ep_stream::RowSet;
@@ -226,16 +227,21 @@ impl<P: Program, R: Wait> RowSet for LiveRows<'_, '_, P, R> {
             return Err(AllocError);
         }
         let number = row as usize - 1;
+        let asked = ToOpen {
+            site: Site {
+                number,
+                slot,
+                life: self.lives[number],
+            },
+            session,
+            grant: self.grant,
+        };
         match self.live.open(
             self.rt,
             alloc,
-            number,
-            slot,
-            self.lives[number],
+            &asked,
             &mut self.halves[number],
             &mut self.stands,
-            session,
-            self.grant,
             &mut self.seat,
         ) {
             Ok(hand) => {
@@ -257,12 +263,17 @@ impl<P: Program, R: Wait> RowSet for LiveRows<'_, '_, P, R> {
 
     fn detach(&mut self, row: u32, slot: u32, hand: Hand) -> (Batch, Marks) {
         let number = row as usize - 1;
+        let asked = ToClose {
+            site: Site {
+                number,
+                slot,
+                life: self.lives[number],
+            },
+            ends: self.ends,
+        };
         self.live.close_by(
             self.rt,
-            number,
-            slot,
-            self.lives[number],
-            self.ends,
+            asked,
             &mut self.halves[number],
             &mut self.stands,
             hand,

@@ -11,8 +11,7 @@ use Rattle.ep_guarded.specs.declared.agreed.Agreed.{Agreed}
 use Rattle.ep_guarded.specs.declared.agreed.Stand.{Stand}
 use Rattle.ep_guarded.specs.declared.grant.Grant.{Grant}
 use Rattle.ep_guarded.specs.Granted.{IsGrantFor}
-use Rattle.ep_guarded.specs.Tied.{stand_in, left_in, hand_in, grant_in, buffer_number}
-use Rattle.ep_live.specs.Live.{hand_place}
+use Rattle.ep_guarded.specs.Tied.{stand_in, left_in, hand_in, grant_in, buffer_number, hand_place}
 
 -- Each thread makes this write so often, and it can be made of one of the program's events.
 pub record IsProgram (events : List EventDef) (writes : ℕ → List Write) (turns : ℕ) (write : Write) : Type 0 where

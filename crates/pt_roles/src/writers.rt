@@ -10,6 +10,7 @@ use crate::scene::Scene;
 use crate::shared::Shared;
 use crate::world::World;
 use ep_guarded::{Agreed, Program};
+use ep_live::NextWrite;
 use ep_tie::Right;
 use pt_io::{Clock, Gate, Link, Moment};
 use pt_load::laws::{sample_events_are_valid, sample_writes_can_be_made};
@@ -100,18 +101,13 @@ impl<'t, 'a, P: World, L: Link + Drop> Writer<'t, 'a, P, L> {
         let thread = thread_of(scene.plan.threads, number as u32, life);
         let live = &self.shared.live;
         for index in 0..scene.plan.writes {
-            let begun = Moment::Begun { thread, index };
             let write = draft.nth(index);
-            let stamp = scene.clock.now();
-            live.write(
-                scene.rt,
-                scene.gate,
-                begun,
-                number,
-                &mut self.half,
-                stamp,
+            let next = NextWrite {
+                at: Moment::Begun { thread, index },
+                stamp: scene.clock.now(),
                 write,
-            );
+            };
+            live.write(scene.rt, scene.gate, number, &mut self.half, &next);
             scene.gate.pass(Moment::Wrote { thread, index });
         }
     }

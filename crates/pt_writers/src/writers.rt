@@ -7,7 +7,7 @@ ghost use Rattle.pt_writers.specs.state.Writers.{AreDrafts, AreReady, StandsAt};
 
 use crate::run::{Around, SampleRun};
 use ep_guarded::{Agreed, Program};
-use ep_live::Live;
+use ep_live::{Live, NextWrite};
 use ep_tie::Right;
 use pt_io::{Clock, Gate, Moment};
 use pt_load::laws::{sample_events_are_valid, sample_writes_can_be_made};
@@ -82,18 +82,14 @@ impl<'w, 'a, P: SampleRun> Writer<'w, 'a, P> {
         sample_writes_can_be_made();
         let thread = number as u32 + 1;
         for index in 0..around.plan.writes {
-            let begun = Moment::Begun { thread, index };
             let write = self.draft.nth(index);
-            let stamp = around.clock.now();
-            self.live.write(
-                around.rt,
-                around.gate,
-                begun,
-                number,
-                &mut self.half,
-                stamp,
+            let next = NextWrite {
+                at: Moment::Begun { thread, index },
+                stamp: around.clock.now(),
                 write,
-            );
+            };
+            self.live
+                .write(around.rt, around.gate, number, &mut self.half, &next);
             around.gate.pass(Moment::Wrote { thread, index });
         }
     }

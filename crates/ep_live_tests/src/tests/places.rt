@@ -6,7 +6,7 @@ ghost use Rattle.ep_guarded.specs.Tied.{buffer_number};
 ghost use Rattle.ep_live.specs.Made.{IsHandTie};
 
 use ep_defs::Marks;
-use ep_guarded::{Agreed, Grant, Program};
+use ep_guarded::{Agreed, Grant, Program, Site, ToOpen};
 use ep_live::{Live, Stands};
 use ep_pool::PoolSeat;
 use ep_slot::Hand;
@@ -101,18 +101,16 @@ impl<'a, P: Program> Place<'a, P> {
             return false;
         }
         let mut none = Stands::none(alloc);
-        let opened = live.open(
-            rt,
-            alloc,
-            self.number as usize,
-            self.slot,
-            life,
-            &mut self.half,
-            &mut none,
-            5,
-            self.grant,
-            &mut self.seat,
-        );
+        let asked = ToOpen {
+            site: Site {
+                number: self.number as usize,
+                slot: self.slot,
+                life,
+            },
+            session: 5,
+            grant: self.grant,
+        };
+        let opened = live.open(rt, alloc, &asked, &mut self.half, &mut none, &mut self.seat);
         self.hand = opened.ok();
         self.hand.is_some()
     }
@@ -141,16 +139,12 @@ impl<'a, P: Program> Place<'a, P> {
             return [0; 6];
         };
         let mut none = Stands::none(alloc);
-        let number = self.number as usize;
-        let (batch, marks) = live.close(
-            rt,
-            number,
-            self.slot,
-            &mut self.half,
-            &mut none,
-            hand,
-            &mut self.seat,
-        );
+        let site = Site {
+            number: self.number as usize,
+            slot: self.slot,
+            life: 0,
+        };
+        let (batch, marks) = live.close(rt, site, &mut self.half, &mut none, hand, &mut self.seat);
         self.grant.pool.give(rt, &mut self.seat, batch.chain);
         line_of(&marks, batch.last)
     }
@@ -169,17 +163,12 @@ impl<'a, P: Program> Place<'a, P> {
         let Some(hand) = self.hand.take() else {
             return [0; 6];
         };
-        let number = self.number as usize;
-        match live.close_done(
-            rt,
-            number,
-            self.slot,
+        let site = Site {
+            number: self.number as usize,
+            slot: self.slot,
             life,
-            writes,
-            &mut self.half,
-            hand,
-            &mut self.seat,
-        ) {
+        };
+        match live.close_done(rt, site, writes, &mut self.half, hand, &mut self.seat) {
             Ok((batch, marks)) => {
                 self.grant.pool.give(rt, &mut self.seat, batch.chain);
                 line_of(&marks, batch.last)

@@ -71,7 +71,20 @@ fn told_on<R: Threads + Wait + Sync>(
     let second = placed_grant(rt, alloc, grants, events.as_slice(), chunks)?;
     let blank = Blank::new(alloc, 258)?;
     let write = write(alloc);
-    run::<Brand, R>(rt, alloc, blank, events, write, turns, first, second, play)
+    let script = Script {
+        play,
+        first,
+        second,
+    };
+    run::<Brand, R>(rt, alloc, blank, events, write, turns, script)
+}
+
+/// Which run it is, and what its two sessions were granted.
+#[derive(Drop)]
+struct Script<'a> {
+    play: Play,
+    first: Granted<'a>,
+    second: Granted<'a>,
 }
 
 // The same in a run of these events.
@@ -82,22 +95,20 @@ fn run<'a, P: Program + Send + Sync, R: Threads + Wait + Sync>(
     events: Vec<EventDef>,
     write: Write,
     turns: u32,
-    first: Granted<'a>,
-    second: Granted<'a>,
-    play: Play,
+    script: Script<'a>,
 ) -> Result<Vec<[u64; 6]>, AllocError>
     requires ties { blank.ties ≡ P.ties }
     requires places { blank.places ≡ 258 }
     requires two { P.rows ≡ 2 }
     requires events { events.items ≡ P.events }
     requires program { IsProgram P.events P.writes turns write }
-    requires first { IsGranted P.events first.grant.now first.seat }
-    requires second { IsGranted P.events second.grant.now second.seat }
+    requires first { IsGranted P.events script.first.grant.now script.first.seat }
+    requires second { IsGranted P.events script.second.grant.now script.second.seat }
 {
     let (live, threads, hands) = Live::<P>::new(alloc, blank, 2, events)?;
     let run = Run { live, write, turns };
     let halves = Halves { threads, hands };
-    play_on(rt, alloc, &run, halves, first, second, play)
+    play_on(rt, alloc, &run, halves, script)
 }
 
 fn play_on<'a, P: Program + Send + Sync, R: Threads + Wait + Sync>(
@@ -105,13 +116,16 @@ fn play_on<'a, P: Program + Send + Sync, R: Threads + Wait + Sync>(
     alloc: Global,
     run: &Run<'a, P>,
     halves: Halves<'a, P>,
-    first: Granted<'a>,
-    second: Granted<'a>,
-    play: Play,
+    script: Script<'a>,
 ) -> Result<Vec<[u64; 6]>, AllocError>
-    requires first { IsGranted P.events first.grant.now first.seat }
-    requires second { IsGranted P.events second.grant.now second.seat }
+    requires first { IsGranted P.events script.first.grant.now script.first.seat }
+    requires second { IsGranted P.events script.second.grant.now script.second.seat }
 {
+    let Script {
+        play,
+        first,
+        second,
+    } = script;
     match play {
         Play::Taken => taken(rt, alloc, run, cast_of(alloc, halves, first, second, 1, 3)),
         Play::Lives => lives(rt, alloc, run, cast_of(alloc, halves, first, second, 1, 3)),

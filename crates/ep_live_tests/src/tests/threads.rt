@@ -4,7 +4,7 @@ ghost use Rattle.ep_live.specs.Made.{IsStand};
 
 use ep_defs::Write;
 use ep_guarded::{Agreed, Program, Stand};
-use ep_live::{Live, Written};
+use ep_live::{Live, NextWrite, Written};
 use ep_tie::Right;
 use pt_io::{Moment, OpenGate};
 use std::alloc::{AllocError, Global};
@@ -138,10 +138,13 @@ impl<'a, P: Program> Thread<'a, P> {
             thread: 1,
             index: self.stand.index,
         };
+        let next = NextWrite {
+            at,
+            stamp: 100,
+            write: &run.write,
+        };
         let number = self.number as usize;
-        let written = run
-            .live
-            .write(rt, &OpenGate, at, number, &mut self.half, 100, &run.write);
+        let written = run.live.write(rt, &OpenGate, number, &mut self.half, &next);
         self.stand.index += 1;
         written
     }

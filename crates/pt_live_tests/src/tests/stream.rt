@@ -15,7 +15,7 @@ use ep_defs::{
     Config, EventDef, Items, MarkList, Marks, Rule, TraceInfo, Units, Write, standard_info,
 };
 use ep_guarded::{Agreed, Grant, Program};
-use ep_live::{Ended, Free, Live, free_slots};
+use ep_live::{Ended, Free, Live, NextWrite, free_slots};
 use ep_pool::{Pool, PoolSeat};
 use ep_rundown::rundown_def;
 use ep_stream::{Fate, SessionEnd};
@@ -251,16 +251,13 @@ impl<'r, 'a, P: Run, R: Wait + Abort> Scene<'r, 'a, P, R> {
         requires stands { IsAt number thread index half.old }
         ensures { IsAt number thread (index + 1) half.new }
     {
-        let at = Moment::Begun { thread: 1, index };
-        self.live.write(
-            self.rt,
-            &OpenGate,
-            at,
-            number as usize,
-            half,
-            100,
-            self.write,
-        );
+        let next = NextWrite {
+            at: Moment::Begun { thread: 1, index },
+            stamp: 100,
+            write: self.write,
+        };
+        self.live
+            .write(self.rt, &OpenGate, number as usize, half, &next);
     }
 
     // The thread of a row, which has made all its writes, leaves the row.
@@ -423,6 +420,16 @@ fn slot_three<'a, P: Program, R: Abort>(
     slots.swap_remove(3)
 }
 
+// What a session is started with: what it was granted, the seat of its pool, its sink, and what this takes first.
+#[derive(Drop)]
+struct Asked<'a, 'i> {
+    grant: &'a Grant,
+    pool: PoolSeat,
+    sink: MemSink,
+    reply: &'i [u8],
+    info: &'i TraceInfo,
+}
+
 // A session over both rows, which is stopped in the second life of the first.
 fn middle<'a, P: Run, R: Wait + Abort>(
     rt: &R,
@@ -430,11 +437,7 @@ fn middle<'a, P: Run, R: Wait + Abort>(
     blank: Blank<Agreed<'a>>,
     events: Vec<EventDef>,
     write: &Write,
-    info: &TraceInfo,
-    grant: &'a Grant,
-    pool: PoolSeat,
-    sink: MemSink,
-    reply: &[u8],
+    asked: Asked<'a, '_>,
 ) -> Told
     requires ties { blank.ties ≡ P.ties }
     requires places { blank.places ≡ 258 }
@@ -442,12 +445,19 @@ fn middle<'a, P: Run, R: Wait + Abort>(
     requires events { events.items ≡ P.events }
     requires program { IsProgram P.events P.writes TURNS write.now }
     requires lives { P.setting.lives ≡ 2 }
-    requires info { info.now ≡ P.setting.info }
-    requires granted { IsGrantFor P.events grant.now }
-    requires seat { pool ≡ first_seat grant.now.pool 3 }
-    requires before { sink.taken ++ reply.now ≡ P.setting.before 5 }
-    requires faults { sink.faults ≡ P.setting.faults 5 }
+    requires info { asked.info.now ≡ P.setting.info }
+    requires granted { IsGrantFor P.events asked.grant.now }
+    requires seat { asked.pool ≡ first_seat asked.grant.now.pool 3 }
+    requires before { asked.sink.taken ++ asked.reply.now ≡ P.setting.before 5 }
+    requires faults { asked.sink.faults ≡ P.setting.faults 5 }
 {
+    let Asked {
+        grant,
+        pool,
+        sink,
+        reply,
+        info,
+    } = asked;
     let (live, threads, hands) = Live::<P>::new(alloc, blank, 2, events).expect(rt, MEMORY);
     let (mut first, mut second) = threads_of_two(threads);
     let accepted = Accepted {
@@ -487,11 +497,13 @@ fn run<R: Wait + Abort>(rt: &R, alloc: Global, fails: Vec<u64>) -> Told {
         Blank::new(alloc, 258).expect(rt, MEMORY),
         events,
         &write,
-        &standard_info(1, 1),
-        &grant,
-        seat,
-        MemSink::new(fails),
-        REPLY,
+        Asked {
+            grant: &grant,
+            pool: seat,
+            sink: MemSink::new(fails),
+            reply: REPLY,
+            info: &standard_info(1, 1),
+        },
     )
 }
 

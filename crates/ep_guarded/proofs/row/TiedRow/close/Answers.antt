@@ -14,29 +14,29 @@ use Rattle.ep_guarded.proofs.row.TiedRow.close.Goals as goal
 
 pub close-requires-clause-open : goal.close-requires-clause-open
 close-requires-clause-open g c =
-    let at = slice_get_read c.self.inside.buffers.items _ c.args.slot c.index_mut.result.now refl (omega (arith, c.self.invariant.count, c.requires.within)) c.index_mut.ensures.value in
-    let told = c.self.invariant.told c.args.slot c.index_mut.result.now at in
+    let at = slice_get_read c.self.inside.buffers.items _ c.args.site.slot c.index_mut.result.now refl (omega (arith, c.self.invariant.count, c.requires.can.slot_is)) c.index_mut.ensures.value in
+    let told = c.self.invariant.told c.args.site.slot c.index_mut.result.now at in
     let kept = c.take-kept.ensures in (
       told-slot _ _ _ _ _ kept.told told ∙ ap (λ (o : Opening). Some o) kept.rests.opening,
       sym kept.rests.thread ∙ told-thread _ _ _ _ _ kept.told told,
     )
 
 pub close-requires-clause-seat : goal.close-requires-clause-seat
-close-requires-clause-seat g c = c.requires.seat _ (ap grant_in c.take-kept.ensures.held)
+close-requires-clause-seat g c = c.requires.can.seat_is _ (ap grant_in c.take-kept.ensures.held)
 
 pub invariant_of-self : goal.invariant_of-self
 invariant_of-self g c =
-    let at = slice_get_read c.self.inside.buffers.items _ c.args.slot c.index_mut.result.now refl (omega (arith, c.self.invariant.count, c.requires.within)) c.index_mut.ensures.value in
-    row-closed _ _ _ _ c.self.inside.row c.close.new.row _ _ c.index_mut.result.now c.take-kept.new.half c.args.slot c.self.invariant at c.take-kept.ensures.places.1 c.take-kept.ensures.nothing.0 c.close.ensures.row
+    let at = slice_get_read c.self.inside.buffers.items _ c.args.site.slot c.index_mut.result.now refl (omega (arith, c.self.invariant.count, c.requires.can.slot_is)) c.index_mut.ensures.value in
+    row-closed _ _ _ _ c.self.inside.row c.close.new.row _ _ c.index_mut.result.now c.take-kept.new.half c.args.site.slot c.self.invariant at c.take-kept.ensures.places.1 c.take-kept.ensures.nothing.0 c.close.ensures.row
 
 pub returns-clause-closes : goal.returns-clause-closes
 returns-clause-closes g c =
-    let at = slice_get_read c.self.inside.buffers.items _ c.args.slot c.index_mut.result.now refl (omega (arith, c.self.invariant.count, c.requires.within)) c.index_mut.ensures.value in
-    let told = c.self.invariant.told c.args.slot c.index_mut.result.now at in
+    let at = slice_get_read c.self.inside.buffers.items _ c.args.site.slot c.index_mut.result.now refl (omega (arith, c.self.invariant.count, c.requires.can.slot_is)) c.index_mut.ensures.value in
+    let told = c.self.invariant.told c.args.site.slot c.index_mut.result.now at in
     let kept = c.take-kept.ensures in
     let one : Kept = c.take-kept.result in
     let records : List Record = records_of c.close.result.0.chain in
-    let hand : c.args.hand ≡ hand_of one.slot = hand-kept _ one _ kept.held c.requires.hand in
+    let hand : c.args.hand ≡ hand_of one.slot = hand-kept _ one _ kept.held c.requires.can.hand_is in
     record {
       taken = c.close.ensures.taken;
       numbered = λ grant is.
@@ -44,7 +44,7 @@ returns-clause-closes g c =
       filled = c.close.ensures.filled;
       marks_are = subst (λ (n : ℕ). AreMarks c.args.hand records c.close.result.0.last n c.close.result.1) (sym c.close.ensures.marks.to_is) c.close.ensures.marks;
       counted = λ grant is.
-          are-counted _ c.self.invariant.configs _ c.self.inside.row c.args.slot one.told.opening grant.config c.args.hand _ _ c.close.result.1 c.self.invariant.over c.requires.within
+          are-counted _ c.self.invariant.configs _ c.self.inside.row c.args.site.slot one.told.opening grant.config c.args.hand _ _ c.close.result.1 c.self.invariant.over c.requires.can.slot_is
           (ap (λ (r : TiedRowState). r.row.in_write) c.self.view_is ∙ c.requires.quiet)
           (told-slot _ _ _ _ _ kept.told told)
           (sym (told-config _ _ _ _ _ kept.told told) ∙ ap (λ (g : Grant). g.config) (grant-kept _ one _ kept.held is))
@@ -57,9 +57,9 @@ returns-clause-closes g c =
 
 pub returns-clause-thread : goal.returns-clause-thread
 returns-clause-thread g c =
-    let at = slice_get_read c.self.inside.buffers.items _ c.args.slot c.index_mut.result.now refl (omega (arith, c.self.invariant.count, c.requires.within)) c.index_mut.ensures.value in
-    let told = c.self.invariant.told c.args.slot c.index_mut.result.now at in
+    let at = slice_get_read c.self.inside.buffers.items _ c.args.site.slot c.index_mut.result.now refl (omega (arith, c.self.invariant.count, c.requires.can.slot_is)) c.index_mut.ensures.value in
+    let told = c.self.invariant.told c.args.site.slot c.index_mut.result.now at in
     let kept = c.take-kept.ensures in
     let one : Kept = c.take-kept.result in
-    let hand : c.args.hand ≡ hand_of one.slot = hand-kept _ one _ kept.held c.requires.hand in
+    let hand : c.args.hand ≡ hand_of one.slot = hand-kept _ one _ kept.held c.requires.can.hand_is in
     ap (λ (h : HandState). h.thread) hand ∙ sym kept.rests.thread ∙ told-thread _ _ _ _ _ kept.told told ∙ ap (λ (r : TiedRowState). r.row.thread) c.self.view_is

@@ -1,5 +1,5 @@
 use Rattle.std.proofs.Common.{◌≡◌}
-use Rattle.ep_live.proofs.live.Live.close_last.Given as goal
+use Rattle.ep_live.proofs.live.Live.close_by.Given as goal
 
 -- it is as it was
 abbrev pub invariant-loop : goal.invariant-loop

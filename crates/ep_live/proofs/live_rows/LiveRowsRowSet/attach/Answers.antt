@@ -7,19 +7,20 @@ use Rattle.ep_live.proofs.Own.{own-half, place-own}
 use Rattle.ep_live.proofs.Pushing.{same}
 use Rattle.ep_live.proofs.live_rows.LiveRowsRowSet.attach.Goals as goal
 
-pub open-requires-clause-place : goal.open-requires-clause-place
-open-requires-clause-place g c =
-    let own = c.requires.can_attach.0 ∙ sym (ap (λ (v : LiveRowsState). v.slot) c.self.view_is) in
-    let has = own-half _ _ c.args.row c.args.slot _ _ c.self.view_is c.requires.row c.index_mut.ensures.value own c.requires.off in
-    place-own _ c.args.row c.args.slot _ _ _ _ c.self.inside.openings has c.self.invariant
-
-pub open-requires-clause-share : goal.open-requires-clause-share
-open-requires-clause-share g c =
+pub open-requires-clause-can : goal.open-requires-clause-can
+open-requires-clause-can g c =
     let half = c.index_mut.result.now in
     let own = c.requires.can_attach.0 ∙ sym (ap (λ (v : LiveRowsState). v.slot) c.self.view_is) in
     let has = own-half _ _ c.args.row c.args.slot half _ c.self.view_is c.requires.row c.index_mut.ensures.value own c.requires.off in
     let some = room c.self.inside.halves.items (c.args.row - 1) half has.at (counts-none half has.hand_is).0 in
-    omega (arith, some, c.self.invariant.share, c.self.invariant.count)
+    record {
+      slot_is = c.requires.slot;
+      place = place-own _ c.args.row c.args.slot _ _ _ _ c.self.inside.openings has c.self.invariant;
+      off = has.hand_is;
+      admitted = c.self.invariant.admitted;
+      seat_is = c.self.invariant.seat_is;
+      share = omega (arith, some, c.self.invariant.share, c.self.invariant.count);
+    }
 
 pub invariant_of-self : goal.invariant_of-self
 invariant_of-self g c =

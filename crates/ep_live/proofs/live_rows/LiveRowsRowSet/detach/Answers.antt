@@ -11,13 +11,16 @@ use Rattle.ep_live.proofs.Own.{hand-half, place-own, out-own}
 use Rattle.ep_live.proofs.Pushing.{same}
 use Rattle.ep_live.proofs.live_rows.LiveRowsRowSet.detach.Goals as goal
 
-pub close_by-requires : goal.close_by-requires
-close_by-requires g c =
+pub close_by-requires-clause-row : goal.close_by-requires-clause-row
+close_by-requires-clause-row g c =
+    let count : length c.self.inside.halves.items ≡ length c.args.self.now.halves = ap (λ (v : LiveRowsState). length v.halves) c.self.view_is in
+    omega (arith, c.requires.row, count, c.self.invariant.count)
+
+pub close_by-requires-clause-can : goal.close_by-requires-clause-can
+close_by-requires-clause-can g c =
     let has = hand-half _ _ c.args.row c.args.slot _ _ c.self.view_is c.requires.row c.index_mut.ensures.value c.requires.expected in
     let most = few-given _ _ _ _ c.self.inside.halves.items c.self.inside.seat c.self.inside.openings _ c.self.invariant in
-    let count : length c.self.inside.halves.items ≡ length c.args.self.now.halves = ap (λ (v : LiveRowsState). length v.halves) c.self.view_is in
     record {
-      row = omega (arith, c.requires.row, count, c.self.invariant.count);
       slot_is = c.requires.slot;
       place = place-own _ c.args.row c.args.slot _ _ _ _ c.self.inside.openings has c.self.invariant;
       hand_is = has.hand_is;

@@ -12,4 +12,4 @@ ghosts-middle-P-Program g a = record { rows = 2; events = a.events.items; writes
 -- rows of two lives, and a session whose sink had taken nothing but the reply
 abbrev pub ghosts-middle-P-Run : goal.ghosts-middle-P-Run
 ghosts-middle-P-Run g a =
-    record { setting = record { lives = 2; info = a.info.now; before = λ _. a.sink.taken ++ a.reply.now; faults = λ _. a.sink.faults } }
+    record { setting = record { lives = 2; info = a.asked.info.now; before = λ _. a.asked.sink.taken ++ a.asked.reply.now; faults = λ _. a.asked.sink.faults } }
