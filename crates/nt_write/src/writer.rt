@@ -320,13 +320,7 @@ impl<S: Sink> TraceWriter<S> {
     }
 
     // Makes room, and adds an event whose definition and whose stack have these ids.
-    fn add_known(
-        &mut self,
-        alloc: Global,
-        id: u32,
-        stack: u32,
-        out: &EventOut,
-    ) -> Result<(), Fault>
+    fn add_known(&mut self, alloc: Global, id: u32, stack: u32, out: &EventOut) -> Result<(), Fault>
         requires given { (0 < id) × (id ≡ id_at (ids_of self.old) out.now.event) }
         requires payload { length out.now.payload.now ≤ PAYLOAD_BYTES }
 
