@@ -1,5 +1,5 @@
 -- One item more of what is counted.
-use Rattle.std.proofs.Common.{◌≡◌, ℕ, ◌+◌, zero, suc, Bool, true, false, cond, List, [], ◌∷◌, ◌++◌, map, Option, Some, None, is_some, Result, Ok, refl, sym, ap, ◌∙◌, subst, arith}
+use Rattle.std.proofs.Common.{◌≡◌, ℕ, ◌+◌, zero, suc, Bool, true, false, List, [], ◌∷◌, ◌++◌, map, Option, Some, None, is_some, Result, Ok, refl, sym, ap, ◌∙◌, subst}
 use Rattle.std.proofs.lemmas.Grind.{flat_map-append}
 use Rattle.std.proofs.lemmas.List.{map-append, append-nil}
 use Rattle.std.specs.List.{flat_map, count_by}
@@ -22,7 +22,7 @@ use Rattle.pt_report.specs.state.Counts.{Counts}
 use Rattle.pt_report.specs.state.Events.{ShowsEvents}
 use Rattle.pt_report.specs.state.Shows.{Shows, with_total, totals_of}
 use Rattle.pt_report.specs.state.Stacks.{ShowsStacks, stack_among}
-use Rattle.pt_report.proofs.Tallies.{uses-more, held-more}
+use Rattle.pt_report.proofs.Tallies.{one-use, no-use, held-more}
 
 -- ---- lists
 
@@ -67,13 +67,10 @@ trace-old (Some first) info e = refl
 -- ---- totals
 
 in-more : (p : ItemKind → Bool) (kinds : List ItemKind) (kind : ItemKind) → p kind ≡ true → held (held (count_by p kinds) + 1) ≡ held (count_by p (kinds ++ kind ∷ []))
-in-more p kinds kind is = held-more (count_by p kinds) ∙ ap held (ap (λ b. count_by p kinds + cond b 1 0) (sym is) ∙ sym (uses-more p kinds kind))
+in-more p kinds kind is = held-more (count_by p kinds) ∙ ap held (sym (one-use p kinds kind is))
 
 out-more : (p : ItemKind → Bool) (kinds : List ItemKind) (kind : ItemKind) → p kind ≡ false → held (count_by p kinds) ≡ held (count_by p (kinds ++ kind ∷ []))
-out-more p kinds kind is = ap held (none (count_by p kinds) ∙ ap (λ b. count_by p kinds + cond b 1 0) (sym is) ∙ sym (uses-more p kinds kind))
-  where
-    none : (m : ℕ) → m ≡ m + 0
-    none m = omega arith
+out-more p kinds kind is = ap held (sym (no-use p kinds kind is))
 
 abbrev totals : ℕ → ℕ → ℕ → ℕ → Totals
 totals e m s p = record { events = e; metadata = m; stacks = s; points = p }

@@ -1,5 +1,5 @@
 -- One name more and one use more of a tally.
-use Rattle.std.proofs.Common.{◌≡◌, ℕ, ◌+◌, ◌-◌, ◌^◌, ◌<◌, zero, suc, Bool, true, false, cond, List, [], ◌∷◌, ◌++◌, length, get_or, min, Option, Some, None, is_some, refl, sym, ap, ◌∙◌, arith, zero-add}
+use Rattle.std.proofs.Common.{◌≡◌, ℕ, ◌+◌, ◌-◌, ◌^◌, ◌<◌, zero, suc, Bool, true, false, cond, List, [], ◌∷◌, ◌++◌, length, get_or, min, Option, Some, None, is_some, refl, sym, ap, ◌∙◌, arith}
 use Rattle.std.proofs.Math.ListN.{set}
 use Rattle.std.proofs.lemmas.Option.{slice_get_within, get_or_from_slice_get}
 use Rattle.std.proofs.lemmas.List.Sums.{sum_by-append, fold-append}
@@ -37,8 +37,16 @@ in_order-more cmp names key = fold-append (with_key cmp) [] names (key ∷ [])
 
 -- ---- uses
 
-pub uses-more : {K : Type 0} (p : K → Bool) (uses : List K) (key : K) → count_by p (uses ++ key ∷ []) ≡ count_by p uses + cond (p key) 1 0
-uses-more p uses key = sum_by-append (λ x. cond (p x) 1 0) uses (key ∷ []) ∙ ap (λ n. count_by p uses + n) (zero-add (cond (p key) 1 0))
+-- A key that counts is one use more.
+pub one-use : {K : Type 0} (p : K → Bool) (uses : List K) (key : K) → p key ≡ true → count_by p (uses ++ key ∷ []) ≡ count_by p uses + 1
+one-use p uses key is = sum_by-append (λ x. cond (p x) 1 0) uses (key ∷ []) ∙ ap (λ b. count_by p uses + (0 + cond b 1 0)) is
+
+-- Any other is none.
+pub no-use : {K : Type 0} (p : K → Bool) (uses : List K) (key : K) → p key ≡ false → count_by p (uses ++ key ∷ []) ≡ count_by p uses
+no-use p uses key is = sum_by-append (λ x. cond (p x) 1 0) uses (key ∷ []) ∙ ap (λ b. count_by p uses + (0 + cond b 1 0)) is ∙ none (count_by p uses)
+  where
+    none : (m : ℕ) → m + 0 ≡ m
+    none m = omega arith
 
 -- Tied keys have the same uses.
 same-uses : {K : Type 0} (eq : K → K → Bool) → IsEquivalence eq → (a b : K) → eq a b ≡ true → (uses : List K) → count_by (eq a) uses ≡ count_by (eq b) uses
@@ -88,16 +96,11 @@ module _ {K : Type 0} (cmp : K → K → Ordering) (total : IsTotalOrder cmp) wh
       let tied : eq_by_cmp cmp q key ≡ true = laws.symm q key ∙ e in
       held-more (count_by (eq_by_cmp cmp key) uses)
       ∙ ap held
-      (ap (λ m. m + 1) (same-uses (eq_by_cmp cmp) laws key q e uses)
-      ∙ ap (λ b. count_by (eq_by_cmp cmp q) uses + cond b 1 0) (sym tied)
-      ∙ sym (uses-more (eq_by_cmp cmp q) uses key))
+      (ap (λ m. m + 1) (same-uses (eq_by_cmp cmp) laws key q e uses) ∙ sym (one-use (eq_by_cmp cmp q) uses key tied))
 
   uses-apart : (uses : List K) (key q : K) → eq_by_cmp cmp key q ≡ false → count_by (eq_by_cmp cmp q) (uses ++ key ∷ []) ≡ count_by (eq_by_cmp cmp q) uses
   uses-apart uses key q e =
-      uses-more (eq_by_cmp cmp q) uses key ∙ ap (λ b. count_by (eq_by_cmp cmp q) uses + cond b 1 0) (laws.symm q key ∙ e) ∙ none (count_by (eq_by_cmp cmp q) uses)
-    where
-      none : (m : ℕ) → m + 0 ≡ m
-      none m = omega arith
+      no-use (eq_by_cmp cmp q) uses key (laws.symm q key ∙ e)
 
   pub count-step : (names uses : List K) (old new : Tally K) (key : K) (place : ℕ) → Counts cmp names uses old → new.places ≡ old.places → get cmp old.places key ≡ Some place → new.counts.items ≡ set old.counts.items place (min (get_or old.counts.items place 0 + 1) (2 ^ 64 - 1)) → Counts cmp names (uses ++ key ∷ []) new
   count-step names uses old new key place h same is now =

@@ -4,13 +4,12 @@ ghost use Rattle.std.specs.Ordering.{nat_cmp};
 ghost use Rattle.ep_defs.specs.declared.item.ItemKind.{ItemKind};
 ghost use Rattle.ep_defs.specs.Entry.{Entry};
 ghost use Rattle.nt_blocks.specs.Ordered.{no_names, tell};
-ghost use Rattle.nt_check.specs.Events.{EventRest, event_item};
 ghost use Rattle.nt_check.specs.Numbers.{numbers_of};
 ghost use Rattle.nt_check.specs.state.Took.{names_at};
 ghost use Rattle.std.specs.List.{flat_map};
 ghost use Rattle.pt_report.specs.Report.{threads_in};
 ghost use Rattle.pt_report.specs.state.Counts.{Counts};
-ghost use Rattle.pt_report.specs.state.Shows.{Shows, with_total};
+ghost use Rattle.pt_report.specs.state.Shows.{CountsEvent, Shows, with_total};
 
 use crate::events::Events;
 use crate::stacks::Stacks;
@@ -82,11 +81,7 @@ impl Counters {
         event: &EventNames,
         is_first: bool,
     ) -> Result<(), AllocError>
-        ensures { OnOk result ((kinds : List ItemKind) → (entries : List Entry)
-            → (more : List Entry) → (rest : EventRest) → Shows kinds entries self.old
-            → (is_first ≡ false → IsSome (numbers_of event.now.capture kinds))
-            → tell (names_at no_names kinds) (event_item event.now rest) ≡ Ok more
-            → Shows (kinds ++ event_item event.now rest ∷ []) (entries ++ more) self.new) }
+        ensures { OnOk result (CountsEvent event.now is_first self.old self.new) }
     {
         self.totals.events = self.totals.events.saturating_add(1);
         name_one(&mut self.threads, event.capture, is_first)?;

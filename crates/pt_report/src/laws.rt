@@ -1,19 +1,17 @@
 //! Laws: what holds of the definitions alone.
-ghost use Rattle.std.specs.Prelude.{◌≡◌, ℕ, true, false, List, ◌==◌, Some, None};
-ghost use Rattle.std.specs.List.{list_any, AllByRecursion};
+ghost use Rattle.std.specs.Prelude.{◌≡◌, ℕ, false, List, Some, None};
+ghost use Rattle.std.specs.List.{AllByRecursion};
 ghost use Rattle.ep_defs.specs.declared.event.EventDef.{EventDef};
 ghost use Rattle.ep_defs.specs.declared.item.Item.{Item};
 ghost use Rattle.ep_defs.specs.Entry.{Entry};
 ghost use Rattle.ep_model.specs.Faithful.{Share, AreFaithful, is_of};
-ghost use Rattle.ep_model.specs.History.{Past, is_finished};
-ghost use Rattle.ep_model.specs.Lawful.{IsLawful};
-ghost use Rattle.ep_told.specs.Told.{told_entries};
+ghost use Rattle.ep_model.specs.History.{Past};
 ghost use Rattle.nt_blocks.specs.Ordered.{Tell, kinds_of};
 ghost use Rattle.nt_blocks.specs.Verdict.{Good, verdict};
 ghost use Rattle.nt_check.specs.Numbers.{numbers_of};
 ghost use Rattle.pt_report.specs.Report.{thread_lines};
-ghost use Rattle.pt_report.specs.Found.{IsWhole, IsReported};
-ghost use Rattle.pt_report.specs.Shares.{share_numbers, told_threads, told_numbers, session_lines, ReportsThreads};
+ghost use Rattle.pt_report.specs.Found.{IsWhole};
+ghost use Rattle.pt_report.specs.Shares.{share_numbers, session_lines, OfSession, HaveNumbers, HaveNone, ReportsSession};
 
 use ep_model::laws::{finished_sessions_are_faithful, lawful_lists_are_limited};
 use ep_told::{a_rundown_tells_of_thread_0, the_program_has_no_thread_0};
@@ -33,15 +31,9 @@ pub fn items_have_the_numbers_of_their_shares()
 /// that was used; and of no other thread anything.
 pub fn items_have_the_numbers_of_the_session()
     ensures numbers { (definitions : List EventDef) (session thread : ℕ) (past : Past) (items : List Item)
-        → IsLawful definitions past → is_finished session past ≡ true
-        → Tell items (told_entries definitions session past)
-        → list_any (λ t. t == thread) (told_threads session past) ≡ true
-        → numbers_of thread (kinds_of items) ≡ Some (told_numbers definitions session past thread) }
+        → OfSession definitions session past items (HaveNumbers definitions session thread past items) }
     ensures none { (definitions : List EventDef) (session thread : ℕ) (past : Past) (items : List Item)
-        → IsLawful definitions past → is_finished session past ≡ true
-        → Tell items (told_entries definitions session past)
-        → list_any (λ t. t == thread) (told_threads session past) ≡ false
-        → numbers_of thread (kinds_of items) ≡ None }
+        → OfSession definitions session past items (HaveNone session thread past items) }
 {
     finished_sessions_are_faithful();
     lawful_lists_are_limited();
@@ -54,9 +46,8 @@ pub fn items_have_the_numbers_of_the_session()
 /// thread.
 pub fn a_report_has_a_line_for_each_thread()
     ensures { (definitions : List EventDef) (session : ℕ) (past : Past) (items : List Item)
-        → IsLawful definitions past → is_finished session past ≡ true
-        → Tell items (told_entries definitions session past)
-        → thread_lines (kinds_of items) ≡ session_lines definitions session past }
+        → OfSession definitions session past items
+        (thread_lines (kinds_of items) ≡ session_lines definitions session past) }
 {
     the_program_has_no_thread_0();
     items_have_the_numbers_of_the_session();
@@ -69,10 +60,8 @@ pub fn a_stream_of_a_session_is_reported()
         → verdict bytes ≡ Good items → Tell items entries → IsWhole bytes }
     ensures threads { (definitions : List EventDef) (session : ℕ) (past : Past) (items : List Item)
         (bytes text : List ℕ)
-        → IsLawful definitions past → is_finished session past ≡ true
-        → Tell items (told_entries definitions session past)
-        → verdict bytes ≡ Good items → IsReported bytes text
-        → ReportsThreads bytes (session_lines definitions session past) text }
+        → OfSession definitions session past items
+        (ReportsSession definitions session past items bytes text) }
 {
     a_report_has_a_line_for_each_thread();
 }

@@ -1,12 +1,14 @@
 -- What the counters stand for.
-use Rattle.std.specs.Prelude.{◌≡◌, ◌+◌, List, [], count_by}
+use Rattle.std.specs.Prelude.{◌≡◌, ◌+◌, Bool, false, List, [], ◌∷◌, ◌++◌, Ok, IsSome, count_by}
 use Rattle.std.specs.List.{flat_map}
 use Rattle.std.specs.Ordering.{nat_cmp}
 use Rattle.ep_defs.specs.declared.item.ItemKind.{ItemKind}
 use Rattle.ep_defs.specs.declared.item.ItemKind.TheVariants as item
 use Rattle.ep_defs.specs.Entry.{Entry}
-use Rattle.nt_blocks.specs.Ordered.{no_names}
-use Rattle.nt_check.specs.Numbers.{held}
+use Rattle.nt_blocks.specs.Ordered.{no_names, tell}
+use Rattle.nt_check.specs.declared.checker.EventNames.{EventNames}
+use Rattle.nt_check.specs.Events.{EventRest, event_item}
+use Rattle.nt_check.specs.Numbers.{held, numbers_of}
 use Rattle.nt_check.specs.state.Took.{names_at}
 use Rattle.pt_report.specs.declared.counters.Totals.{Totals}
 use Rattle.pt_report.specs.declared.counters.Counters.{Counters}
@@ -40,3 +42,11 @@ pub record Shows (kinds : List ItemKind) (entries : List Entry) (counters : Coun
   pub events_are : ShowsEvents (definitions kinds) (used_definitions entries) (names_at no_names kinds).definitions counters.events
   pub threads_are : Counts nat_cmp (flat_map threads_in kinds) [] counters.threads
   pub stacks_are : ShowsStacks (used_stacks entries) (names_at no_names kinds).stacks counters.stacks
+
+-- An event was counted behind the items that were, of which what it names is enough; they name its thread, unless it may be the
+-- first of it.
+abbrev pub CountsEvent : EventNames → Bool → Counters → Counters → Type 0
+CountsEvent event is_first old new =
+    (kinds : List ItemKind) (entries more : List Entry) (rest : EventRest) → Shows kinds entries old
+    → (is_first ≡ false → IsSome (numbers_of event.capture kinds)) → tell (names_at no_names kinds) (event_item event rest) ≡ Ok more
+    → Shows (kinds ++ event_item event rest ∷ []) (entries ++ more) new
