@@ -1,5 +1,7 @@
 //! What a run takes memory for before anybody comes in.
 ghost use Rattle.std.specs.Prelude.{◌≡◌, ◌+◌, ◌*◌, ◌<◌, ◌≤◌, [], Some, false, IfOk, length, vec_len, vec_capacity};
+ghost use Rattle.ep_defs.specs.declared.limits.TheConstants.{THREADS as MOST_THREADS};
+ghost use Rattle.ep_live.specs.declared.limits.TheConstants.{ROW_TIES};
 ghost use Rattle.pt_load.specs.Sample.{sample};
 ghost use Rattle.ep_registry.specs.declared.server.Mark.TheVariants as mark;
 ghost use Rattle.ep_registry.specs.Places.{numbered};
@@ -34,8 +36,8 @@ pub(crate) struct Blanks<'a> {
 
 impl<'a> Blanks<'a> {
     pub(crate) fn new(alloc: Global, rows: u32) -> Result<Blanks<'a>, AllocError>
-        requires { (0 < rows) × (rows ≤ 256) }
-        ensures { IfOk result (λ blanks. (blanks.rows.places ≡ rows + 128 * rows)
+        requires { (0 < rows) × (rows ≤ MOST_THREADS) }
+        ensures { IfOk result (λ blanks. (blanks.rows.places ≡ rows + ROW_TIES * rows)
             × (blanks.events.items ≡ sample) × (blanks.books.places ≡ 1) × (blanks.holds.places ≡ CONNECTIONS) × (blanks.marks.places ≡ SLOTS + 1)) }
     {
         Ok(Blanks {
@@ -74,7 +76,7 @@ impl<'a, W: World, L: Link + Drop> Prepared<'a, W, L> {
         requires world { IsWorldOf W.world W.rows W.events W.writes W.setting W.facts W.greeting }
         requires plan { plan.now ≡ W.world.plan }
         requires options { streamers ≡ W.world.options.streamers }
-        requires rows { (blanks.rows.ties ≡ W.ties) × (blanks.rows.places ≡ W.rows + 128 * W.rows) }
+        requires rows { (blanks.rows.ties ≡ W.ties) × (blanks.rows.places ≡ W.rows + ROW_TIES * W.rows) }
         requires table { (blanks.books.ties ≡ W.books) × (blanks.holds.ties ≡ W.holds)
             × (blanks.marks.ties ≡ W.marks) }
         requires places { (blanks.books.places ≡ 1) × (blanks.holds.places ≡ CONNECTIONS)

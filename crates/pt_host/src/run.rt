@@ -5,6 +5,7 @@ ghost use Rattle.ep_table.specs.declared.limits.TheConstants.{SLOTS};
 ghost use Rattle.ep_registry.specs.declared.server.Mark.TheVariants as mark;
 ghost use Rattle.ep_registry.specs.Places.{numbered};
 ghost use Rattle.ep_live.specs.Made.{AreStands};
+ghost use Rattle.ep_live.specs.declared.limits.TheConstants.{ROW_TIES};
 ghost use Rattle.pt_host.specs.declared.exit.Exit.TheVariants as exit;
 ghost use Rattle.pt_host.specs.Ending.{AreLeftOver, IsAllOver, has_failed};
 ghost use Rattle.pt_host.specs.Server.{GoesOnFrom, HasServed, HasTurned, no_server};
@@ -125,7 +126,7 @@ fn run_named<
     requires world { IsWorldOf W.world W.rows W.events W.writes W.setting W.facts W.greeting }
     requires plan { (parts.plan.now ≡ W.world.plan) × (parts.options ≡ W.world.options) }
     requires facts { (parts.facts.now ≡ W.world.facts) × IsTrue (is_valid_facts parts.facts.now) }
-    requires rows { (blanks.rows.ties ≡ W.ties) × (blanks.rows.places ≡ W.rows + 128 * W.rows) }
+    requires rows { (blanks.rows.ties ≡ W.ties) × (blanks.rows.places ≡ W.rows + ROW_TIES * W.rows) }
     requires table { (blanks.books.ties ≡ W.books) × (blanks.holds.ties ≡ W.holds)
         × (blanks.marks.ties ≡ W.marks) }
     requires places { (blanks.books.places ≡ 1) × (blanks.holds.places ≡ CONNECTIONS)

@@ -1,7 +1,7 @@
 use Rattle.std.proofs.Common.{◌≡◌, ◌∙◌, ap, sym, subst, arith}
 use Rattle.pt_load.specs.declared.plan.Plan.{Plan}
 use Rattle.pt_roles.specs.declared.options.LiveOptions.{LiveOptions}
-use Rattle.pt_roles.specs.Writers.{AreDrafts}
+use Rattle.pt_roles.specs.Writers.{AreRowDrafts}
 use Rattle.pt_host.proofs.run.groups_of.Goals as goal
 
 pub invariant_of-kit : goal.invariant_of-kit
@@ -11,8 +11,8 @@ invariant_of-kit g c =
     let drafts = c.in_ok-drafts_of.field-0 in
     record {
       count = c.in_ok-drafts_of.ensures.count ∙ threads ∙ sym w.rows_are;
-      drafts_are = subst (λ (p : Plan). AreDrafts p g.W.World.world.options.lives drafts.items) c.requires.plan.0
-          (subst (λ (o : LiveOptions). AreDrafts c.args.parts.now.plan.now o.lives drafts.items) c.requires.plan.1 c.in_ok-drafts_of.ensures.drafts);
+      drafts_are = subst (λ (p : Plan). AreRowDrafts p g.W.World.world.options.lives drafts.items) c.requires.plan.0
+          (subst (λ (o : LiveOptions). AreRowDrafts c.args.parts.now.plan.now o.lives drafts.items) c.requires.plan.1 c.in_ok-drafts_of.ensures.drafts);
       none = (c.in_ok-with_capacity-2.ensures.items, c.in_ok-with_capacity-3.ensures.items, c.in_ok-with_capacity-4.ensures.items);
       writer_room = omega (arith, c.in_ok-with_capacity-2.ensures.capacity, threads, w.rows_are);
       row_room = omega (arith, c.in_ok-with_capacity-3.ensures.capacity, threads, w.rows_are);
