@@ -15,7 +15,7 @@ use Rattle.std.proofs.lemmas.Bool.{and_from, and_left, and_parts, cond-true, cas
 use Rattle.std.proofs.lemmas.Option.{same_Some}
 use Rattle.std.proofs.lemmas.Int.Digits.{digits_value_more, digits_value-lt}
 use Rattle.std.proofs.lemmas.List.{append_assoc, append-nil, length-take-le, length-append, take_all, take_more, take_rest, take-append-drop, drop_more, get_or-drop}
-use Rattle.std.proofs.lemmas.List.Elements.{All-append, All-get_or, All-head, All-nil, All-push}
+use Rattle.std.proofs.lemmas.List.Elements.{All-append, All-get_or, All-head, All-push}
 use Rattle.std.proofs.lemmas.List.Folds.{list_all_more}
 use Rattle.std.proofs.lemmas.List.Splits.{slice_split_at, slice_split_none}
 use Rattle.std.proofs.lemmas.List.Sums.{AllPass-from_list_all}
@@ -181,9 +181,6 @@ pub record FramesSoFar (text : List ℕ) (begin : ℕ) (frames : List ℕ) : Typ
   pub parts : List (List ℕ)
   pub split : (more : List ℕ) → parts_at comma (take begin text ++ more) ≡ parts ++ parts_at comma more
   pub read : all_in hex_in parts ≡ Some frames
-
-pub no_frames : (text : List ℕ) → FramesSoFar text 0 []
-no_frames text = record { within = omega arith; no_space = All-nil (λ byte. (byte == space) ≡ false); no_dash = All-nil (λ byte. (byte == 45) ≡ false); parts = []; split = λ more. refl; read = refl }
 
 all_in-push : (parts : List (List ℕ)) (part : List ℕ) (frames : List ℕ) (frame : ℕ) → all_in hex_in parts ≡ Some frames → hex_in part ≡ Some frame → all_in hex_in (parts ++ part ∷ []) ≡ Some (frames ++ frame ∷ [])
 all_in-push [] part frames frame all one =

@@ -5,7 +5,7 @@ use Rattle.std.specs.BTreeMap.{is_at}
 use Rattle.std.specs.Int.{is_in_range}
 use Rattle.std.specs.Ordering.{nat_cmp}
 use Rattle.std.proofs.lemmas.Bool.{eq-eqb, ne_eqb}
-use Rattle.std.proofs.lemmas.Option.{same_Some, slice_get_read}
+use Rattle.std.proofs.lemmas.Option.{same_Some}
 use Rattle.ep_defs.specs.declared.limits.TheConstants.{THREADS}
 use Rattle.ep_tables.specs.declared.judged.OnRow.{OnRow}
 use Rattle.ep_tables.proofs.Opened.{at_key}
@@ -36,14 +36,6 @@ get_set (z ∷ zs) (suc i) x (suc j) y is =
 -- Each stands in the place that its number chooses, with the row that it was given.
 abbrev pub AreNear : (ℕ → Option ℕ) → List OnRow → Type 0
 AreNear given near = (place : ℕ) (on : OnRow) → slice_get near place ≡ Some on → (on.thread % THREADS ≡ place) × (given on.thread ≡ Some on.row)
-
--- What is found there is the row that the thread was given.
-pub near_found : (given : ℕ → Option ℕ) (near : List OnRow) (thread : ℕ) (on : OnRow) → length near ≡ THREADS → AreNear given near
-    → on ≡ get_or near (thread % THREADS) on → on.thread ≡ thread → given thread ≡ Some on.row
-near_found given near thread on count known reads same =
-    let there : slice_get near (thread % THREADS) ≡ Some on = slice_get_read near (length near) (thread % THREADS) on refl (omega (arith, count)) reads in
-    let Given : ℕ → Type 0 = λ t. given t ≡ Some on.row in
-    subst Given same (known (thread % THREADS) on there).1
 
 -- A thread that is given a row takes its place.
 pub near_set : (old new : ℕ → Option ℕ) (near : List OnRow) (on : OnRow) → AreNear old near
