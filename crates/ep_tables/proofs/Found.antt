@@ -136,6 +136,11 @@ there_found past tables thread row h =
 pub in_write_found : (past : Past) (tables : Tables) (thread row : ℕ) → RowFound past tables thread row → ((told_of tables.rows).row row).in_write ≡ in_write thread past
 in_write_found past tables thread row h = h.follows.writing ∙ ap (λ t. in_write t past) h.thread_is
 
+-- What is read of the row tells whether its thread is in a write.
+pub writes_found : (events : List EventDef) (past : Past) (tables : Tables) (thread row : ℕ) (writes : Bool) → TablesFollow events past tables → Some row ≡ row_of tables thread
+    → writes ≡ ((told_of tables.rows).row row).in_write → writes ≡ in_write thread past
+writes_found events past tables thread row writes h own is = is ∙ in_write_found past tables thread row (row_found events past tables thread row h own)
+
 -- No session is open on a thread that has no row of its own, if it came.
 pub none_open : (past : Past) (session thread : ℕ) → (was_there thread past ≡ false) ⊎ IsGone thread past → was_there thread past ≡ true → is_open session thread past ≡ false
 none_open past session thread (inl never) came = absurd (false≢true (sym never ∙ came))
@@ -152,6 +157,20 @@ pub owed_found : (events : List EventDef) (past : Past) (tables : Tables) (sessi
     → (bit_at ((told_of tables.rows).row row).due present.slot == 1) ≡ is_due events session thread past
 owed_found events past tables session thread row present s r =
     (s.follows.rows row r.is_row).owed ∙ ap (λ n. is_due events n ((told_of tables.rows).row row).thread past) s.number ∙ ap (λ t. is_due events session t past) r.thread_is
+
+-- What is read of the row by the session's slot tells whether the session is open on its thread.
+pub open_found : (events : List EventDef) (past : Past) (tables : Tables) (session thread place row : ℕ) (present : Present) (on : Bool) → TablesFollow events past tables
+    → Some place ≡ position (λ (p : Present). p.number == session) tables.present.items → present ≡ get_or tables.present.items place present → Some row ≡ row_of tables thread
+    → on ≡ is_some (slot_of ((told_of tables.rows).row row) present.slot) → on ≡ is_open session thread past
+open_found events past tables session thread place row present on h found reads own is =
+    is ∙ on_found events past tables session thread row present (session_found events past tables session place present h found reads) (row_found events past tables thread row h own)
+
+-- And whether the thread's write is due for it.
+pub due_found : (events : List EventDef) (past : Past) (tables : Tables) (session thread place row : ℕ) (present : Present) (due : Bool) → TablesFollow events past tables
+    → Some place ≡ position (λ (p : Present). p.number == session) tables.present.items → present ≡ get_or tables.present.items place present → Some row ≡ row_of tables thread
+    → due ≡ (bit_at ((told_of tables.rows).row row).due present.slot == 1) → due ≡ is_due events session thread past
+due_found events past tables session thread place row present due h found reads own is =
+    is ∙ owed_found events past tables session thread row present (session_found events past tables session place present h found reads) (row_found events past tables thread row h own)
 
 -- ---- what is in hand
 

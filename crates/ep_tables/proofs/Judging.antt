@@ -1,12 +1,21 @@
 -- How a step is judged: one kind after another, and what is found of it.
-use Rattle.std.proofs.Common.{◌≡◌, ℕ, ◌≤◌, ◌<◌, Bool, true, false, Option, Some, None, Result, Ok, Err, IfOk, refl, ap, sym, ◌∙◌, subst, arith, if◌then◌else◌}
-use Rattle.std.specs.Prelude.{◌&&◌, not, is_some, nat_lt, nat_le}
+use Rattle.std.proofs.Common.{◌≡◌, ℕ, ◌≤◌, ◌<◌, Bool, true, false, List, Option, Some, None, Result, Ok, Err, IfOk, refl, ap, sym, ◌∙◌, subst, arith, if◌then◌else◌}
+use Rattle.std.specs.Prelude.{◌&&◌, ◌==◌, not, is_none, is_some, position, nat_lt, nat_le}
+use Rattle.std.specs.BTreeMap.{get}
+use Rattle.std.specs.Ordering.{nat_cmp}
 use Rattle.std.proofs.lemmas.Bool.{le-leb, leb-true, lt-ltb, ltb-false, false_from_ne_true}
 use Rattle.std.proofs.Math.Bool.{not-not}
+use Rattle.ep_defs.specs.Definitions.{definition_at}
+use Rattle.ep_defs.specs.declared.event.EventDef.{EventDef}
 use Rattle.ep_model.specs.declared.step.Kind.{Kind}
-use Rattle.ep_model.specs.History.{Past, was_there}
+use Rattle.ep_model.specs.declared.step.Kind.TheVariants.{NoSession, NoThread, NoEvent, InWrite, NotInWrite}
+use Rattle.ep_model.specs.History.{Past, in_write, is_present, is_there, was_there}
 use Rattle.ep_stream.specs.Steps.{ToldRows}
-use Rattle.ep_tables.specs.Tables.{PlaceFollows}
+use Rattle.ep_rows.specs.Rows.{told_of}
+use Rattle.ep_tables.specs.declared.tables.Present.{Present}
+use Rattle.ep_tables.specs.declared.tables.Tables.{Tables}
+use Rattle.ep_tables.specs.Tables.{PlaceFollows, TablesFollow, row_of}
+use Rattle.ep_tables.proofs.Found.{present_found, writes_found}
 
 -- ---- one kind after another
 
@@ -66,3 +75,38 @@ next_is low n last some least above same =
 pub came_found : (past : Past) (told : ToldRows) (thread : ℕ) (given : Option ℕ) → PlaceFollows past told thread given → is_some given ≡ was_there thread past
 came_found past told thread None follows = sym follows
 came_found past told thread (Some row) follows = sym follows.0
+
+-- ---- the kinds that come first
+
+-- The event is one of those that threads write, or none.
+pub lacks_found : (events : List EventDef) (past : Past) (tables : Tables) (event : ℕ) (lacks : Bool) → TablesFollow events past tables
+    → lacks ≡ is_none (definition_at tables.events.items event) → lacks ≡ is_none (definition_at events event)
+lacks_found events past tables event lacks h is = is ∙ ap (λ (list : List EventDef). is_none (definition_at list event)) h.events_are
+
+-- The thread is there and in no write, and the event is one that it can write.
+pub pass_known : (events : List EventDef) (past : Past) (tables : Tables) (thread row event : ℕ) (writes lacks : Bool) (o p : Option Kind) → TablesFollow events past tables
+    → row_of tables thread ≡ Some row → true ≡ is_there thread past → writes ≡ ((told_of tables.rows).row row).in_write → writes ≡ false
+    → lacks ≡ is_none (definition_at tables.events.items event) → lacks ≡ false → p ≡ o
+    → p ≡ (if not (is_there thread past) then Some NoThread else (if in_write thread past then Some InWrite else (if is_none (definition_at events event) then Some NoEvent else o)))
+pass_known events past tables thread row event writes lacks o p h own there in_write_is quiet lacks_is known later =
+    pass _ _ _ _ (ap not (sym there))
+    (pass _ _ _ _ (sym (writes_found events past tables thread row writes h (sym own) in_write_is) ∙ quiet)
+    (pass _ _ _ _ (sym (lacks_found events past tables event lacks h lacks_is) ∙ known) later))
+
+-- The thread is there and in a write, and the session is present.
+pub pass_writing : (events : List EventDef) (past : Past) (tables : Tables) (session thread place row : ℕ) (writes : Bool) (o p : Option Kind) → TablesFollow events past tables
+    → row_of tables thread ≡ Some row → true ≡ is_there thread past → Some place ≡ position (λ (q : Present). q.number == session) tables.present.items
+    → writes ≡ ((told_of tables.rows).row row).in_write → not writes ≡ false → p ≡ o
+    → p ≡ (if not (is_there thread past) then Some NoThread else (if not (is_present session past) then Some NoSession else (if not (in_write thread past) then Some NotInWrite else o)))
+pass_writing events past tables session thread place row writes o p h own there found in_write_is writing later =
+    pass _ _ _ _ (ap not (sym there))
+    (pass _ _ _ _ (ap not (sym (present_found events past tables session (Some place) h found)))
+    (pass _ _ _ _ (sym (ap not (writes_found events past tables thread row writes h (sym own) in_write_is)) ∙ writing) later))
+
+-- The session is present, and the thread came.
+pub pass_came : (events : List EventDef) (past : Past) (tables : Tables) (session thread place : ℕ) (came : Bool) (o p : Option Kind) → TablesFollow events past tables
+    → Some place ≡ position (λ (q : Present). q.number == session) tables.present.items → came ≡ is_some (get nat_cmp tables.threads thread) → came ≡ true → p ≡ o
+    → p ≡ (if not (is_present session past) then Some NoSession else (if not (was_there thread past) then Some NoThread else o))
+pass_came events past tables session thread place came o p h found came_is some later =
+    pass _ _ _ _ (ap not (sym (present_found events past tables session (Some place) h found)))
+    (pass _ _ _ _ (ap not (sym (came_is ∙ came_found past (told_of tables.rows) thread (get nat_cmp tables.threads thread) (h.places thread)) ∙ some)) later)

@@ -2,6 +2,7 @@
 use Rattle.std.proofs.Common.{◌≡◌, ℕ, zero, suc, ◌+◌, ◌<◌, ◌≤◌, Bool, true, false, List, [], ◌∷◌, map, length, Option, Some, None, refl, ap, sym, ◌∙◌, subst, arith, if◌then◌else◌, inl, inr, count_by, set, get_or, cond}
 use Rattle.std.specs.Prelude.{◌&&◌, ◌||◌, not, filter, is_some, slice_get, position, remove, ◌==◌}
 use Rattle.std.proofs.lemmas.Bool.{eqb-true, eq-eqb, ne_eqb, or_parts, or_cases, or_from, cases_eq, false≢true}
+use Rattle.std.proofs.Math.Dec.{eqb-suc-suc}
 use Rattle.std.proofs.Math.ListN.{length-set}
 use Rattle.std.proofs.lemmas.List.Quantifiers.{position-Some}
 use Rattle.std.proofs.lemmas.List.Sums.{sum_by-cons, sum_by-set}
@@ -146,19 +147,12 @@ gone_slot slot place was ps at same distinct =
 abbrev one_more : Bool → ℕ
 one_more b = cond b 1 0
 
-eqb_suc : (n m : ℕ) → (suc n == suc m) ≡ (n == m)
-eqb_suc n m =
-    elim (cases_eq n m) [
-      | inl same ↦ eq-eqb (suc n) (suc m) (ap suc same) ∙ sym (eq-eqb n m same)
-      | inr other ↦ ne_eqb (suc n) (suc m) (λ same. other (omega (arith, same))) ∙ sym (ne_eqb n m other)
-    ]
-
 holds_set : (seats : List (Option Seat)) (i s : ℕ) (seat : Seat) → i < length seats → holds (slice_get (set seats i (Some seat)) s) ≡ ((i == s) || holds (slice_get seats s))
 holds_set [] i s seat less = absurd (omega (arith, less))
 holds_set (x ∷ xs) zero zero seat less = refl
 holds_set (x ∷ xs) zero (suc s) seat less = sym (ap (λ b. b || holds (slice_get xs s)) (ne_eqb 0 (suc s) (λ same. omega (arith, same))))
 holds_set (x ∷ xs) (suc i) zero seat less = sym (ap (λ b. b || is_some x) (ne_eqb (suc i) 0 (λ same. omega (arith, same))))
-holds_set (x ∷ xs) (suc i) (suc s) seat less = holds_set xs i s seat (omega (arith, less)) ∙ sym (ap (λ b. b || holds (slice_get xs s)) (eqb_suc i s))
+holds_set (x ∷ xs) (suc i) (suc s) seat less = holds_set xs i s seat (omega (arith, less)) ∙ sym (ap (λ b. b || holds (slice_get xs s)) (eqb-suc-suc i s))
 
 -- The slot that a session gets.
 pub record Seated (table : Sessions) (slot : ℕ) : Type 0 where
@@ -215,7 +209,7 @@ holds_cleared [] i s = sym (none (not (i == s)))
 holds_cleared (x ∷ xs) zero zero = refl
 holds_cleared (x ∷ xs) zero (suc s) = sym (ap (λ b. not b && holds (slice_get xs s)) (ne_eqb 0 (suc s) (λ same. omega (arith, same))))
 holds_cleared (x ∷ xs) (suc i) zero = sym (ap (λ b. not b && is_some x) (ne_eqb (suc i) 0 (λ same. omega (arith, same))))
-holds_cleared (x ∷ xs) (suc i) (suc s) = holds_cleared xs i s ∙ sym (ap (λ b. not b && holds (slice_get xs s)) (eqb_suc i s))
+holds_cleared (x ∷ xs) (suc i) (suc s) = holds_cleared xs i s ∙ sym (ap (λ b. not b && holds (slice_get xs s)) (eqb-suc-suc i s))
 
 pub free_held : (table : Sessions) (slot s : ℕ) (ps rest : List Present) → ((n : ℕ) → is_held table n ≡ has_slot n ps) → ((n : ℕ) → has_slot n ps ≡ ((slot == n) || has_slot n rest)) → has_slot slot rest ≡ false
     → is_held (after_free table slot) s ≡ has_slot s rest

@@ -1,27 +1,22 @@
-use Rattle.std.proofs.Common.{true, false, List, refl, ap, subst, ◌≡◌}
+use Rattle.std.proofs.Common.{true, List, refl, ap, subst}
 use Rattle.ep_defs.specs.declared.event.EventDef.{EventDef}
 use Rattle.ep_chunk.specs.Record.{Record}
 use Rattle.pt_io.specs.Memory.{SinkState}
-use Rattle.ep_row.specs.Row.{RowState}
 use Rattle.ep_stream.specs.Session.{Rest, rest_of, Writes}
 use Rattle.ep_stream.specs.Steps.{Closes}
 use Rattle.ep_stream.specs.Telling.{entries_of}
 use Rattle.ep_rows.specs.Rows.{told_of}
-use Rattle.ep_tables.specs.Can.{HasRow, IsOn, HasEmptyHand}
-use Rattle.ep_tables.specs.declared.tables.Present.{Present}
 use Rattle.ep_tables.specs.Made.{ClosesOn, IsSpent}
-use Rattle.ep_tables.specs.Tied.{IsTied}
 use Rattle.ep_tables.proofs.Telling.{ok_with, from_ok, tells_in, spent_in}
-use Rattle.ep_tables.proofs.Ready.{own_holds, hand_there}
-use Rattle.ep_tables.proofs.Turning.{stands_at, one_of, holds_at, turn_made, session_tied, closed_now}
+use Rattle.ep_tables.proofs.Ready.{closing}
+use Rattle.ep_tables.proofs.Turning.{turn_made, session_tied, closed_now}
 use Rattle.ep_tables.proofs.tables.Tables.close.Goals as goal
 
 pub returns-clause-made : goal.returns-clause-made
 returns-clause-made c =
     let old = c.args.self.now in
     let was = c.index_mut.result.now in
-    let stands = stands_at old c.args.both.of.session c.args.both.of.place was c.requires.ready.there.of c.index_mut.ensures.value in
-    let tied = one_of (IsTied old.rows) old.present.items c.args.both.of.place was c.requires.tied.sessions stands.there in
+    let at = closing old c.args.both was c.requires.ready c.requires.tied c.index_mut.ensures.value in
     let closed = c.detach.ensures.detached in
     let stacks = (rest_of was.session).config.stackwalk in
     ok_with c.detach.result
@@ -30,7 +25,7 @@ returns-clause-made c =
       row = c.args.both.on.row;
       own = c.requires.ready.there.on.own;
       is_row = c.requires.ready.there.on.is_row;
-      one = turn_made c.args.both.of.session c.args.both.of.place (ClosesOn old.events.items c.args.both.on.row) old _ was _ stands refl refl refl
+      one = turn_made c.args.both.of.session c.args.both.of.place (ClosesOn old.events.items c.args.both.on.row) old _ was _ at.stands refl refl refl
           (ap (λ (r : Rest). r.seat) closed.rest) (ap (λ (r : Rest). r.config) closed.rest)
           (record {
             hand = closed.hand;
@@ -39,8 +34,8 @@ returns-clause-made c =
             chunks = closed.chunks;
             marks = closed.marks;
             held = closed.was;
-            empty = (holds_at old c.args.both.of.session c.args.both.of.place was (λ (p : Present). HasRow old c.args.both.on.thread (λ (row : RowState). IsOn p row × (row.in_write ≡ false)) × HasEmptyHand p) c.requires.ready.can stands).1;
-            told = subst (λ s. Closes c.args.both.on.row s closed.records closed.last closed.chunks closed.marks (told_of old.rows) (told_of c.detach.new.rows)) tied.slot closed.told;
+            empty = at.empty;
+            told = subst (λ s. Closes c.args.both.on.row s closed.records closed.last closed.chunks closed.marks (told_of old.rows) (told_of c.detach.new.rows)) at.tied.slot closed.told;
             hands = closed.hands;
             rest = closed.rest;
             tells = tells_in old.events.items (entries_of old.events.items stacks closed.records) was (record was { session = c.detach.new.self }) c.detach.result u is
@@ -57,7 +52,7 @@ returns-clause-tied c =
     let closed = c.detach.ensures.detached in
     ok_with c.detach.result
     (λ u is.
-    session_tied old _ c.args.both.of.session c.args.both.of.place was _ (stands_at old c.args.both.of.session c.args.both.of.place was c.requires.ready.there.of c.index_mut.ensures.value)
+    session_tied old _ c.args.both.of.session c.args.both.of.place was _ (closing old c.args.both was c.requires.ready c.requires.tied c.index_mut.ensures.value).stands
     refl refl refl refl c.detach.ensures.set.definitions_are c.detach.ensures.slots
     (λ tied. closed_now old.rows c.detach.new.rows was _ c.args.both.on.row closed.hand closed.marks refl refl refl (ap (λ (r : Rest). r.seat) closed.rest) c.detach.ensures.count c.detach.ensures.rows
     (from_ok c.detach.result u is c.detach.ensures.faulty.sound) closed.hands closed.was closed.marked.thread (ap (λ (r : Rest). r.marks) closed.rest) tied)
@@ -67,17 +62,16 @@ pub returns-clause-long : goal.returns-clause-long
 returns-clause-long c is =
     let old = c.args.self.now in
     let was = c.index_mut.result.now in
-    let stands = stands_at old c.args.both.of.session c.args.both.of.place was c.requires.ready.there.of c.index_mut.ensures.value in
-    let tied = one_of (IsTied old.rows) old.present.items c.args.both.of.place was c.requires.tied.sessions stands.there in
+    let at = closing old c.args.both was c.requires.ready c.requires.tied c.index_mut.ensures.value in
     let closed = c.detach.ensures.detached in
     let stacks = (rest_of was.session).config.stackwalk in
-    let told = subst (λ s. Closes c.args.both.on.row s closed.records closed.last closed.chunks closed.marks (told_of old.rows) (told_of c.detach.new.rows)) tied.slot closed.told in
+    let told = subst (λ s. Closes c.args.both.on.row s closed.records closed.last closed.chunks closed.marks (told_of old.rows) (told_of c.detach.new.rows)) at.tied.slot closed.told in
     record {
       row = c.args.both.on.row;
       own = c.requires.ready.there.on.own;
       place = c.args.both.of.place;
       was = was;
-      stands = stands;
+      stands = at.stands;
       buffer = told.buffer;
       slot_is = told.was;
       spent = subst (λ (rs : List Record). IsSpent old.events.items (entries_of old.events.items stacks rs) was) told.all.records_are
@@ -87,18 +81,7 @@ returns-clause-long c is =
     }
 
 pub detach-requires-clause-row : goal.detach-requires-clause-row
-detach-requires-clause-row c =
-    let old = c.args.self.now in
-    let was = c.index_mut.result.now in
-    let stands = stands_at old c.args.both.of.session c.args.both.of.place was c.requires.ready.there.of c.index_mut.ensures.value in
-    let can = holds_at old c.args.both.of.session c.args.both.of.place was (λ (p : Present). HasRow old c.args.both.on.thread (λ (row : RowState). IsOn p row × (row.in_write ≡ false)) × HasEmptyHand p) c.requires.ready.can stands in
-    hand_there old.rows was c.args.both.on.row (one_of (IsTied old.rows) old.present.items c.args.both.of.place was c.requires.tied.sessions stands.there)
-    ((own_holds old c.args.both.on.thread c.args.both.on.row (λ (row : RowState). IsOn was row × (row.in_write ≡ false)) can.0 c.requires.ready.there.on.own).0)
+detach-requires-clause-row c = (closing c.args.self.now c.args.both c.index_mut.result.now c.requires.ready c.requires.tied c.index_mut.ensures.value).hand
 
 pub detach-requires-clause-empty : goal.detach-requires-clause-empty
-detach-requires-clause-empty c =
-    let old = c.args.self.now in
-    let was = c.index_mut.result.now in
-    let stands = stands_at old c.args.both.of.session c.args.both.of.place was c.requires.ready.there.of c.index_mut.ensures.value in
-    let can = holds_at old c.args.both.of.session c.args.both.of.place was (λ (p : Present). HasRow old c.args.both.on.thread (λ (row : RowState). IsOn p row × (row.in_write ≡ false)) × HasEmptyHand p) c.requires.ready.can stands in
-    can.1
+detach-requires-clause-empty c = (closing c.args.self.now c.args.both c.index_mut.result.now c.requires.ready c.requires.tied c.index_mut.ensures.value).empty

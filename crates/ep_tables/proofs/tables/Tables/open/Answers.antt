@@ -7,13 +7,10 @@ use Rattle.nt_write.specs.Writer.{fault_of as writer_fault}
 use Rattle.ep_stream.specs.Session.{Rest, rest_of}
 use Rattle.ep_stream.specs.Steps.{Opens}
 use Rattle.ep_rows.specs.Rows.{told_of}
-use Rattle.ep_tables.specs.Can.{HasRow, CanOpenOn}
-use Rattle.ep_tables.specs.declared.tables.Present.{Present}
 use Rattle.ep_tables.specs.Made.{OpensOn}
-use Rattle.ep_tables.specs.Tied.{IsTied}
 use Rattle.ep_tables.proofs.Opened.{open_now, opened_more}
-use Rattle.ep_tables.proofs.Ready.{own_holds, hand_off, few_opened, never_opened}
-use Rattle.ep_tables.proofs.Turning.{stands_at, one_of, holds_at, turn_made, session_tied, own_thread}
+use Rattle.ep_tables.proofs.Ready.{opening, hand_off, few_opened, never_opened}
+use Rattle.ep_tables.proofs.Turning.{turn_made, session_tied, own_thread}
 use Rattle.ep_tables.proofs.tables.Tables.open.Goals as goal
 
 pub returns-clause-made : goal.returns-clause-made
@@ -22,23 +19,21 @@ returns-clause-made c =
     let was = c.index_mut-present.result.now in
     let row = c.args.both.on.row in
     let rest = rest_of was.session in
-    let stands = stands_at old c.args.both.of.session c.args.both.of.place was c.requires.ready.there.of c.index_mut-present.ensures.value in
-    let tied = one_of (IsTied old.rows) old.present.items c.args.both.of.place was c.requires.tied.sessions stands.there in
-    let can = holds_at old c.args.both.of.session c.args.both.of.place was (λ (p : Present). HasRow old c.args.both.on.thread (CanOpenOn c.args.both.on.thread p)) c.requires.ready.can stands in
+    let at = opening old c.args.both was c.requires.ready c.requires.tied c.index_mut-present.ensures.value in
     let attached = c.in_ok-attach.ensures.attached in
     record {
       row = row;
       own = c.requires.ready.there.on.own;
       is_row = c.requires.ready.there.on.is_row;
-      one = turn_made c.args.both.of.session c.args.both.of.place (OpensOn old.events.items c.args.both.on.thread row) old _ was _ stands refl refl refl
+      one = turn_made c.args.both.of.session c.args.both.of.place (OpensOn old.events.items c.args.both.on.thread row) old _ was _ at.stands refl refl refl
           (ap (λ (r : Rest). r.seat) attached.rest) (ap (λ (r : Rest). r.config) attached.rest)
           (record {
             attached = attached;
-            told = subst (λ s. Opens old.events.items row s rest.seat.id rest.config (told_of old.rows) (told_of c.attach.new.rows)) tied.slot
+            told = subst (λ s. Opens old.events.items row s rest.seat.id rest.config (told_of old.rows) (told_of c.attach.new.rows)) at.tied.slot
                 (subst (λ (es : List EventDef). Opens es row rest.seat.slot rest.seat.id rest.config (told_of old.rows) (told_of c.attach.new.rows)) c.requires.tied.known c.in_ok-attach.ensures.told);
             writer = c.in_ok-attach.ensures.writer;
             ever = λ t. opened_more (get nat_cmp c.insert.new.self t) (get nat_cmp was.opened t) _ c.args.both.on.thread t (c.in_ok-insert.ensures.updates.0 t);
-            count = c.in_ok-insert.ensures.len ∙ ap (λ o. btree_map_len was.opened + (if is_some o then 0 else 1)) (c.in_ok-insert.ensures.old ∙ can.holds.never);
+            count = c.in_ok-insert.ensures.len ∙ ap (λ o. btree_map_len was.opened + (if is_some o then 0 else 1)) (c.in_ok-insert.ensures.old ∙ at.can.never);
           })
           refl c.in_ok-attach.ensures.set.definitions_are refl refl refl refl refl;
     }
@@ -48,13 +43,12 @@ returns-clause-tied c =
     let old = c.args.self.now in
     let was = c.index_mut-present.result.now in
     let row = c.args.both.on.row in
-    let stands = stands_at old c.args.both.of.session c.args.both.of.place was c.requires.ready.there.of c.index_mut-present.ensures.value in
-    let can = holds_at old c.args.both.of.session c.args.both.of.place was (λ (p : Present). HasRow old c.args.both.on.thread (CanOpenOn c.args.both.on.thread p)) c.requires.ready.can stands in
+    let at = opening old c.args.both was c.requires.ready c.requires.tied c.index_mut-present.ensures.value in
     let attached = c.in_ok-attach.ensures.attached in
-    session_tied old _ c.args.both.of.session c.args.both.of.place was _ stands
+    session_tied old _ c.args.both.of.session c.args.both.of.place was _ at.stands
     refl refl refl refl c.in_ok-attach.ensures.set.definitions_are c.in_ok-attach.ensures.slots
     (λ tied. open_now old.rows c.attach.new.rows was _ row c.args.both.on.thread attached.hand refl refl (ap (λ (r : Rest). r.seat) attached.rest) c.in_ok-attach.ensures.count
-    (c.in_ok-insert.ensures.len ∙ ap (λ o. btree_map_len was.opened + (if is_some o then 0 else 1)) (c.in_ok-insert.ensures.old ∙ can.holds.never))
+    (c.in_ok-insert.ensures.len ∙ ap (λ o. btree_map_len was.opened + (if is_some o then 0 else 1)) (c.in_ok-insert.ensures.old ∙ at.can.never))
     (λ t. opened_more (get nat_cmp c.insert.new.self t) (get nat_cmp was.opened t) _ c.args.both.on.thread t (c.in_ok-insert.ensures.updates.0 t))
     c.in_ok-attach.ensures.rows (ap writer_fault c.in_ok-attach.ensures.writer ∙ tied.sound) attached.hands
     (attached.tested ∙ own_thread (told_of old.rows) c.args.both.on.thread row (get nat_cmp old.threads c.args.both.on.thread) c.requires.ready.there.on.own)
@@ -63,31 +57,23 @@ returns-clause-tied c =
 
 pub attach-requires-clause-off : goal.attach-requires-clause-off
 attach-requires-clause-off c =
-    let old = c.args.self.now in
     let both = c.args.both in
     let was = c.index_mut-present.result.now in
-    let stands = stands_at old both.of.session both.of.place was c.requires.ready.there.of c.index_mut-present.ensures.value in
-    let tied = one_of (IsTied old.rows) old.present.items both.of.place was c.requires.tied.sessions stands.there in
-    let can = own_holds old both.on.thread both.on.row (CanOpenOn both.on.thread was) (holds_at old both.of.session both.of.place was (λ (p : Present). HasRow old both.on.thread (CanOpenOn both.on.thread p)) c.requires.ready.can stands) c.requires.ready.there.on.own in
-    hand_off old.rows was both.on.thread both.on.row tied can
+    let at = opening c.args.self.now both was c.requires.ready c.requires.tied c.index_mut-present.ensures.value in
+    hand_off c.args.self.now.rows was both.on.thread both.on.row at.tied at.can
 
 pub attach-requires-clause-few : goal.attach-requires-clause-few
 attach-requires-clause-few c =
-    let old = c.args.self.now in
     let both = c.args.both in
     let was = c.index_mut-present.result.now in
-    let stands = stands_at old both.of.session both.of.place was c.requires.ready.there.of c.index_mut-present.ensures.value in
-    let tied = one_of (IsTied old.rows) old.present.items both.of.place was c.requires.tied.sessions stands.there in
-    let can = own_holds old both.on.thread both.on.row (CanOpenOn both.on.thread was) (holds_at old both.of.session both.of.place was (λ (p : Present). HasRow old both.on.thread (CanOpenOn both.on.thread p)) c.requires.ready.can stands) c.requires.ready.there.on.own in
-    few_opened old.rows was both.on.thread both.on.row tied can
+    let at = opening c.args.self.now both was c.requires.ready c.requires.tied c.index_mut-present.ensures.value in
+    few_opened c.args.self.now.rows was both.on.thread both.on.row at.tied at.can
 
 pub attach-requires-clause-new : goal.attach-requires-clause-new
 attach-requires-clause-new c hand tested =
     let old = c.args.self.now in
     let both = c.args.both in
     let was = c.index_mut-present.result.now in
-    let stands = stands_at old both.of.session both.of.place was c.requires.ready.there.of c.index_mut-present.ensures.value in
-    let tied = one_of (IsTied old.rows) old.present.items both.of.place was c.requires.tied.sessions stands.there in
-    let can = own_holds old both.on.thread both.on.row (CanOpenOn both.on.thread was) (holds_at old both.of.session both.of.place was (λ (p : Present). HasRow old both.on.thread (CanOpenOn both.on.thread p)) c.requires.ready.can stands) c.requires.ready.there.on.own in
-    never_opened old.rows was both.on.thread both.on.row hand.thread tied can
+    let at = opening old both was c.requires.ready c.requires.tied c.index_mut-present.ensures.value in
+    never_opened old.rows was both.on.thread both.on.row hand.thread at.tied at.can
     (tested ∙ own_thread (told_of old.rows) both.on.thread both.on.row (get nat_cmp old.threads both.on.thread) c.requires.ready.there.on.own)

@@ -5,8 +5,8 @@ use Rattle.ep_tables.specs.Judged.{HasBoth}
 use Rattle.ep_rows.specs.Rows.{told_of}
 use Rattle.std.specs.BTreeMap.{get}
 use Rattle.std.specs.Ordering.{nat_cmp}
-use Rattle.ep_tables.proofs.Found.{present_found, session_found, row_found, no_row, none_open, on_found}
-use Rattle.ep_tables.proofs.Judging.{stop, pass, came_found}
+use Rattle.ep_tables.proofs.Found.{present_found, no_row, none_open, open_found}
+use Rattle.ep_tables.proofs.Judging.{stop, pass, came_found, pass_came}
 use Rattle.ep_tables.proofs.tables.Tables.open_on.Goals as goal
 
 pub returns-in_default : goal.returns-in_default
@@ -36,9 +36,8 @@ returns-in_default-row_of c =
     record {
       kind_is = λ events past h.
           let came = came_found past (told_of tables.rows) c.args.thread (get nat_cmp tables.threads c.args.thread) (h.places c.args.thread) in
-          pass _ _ _ _ (ap not (sym (present_found events past tables c.args.session _ h c.in-Some.ensures)))
-          (pass _ _ _ _ (ap not (sym (c.contains_key.ensures ∙ came) ∙ c.if-not-contains_key.false))
-          (stop _ _ _ (ap not (none_open past c.args.session c.args.thread (no_row events past tables c.args.thread h c.in_default-row_of.ensures.own) (sym (c.contains_key.ensures ∙ came) ∙ c.if-not-contains_key.false)))));
+          pass_came events past tables c.args.session c.args.thread c.in-Some.place c.contains_key.result _ _ h c.in-Some.ensures c.contains_key.ensures c.if-not-contains_key.false
+          (stop _ _ _ (ap not (none_open past c.args.session c.args.thread (no_row events past tables c.args.thread h c.in_default-row_of.ensures.own) (sym (c.contains_key.ensures ∙ came) ∙ c.if-not-contains_key.false))));
       found = tt;
       session = tt;
       thread = tt;
@@ -49,12 +48,8 @@ returns-then-not-is_on c =
     let tables = c.args.self.now in
     record {
       kind_is = λ events past h.
-          let came = came_found past (told_of tables.rows) c.args.thread (get nat_cmp tables.threads c.args.thread) (h.places c.args.thread) in
-          let at = session_found events past tables c.args.session c.in-Some.place c.index.result.now h c.in-Some.ensures c.index.ensures in
-          let row = row_found events past tables c.args.thread c.in-Some-row_of.row h c.in-Some-row_of.ensures.own in
-          pass _ _ _ _ (ap not (sym (present_found events past tables c.args.session _ h c.in-Some.ensures)))
-          (pass _ _ _ _ (ap not (sym (c.contains_key.ensures ∙ came) ∙ c.if-not-contains_key.false))
-          (stop _ _ _ (ap not (sym (c.is_on.ensures ∙ on_found events past tables c.args.session c.args.thread c.in-Some-row_of.row c.index.result.now at row) ∙ c.if-not-is_on.true))));
+          pass_came events past tables c.args.session c.args.thread c.in-Some.place c.contains_key.result _ _ h c.in-Some.ensures c.contains_key.ensures c.if-not-contains_key.false
+          (stop _ _ _ (ap not (sym (open_found events past tables c.args.session c.args.thread c.in-Some.place c.in-Some-row_of.row c.index.result.now c.is_on.result h c.in-Some.ensures c.index.ensures c.in-Some-row_of.ensures.own c.is_on.ensures) ∙ c.if-not-is_on.true)));
       found = tt;
       session = tt;
       thread = tt;
@@ -65,12 +60,8 @@ returns c =
     let tables = c.args.self.now in
     record {
       kind_is = λ events past h.
-          let came = came_found past (told_of tables.rows) c.args.thread (get nat_cmp tables.threads c.args.thread) (h.places c.args.thread) in
-          let at = session_found events past tables c.args.session c.in-Some.place c.index.result.now h c.in-Some.ensures c.index.ensures in
-          let row = row_found events past tables c.args.thread c.in-Some-row_of.row h c.in-Some-row_of.ensures.own in
-          pass _ _ _ _ (ap not (sym (present_found events past tables c.args.session _ h c.in-Some.ensures)))
-          (pass _ _ _ _ (ap not (sym (c.contains_key.ensures ∙ came) ∙ c.if-not-contains_key.false))
-          (pass _ _ _ _ (ap not (sym (c.is_on.ensures ∙ on_found events past tables c.args.session c.args.thread c.in-Some-row_of.row c.index.result.now at row) ∙ c.if-not-is_on.false)) refl));
+          pass_came events past tables c.args.session c.args.thread c.in-Some.place c.contains_key.result _ _ h c.in-Some.ensures c.contains_key.ensures c.if-not-contains_key.false
+          (pass _ _ _ _ (ap not (sym (open_found events past tables c.args.session c.args.thread c.in-Some.place c.in-Some-row_of.row c.index.result.now c.is_on.result h c.in-Some.ensures c.index.ensures c.in-Some-row_of.ensures.own c.is_on.ensures) ∙ c.if-not-is_on.false)) refl);
       found = subst (λ (both : OnBoth). HasBoth tables both) (sym c.both.ensures) (record { of = sym c.in-Some.ensures; on = record { own = sym c.in-Some-row_of.ensures.own; is_row = c.in-Some-row_of.ensures.row } });
       session = ap (λ (both : OnBoth). both.of.session) c.both.ensures;
       thread = ap (λ (both : OnBoth). both.on.thread) c.both.ensures;

@@ -1,10 +1,9 @@
 use Rattle.std.proofs.Common.{◌≡◌, true, false, refl, ap, sym, ◌∙◌}
 use Rattle.std.proofs.lemmas.Bool.{le-leb, lt-leb}
-use Rattle.std.specs.Prelude.{not, is_none, nat_le}
+use Rattle.std.specs.Prelude.{not, nat_le}
 use Rattle.ep_defs.specs.declared.limits.TheConstants.{SCHEDULE_WRITES}
-use Rattle.ep_defs.specs.Definitions.{definition_at}
-use Rattle.ep_tables.proofs.Found.{row_found, in_write_found}
-use Rattle.ep_tables.proofs.Judging.{stop, pass}
+use Rattle.ep_tables.proofs.Found.{writes_found}
+use Rattle.ep_tables.proofs.Judging.{stop, pass, lacks_found, pass_known}
 use Rattle.ep_tables.proofs.tables.Tables.to_begin.Goals as goal
 
 pub returns-in_default : goal.returns-in_default
@@ -13,22 +12,17 @@ returns-in_default c = record { kind_is = λ events past h. stop _ _ _ (ap not (
 pub returns-then-in_write : goal.returns-then-in_write
 returns-then-in_write c = record {
   kind_is = λ events past h.
-      let found = row_found events past c.args.self.now c.args.thread c.in-Some.row h (sym c.in-Some.ensures.own) in
-      let writes = c.in_write.ensures ∙ in_write_found past c.args.self.now c.args.thread c.in-Some.row found in
       pass _ _ _ _ (ap not (sym (c.in-Some.ensures.there events past h)))
-      (stop _ _ _ (sym writes ∙ c.if-in_write.true));
+      (stop _ _ _ (sym (writes_found events past c.args.self.now c.args.thread c.in-Some.row c.in_write.result h (sym c.in-Some.ensures.own) c.in_write.ensures) ∙ c.if-in_write.true));
   found = tt;
 }
 
 pub returns-then-lacks_event : goal.returns-then-lacks_event
 returns-then-lacks_event c = record {
   kind_is = λ events past h.
-      let found = row_found events past c.args.self.now c.args.thread c.in-Some.row h (sym c.in-Some.ensures.own) in
-      let writes = c.in_write.ensures ∙ in_write_found past c.args.self.now c.args.thread c.in-Some.row found in
-      let lacks = c.lacks_event.ensures ∙ ap (λ list. is_none (definition_at list c.args.write.event)) h.events_are in
       pass _ _ _ _ (ap not (sym (c.in-Some.ensures.there events past h)))
-      (pass _ _ _ _ (sym writes ∙ c.if-in_write.false)
-      (stop _ _ _ (sym lacks ∙ c.if-lacks_event.true)));
+      (pass _ _ _ _ (sym (writes_found events past c.args.self.now c.args.thread c.in-Some.row c.in_write.result h (sym c.in-Some.ensures.own) c.in_write.ensures) ∙ c.if-in_write.false)
+      (stop _ _ _ (sym (lacks_found events past c.args.self.now c.args.write.event c.lacks_event.result h c.lacks_event.ensures) ∙ c.if-lacks_event.true)));
   found = tt;
 }
 
@@ -37,13 +31,9 @@ returns-then-not-fits c =
     let large : not c.fits.result ≡ true = cc in
     record {
       kind_is = λ events past h.
-          let found = row_found events past c.args.self.now c.args.thread c.in-Some.row h (sym c.in-Some.ensures.own) in
-          let writes = c.in_write.ensures ∙ in_write_found past c.args.self.now c.args.thread c.in-Some.row found in
-          let lacks = c.lacks_event.ensures ∙ ap (λ list. is_none (definition_at list c.args.write.event)) h.events_are in
-          pass _ _ _ _ (ap not (sym (c.in-Some.ensures.there events past h)))
-          (pass _ _ _ _ (sym writes ∙ c.if-in_write.false)
-          (pass _ _ _ _ (sym lacks ∙ c.if-lacks_event.false)
-          (stop _ _ _ (sym (ap not c.fits.ensures) ∙ large))));
+          pass_known events past c.args.self.now c.args.thread c.in-Some.row c.args.write.event c.in_write.result c.lacks_event.result _ _ h c.in-Some.ensures.own (c.in-Some.ensures.there events past h)
+          c.in_write.ensures c.if-in_write.false c.lacks_event.ensures c.if-lacks_event.false
+          (stop _ _ _ (sym (ap not c.fits.ensures) ∙ large));
       found = tt;
     }
 
@@ -52,14 +42,10 @@ returns-then-self-ge-SCHEDULE_WRITES c =
     let small : not c.fits.result ≡ false = cc in
     record {
       kind_is = λ events past h.
-          let found = row_found events past c.args.self.now c.args.thread c.in-Some.row h (sym c.in-Some.ensures.own) in
-          let writes = c.in_write.ensures ∙ in_write_found past c.args.self.now c.args.thread c.in-Some.row found in
-          let lacks = c.lacks_event.ensures ∙ ap (λ list. is_none (definition_at list c.args.write.event)) h.events_are in
-          pass _ _ _ _ (ap not (sym (c.in-Some.ensures.there events past h)))
-          (pass _ _ _ _ (sym writes ∙ c.if-in_write.false)
-          (pass _ _ _ _ (sym lacks ∙ c.if-lacks_event.false)
+          pass_known events past c.args.self.now c.args.thread c.in-Some.row c.args.write.event c.in_write.result c.lacks_event.result _ _ h c.in-Some.ensures.own (c.in-Some.ensures.there events past h)
+          c.in_write.ensures c.if-in_write.false c.lacks_event.ensures c.if-lacks_event.false
           (pass _ _ _ _ (sym (ap not c.fits.ensures) ∙ small)
-          (stop _ _ _ (ap (nat_le SCHEDULE_WRITES) h.begins_are ∙ le-leb SCHEDULE_WRITES c.args.self.now.begins c.if-self-ge-SCHEDULE_WRITES.true)))));
+          (stop _ _ _ (ap (nat_le SCHEDULE_WRITES) h.begins_are ∙ le-leb SCHEDULE_WRITES c.args.self.now.begins c.if-self-ge-SCHEDULE_WRITES.true)));
       found = tt;
     }
 
@@ -68,13 +54,9 @@ returns c =
     let small : not c.fits.result ≡ false = cc in
     record {
       kind_is = λ events past h.
-          let found = row_found events past c.args.self.now c.args.thread c.in-Some.row h (sym c.in-Some.ensures.own) in
-          let writes = c.in_write.ensures ∙ in_write_found past c.args.self.now c.args.thread c.in-Some.row found in
-          let lacks = c.lacks_event.ensures ∙ ap (λ list. is_none (definition_at list c.args.write.event)) h.events_are in
-          pass _ _ _ _ (ap not (sym (c.in-Some.ensures.there events past h)))
-          (pass _ _ _ _ (sym writes ∙ c.if-in_write.false)
-          (pass _ _ _ _ (sym lacks ∙ c.if-lacks_event.false)
+          pass_known events past c.args.self.now c.args.thread c.in-Some.row c.args.write.event c.in_write.result c.lacks_event.result _ _ h c.in-Some.ensures.own (c.in-Some.ensures.there events past h)
+          c.in_write.ensures c.if-in_write.false c.lacks_event.ensures c.if-lacks_event.false
           (pass _ _ _ _ (sym (ap not c.fits.ensures) ∙ small)
-          (pass _ _ _ _ (ap (nat_le SCHEDULE_WRITES) h.begins_are ∙ lt-leb SCHEDULE_WRITES c.args.self.now.begins c.if-self-ge-SCHEDULE_WRITES.false) refl))));
+          (pass _ _ _ _ (ap (nat_le SCHEDULE_WRITES) h.begins_are ∙ lt-leb SCHEDULE_WRITES c.args.self.now.begins c.if-self-ge-SCHEDULE_WRITES.false) refl));
       found = record { step_is = refl; there = record { own = c.in-Some.ensures.own; is_row = c.in-Some.ensures.row } };
     }
