@@ -14,8 +14,8 @@ use pt_io::{Failed, Link, Sink};
 pub(crate) fn copy<L: Link, O: Sink>(link: &mut L, output: &mut O) -> Result<(), CallFault>
     ensures gave { (more : List ℕ) × Gave L.tells_given L.given L.left link.old link.new more
         × TookPart O.tells_taken O.taken output.old output.new more
-        × OnOk result (TookAll O.tells_taken O.taken output.old output.new more
-        × (IsTrue (L.tells_given link.old) → L.left link.new ≡ [])) }
+        × OnOk result (TookAll O.tells_taken O.taken output.old output.new more) }
+    ensures read { OnOk result (IsTrue (L.tells_given link.old) → L.left link.new ≡ []) }
     ensures told { L.tells_given link.new ≡ L.tells_given link.old }
     ensures whole { LosesNothing L.tells_given L.given L.left link.old link.new }
     ensures link_fault { result ≡ Err LinkFault → HasRisen (L.read_faults link.old) (L.read_faults link.new) }

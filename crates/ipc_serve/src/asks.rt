@@ -1,14 +1,13 @@
 //! What a connection asks for.
 ghost use Rattle.std.specs.Prelude.{◌≡◌, ◌≢◌, ℕ, List, Ok, Err, IsTrue, MatchResult, IfOk};
-ghost use Rattle.ep_defs.specs.declared.session.Config.{Config};
 ghost use Rattle.ep_defs.specs.declared.session.Facts.{Facts};
-ghost use Rattle.ep_table.specs.Sessions.{Sessions, accepted_by, after_accept, stop_answer, after_stop};
+ghost use Rattle.ep_table.specs.Sessions.{Sessions};
 ghost use Rattle.ipc_body.specs.Request.{is_valid_request};
-ghost use Rattle.ipc_body.specs.declared.request.Request.TheVariants as request;
+ghost use Rattle.ipc_body.specs.declared.request.Request.{Request as RequestValue};
 ghost use Rattle.ipc_frame.specs.Message.{found};
 ghost use Rattle.ipc_serve.specs.declared.codes.TheConstants.{OUT_OF_MEMORY};
 ghost use Rattle.ipc_serve.specs.Decision as wanted;
-ghost use Rattle.ipc_serve.specs.Decision.{Decision, asked_by, asks_collect, decision, started, ended, described};
+ghost use Rattle.ipc_serve.specs.Decision.{Decision, asked_by, asks_collect, decision};
 
 use crate::codes::{BAD_ENCODING, OUT_OF_MEMORY, UNKNOWN_COMMAND, UNKNOWN_MAGIC};
 use ipc_body::{Request, RequestFault, read_request};
@@ -55,15 +54,9 @@ fn fault_code(fault: RequestFault) -> u32
 /// the table decides. What is refused or described leaves the table alone.
 #[tactic(auto, unfolding(crate::specs::Decision::decision))]
 pub fn a_decision_is_made_in_two_steps()
-    ensures collect { (facts : Facts) (table : Sessions) (conn : ℕ) (bytes : List ℕ) (config : Config)
-        → asked_by bytes ≡ Ok (request.Collect config) → decision facts table conn bytes
-        ≡ record { action = started config (accepted_by table); table = after_accept table } }
-    ensures stop { (facts : Facts) (table : Sessions) (conn : ℕ) (bytes : List ℕ) (id : ℕ)
-        → asked_by bytes ≡ Ok (request.Stop id) → decision facts table conn bytes
-        ≡ record { action = ended (stop_answer table id conn); table = after_stop table id } }
-    ensures info { (facts : Facts) (table : Sessions) (conn : ℕ) (bytes : List ℕ)
-        → asked_by bytes ≡ Ok request.Info
-        → decision facts table conn bytes ≡ record { action = described facts; table = table } }
+    ensures answered { (facts : Facts) (table : Sessions) (conn : ℕ) (bytes : List ℕ) (request : RequestValue)
+        → asked_by bytes ≡ Ok request
+        → decision facts table conn bytes ≡ wanted.answer facts table conn request }
     ensures refused { (facts : Facts) (table : Sessions) (conn : ℕ) (bytes : List ℕ) (code : ℕ)
         → asked_by bytes ≡ Err code
         → decision facts table conn bytes ≡ record { action = wanted.refused code; table = table } }

@@ -31,8 +31,7 @@ use Rattle.pt_cli.specs.Words.{meant, reads_input, calls_peer, awaits_peers, has
 
 -- Where the words mean this command for something that is asked, the program ended so for that.
 abbrev pub EndsFor : {A L : Type 0} → List (List ℕ) → (A → Command) → Finished L → (A → End → Type 0) → Type 0
-EndsFor words command finished Holds =
-    (asked : _) → meant words ≡ Some (command asked) → EndsSo finished.status finished.code finished.at (Holds asked)
+EndsFor words command finished Holds = (asked : _) → meant words ≡ Some (command asked) → EndsSo finished (Holds asked)
 
 -- What a command comes to that waits for nobody. All others are refused there, as words are that ask for nothing.
 abbrev pub PlainComesTo : {I O : Type 0} → Source I → Sink O → Option Command → I → I → O → O → End → Type 0
@@ -63,6 +62,25 @@ pub record Around (I O D K L : Type 0) : Type 0 where
   pub seat : Option SeatState
   pub marks : List Marks
   pub live : Option (LiveEnd L)
+
+-- The same of these objects and of what the program answered.
+abbrev pub around_of : {I O D K L : Type 0} → I → I → O → O → D → D → K → K → Finished L → Around I O D K L
+around_of input_old input_new output_old output_new dock_old dock_new caller_old caller_new finished =
+    record {
+      input_old = input_old;
+      input_new = input_new;
+      output_old = output_old;
+      output_new = output_new;
+      dock_old = dock_old;
+      dock_new = dock_new;
+      caller_old = caller_old;
+      caller_new = caller_new;
+      peer = finished.peer;
+      rows = finished.rows.items;
+      seat = finished.seat;
+      marks = finished.marks;
+      live = finished.live;
+    }
 
 -- What any command comes to, where the program says this of itself.
 abbrev pub ComesTo : {I O D K L : Type 0} → Source I → Sink O → Dock D L → Caller K L → Source L → Sink L → (L → ReadSide) → (L → WriteSide) → Facts → Option Command

@@ -14,7 +14,7 @@ ghost use Rattle.pt_watch.specs.Command.{Watches};
 ghost use Rattle.pt_cli.specs.declared.words.Command.TheVariants as commands;
 ghost use Rattle.pt_cli.specs.Ends.{EndsSo};
 ghost use Rattle.pt_cli.specs.Errors.{words_error};
-ghost use Rattle.pt_cli.specs.Program.{AloneComesTo, ComesTo, EndsFor, HasFaults, LeavesAlone, PlainComesTo};
+ghost use Rattle.pt_cli.specs.Program.{AloneComesTo, ComesTo, EndsFor, HasFaults, LeavesAlone, PlainComesTo, around_of};
 ghost use Rattle.pt_cli.specs.Traced.{TracesTo};
 ghost use Rattle.pt_cli.specs.Words.{meant, reads_input, runs_threads, Fits};
 ghost use Rattle.ep_defs.specs.Session.{is_valid_facts};
@@ -30,7 +30,7 @@ use ipc_reverse::Advertise;
 use pt_client::{Called, client, greet};
 use pt_command::End;
 use pt_io::{Caller, Clock, Dock, Gate, Sink, Source};
-use pt_run::{Ran, run};
+use pt_run::{Ran, System, run};
 use std::alloc::{AllocError, Global};
 use std::sync::Wait;
 use std::thread::Threads;
@@ -93,8 +93,7 @@ pub fn tracepipe<
     ensures replayed { EndsFor (map string_bytes words.now) commands.Replay result
         (λ session. Replays I.Source O.Sink session input.old input.new output.old output.new) }
     ensures reported { meant (map string_bytes words.now) ≡ Some commands.Report
-        → EndsSo result.status result.code result.at
-        (Reports I.Source O.Sink input.old input.new output.old output.new) }
+        → EndsSo result (Reports I.Source O.Sink input.old input.new output.old output.new) }
     ensures listed { EndsFor (map string_bytes words.now) commands.Events result
         (λ form. Lists I.Source O.Sink form input.old input.new output.old output.new) }
     ensures generated { EndsFor (map string_bytes words.now) commands.Gen result
@@ -111,16 +110,21 @@ pub fn tracepipe<
     ensures greeted { EndsFor (map string_bytes words.now) commands.Greet result (λ target. Greets
         O.Sink D.Dock L.Source L.Sink output.old output.new dock.old dock.new result.peer) }
     ensures words { meant (map string_bytes words.now) ≡ None
-        → EndsSo result.status result.code result.at (SaysLine O.Sink output.old output.new words_error ends.Words) }
-    ensures faults { EndsSo result.status result.code result.at
-        (HasFaults I.Source O.Sink (meant (map string_bytes words.now)) input.old input.new output.old output.new) }
+        → EndsSo result (SaysLine O.Sink output.old output.new words_error ends.Words) }
+    ensures faults { EndsSo result (HasFaults I.Source O.Sink (meant (map string_bytes words.now))
+        input.old input.new output.old output.new) }
     ensures alone { LeavesAlone (meant (map string_bytes words.now)) input.old input.new dock.old dock.new
         caller.old caller.new result.peer result.live result.rows.items result.seat result.marks }
 {
+    let system = System {
+        rt,
+        alloc,
+        facts,
+        clock,
+        gate,
+    };
     match command_of(alloc, words) {
-        Ok(command) => carry_out(
-            rt, alloc, command, facts, input, output, dock, caller, clock, gate,
-        ),
+        Ok(command) => carry_out(&system, command, input, output, dock, caller),
         Err(AllocError) => ended_with(alloc, End::OutOfMemory, None),
     }
 }
@@ -136,61 +140,37 @@ fn carry_out<
     C: Clock,
     G: Gate,
 >(
-    rt: &R,
-    alloc: Global,
+    system: &System<'_, R, C, G>,
     command: Option<Command<'_>>,
-    facts: &Facts,
     input: &mut I,
     output: &mut O,
     dock: &mut D,
     caller: &mut K,
-    clock: &C,
-    gate: &G,
 ) -> Finished<L>
-    requires fits { IfSome command Fits }
-    requires facts { IsTrue (is_valid_facts facts.now) }
-    ensures comes { EndsSo result.status result.code result.at
-        (ComesTo I.Source O.Sink D.Dock K.Caller L.Source L.Sink L.read_side L.write_side facts.now command.entry (record {
-          input_old = input.old;
-          input_new = input.new;
-          output_old = output.old;
-          output_new = output.new;
-          dock_old = dock.old;
-          dock_new = dock.new;
-          caller_old = caller.old;
-          caller_new = caller.new;
-          peer = result.peer;
-          rows = result.rows.items;
-          seat = result.seat;
-          marks = result.marks;
-          live = result.live;
-        })) }
+    requires { IfSome command Fits }
+    ensures comes { EndsSo result (ComesTo I.Source O.Sink D.Dock K.Caller L.Source L.Sink
+        L.read_side L.write_side system.now.facts.now command.entry
+        (around_of input.old input.new output.old output.new dock.old dock.new caller.old caller.new result)) }
     ensures alone { LeavesAlone command.entry input.old input.new dock.old dock.new caller.old caller.new
         result.peer result.live result.rows.items result.seat result.marks }
 {
     match command {
-        Some(Command::Run(asked)) => ran(
-            rt, alloc, &asked, facts, output, dock, caller, clock, gate,
-        ),
-        Some(Command::Client(command)) => asked(alloc, &command, output, caller),
-        Some(Command::Greet(_)) => greeted(rt, alloc, output, dock),
-        command => alone(rt, alloc, command, input, output, clock, gate),
+        Some(Command::Run(asked)) => ran(system, &asked, output, dock, caller),
+        Some(Command::Client(command)) => asked(system.alloc, &command, output, caller),
+        Some(Command::Greet(_)) => greeted(system, output, dock),
+        command => alone(system, command, input, output),
     }
 }
 
 // Does what has no peers.
 fn alone<L, R: Threads + Wait + time::Clock + Sync, I: Source, O: Sink, C: Clock, G: Gate>(
-    rt: &R,
-    alloc: Global,
+    system: &System<'_, R, C, G>,
     command: Option<Command<'_>>,
     input: &mut I,
     output: &mut O,
-    clock: &C,
-    gate: &G,
 ) -> Finished<L>
     requires { IfSome command Fits }
-    ensures comes { EndsSo result.status result.code result.at
-        (AloneComesTo I.Source O.Sink command.entry input.old input.new output.old output.new
+    ensures comes { EndsSo result (AloneComesTo I.Source O.Sink command.entry input.old input.new output.old output.new
         result.rows.items result.seat result.marks) }
     ensures unread { reads_input command.entry ≡ false → input.new ≡ input.old }
     ensures nobody { result.peer ≡ None }
@@ -199,9 +179,9 @@ fn alone<L, R: Threads + Wait + time::Clock + Sync, I: Source, O: Sink, C: Clock
         → (result.rows.items ≡ []) × (result.seat ≡ None) × (result.marks ≡ []) }
 {
     match command {
-        Some(Command::Trace(asked)) => traced(rt, alloc, asked, output, clock, gate),
-        Some(Command::Watch(asked)) => watched(rt, alloc, asked, output, clock, gate),
-        command => told(alloc, &command, input, output),
+        Some(Command::Trace(asked)) => traced(system, asked, output),
+        Some(Command::Watch(asked)) => watched(system, asked, output),
+        command => told(system.alloc, &command, input, output),
     }
 }
 
@@ -215,26 +195,21 @@ fn ran<
     C: Clock,
     G: Gate,
 >(
-    rt: &R,
-    alloc: Global,
+    system: &System<'_, R, C, G>,
     asked: &pt_run::Asked<'_>,
-    facts: &Facts,
     output: &mut O,
     dock: &mut D,
     caller: &mut K,
-    clock: &C,
-    gate: &G,
 ) -> Finished<L>
-    requires fits { RunFits asked.now }
-    requires facts { IsTrue (is_valid_facts facts.now) }
-    ensures runs { EndsSo result.status result.code result.at
-        (RunsAs O.Sink D.Dock K.Caller L.Sink L.read_side L.write_side asked.now facts.now
+    requires { RunFits asked.now }
+    ensures runs { EndsSo result (RunsAs O.Sink D.Dock K.Caller L.Sink L.read_side L.write_side asked.now system.now.facts.now
         output.old output.new dock.old dock.new caller.old caller.new result.peer result.live) }
     ensures unasked { not (is_some asked.now.reverse) ≡ false → dock.new ≡ dock.old }
     ensures uncalled { is_some asked.now.reverse ≡ false → (caller.new ≡ caller.old) × (result.peer ≡ None) }
     ensures untraced { (result.rows.items ≡ []) × (result.seat ≡ None) × (result.marks ≡ []) }
 {
-    let Ran { end, live, peer } = run(rt, alloc, asked, facts, output, dock, caller, clock, gate);
+    let alloc = system.alloc;
+    let Ran { end, live, peer } = run(system, asked, output, dock, caller);
     Finished {
         status: end.status(),
         code: end.code(),
@@ -255,8 +230,8 @@ fn asked<K: Caller, O: Sink>(
     caller: &mut K,
 ) -> Finished<K::Link>
     requires { ClientFits command.now }
-    ensures asks { EndsSo result.status result.code result.at
-        (Asks O.Sink K.Caller K.Link.Source K.Link.Sink command.now output.old output.new caller.old caller.new result.peer) }
+    ensures asks { EndsSo result (Asks O.Sink K.Caller K.Link.Source K.Link.Sink command.now
+        output.old output.new caller.old caller.new result.peer) }
     ensures idle { (result.rows.items ≡ []) × (result.seat ≡ None) × (result.marks ≡ []) × (result.live ≡ None) }
 {
     let Called { end, peer } = client(alloc, command, output, caller);
@@ -264,18 +239,17 @@ fn asked<K: Caller, O: Sink>(
 }
 
 // Waits for a program that calls, and asks it.
-fn greeted<R: Wait, O: Sink, D: Dock>(
-    rt: &R,
-    alloc: Global,
+fn greeted<R: Wait, O: Sink, D: Dock, C, G>(
+    system: &System<'_, R, C, G>,
     output: &mut O,
     dock: &mut D,
 ) -> Finished<D::Link>
-    ensures greets { EndsSo result.status result.code result.at
-        (Greets O.Sink D.Dock D.Link.Source D.Link.Sink output.old output.new dock.old dock.new result.peer) }
+    ensures greets { EndsSo result (Greets O.Sink D.Dock D.Link.Source D.Link.Sink
+        output.old output.new dock.old dock.new result.peer) }
     ensures idle { (result.rows.items ≡ []) × (result.seat ≡ None) × (result.marks ≡ []) × (result.live ≡ None) }
 {
-    let Called { end, peer } = greet(rt, alloc, output, dock);
-    ended_with(alloc, end, peer)
+    let Called { end, peer } = greet(system.rt, system.alloc, output, dock);
+    ended_with(system.alloc, end, peer)
 }
 
 // Does what waits for nobody.
@@ -286,8 +260,7 @@ fn told<L, I: Source, O: Sink>(
     output: &mut O,
 ) -> Finished<L>
     requires { IfSome command.now Fits }
-    ensures comes { EndsSo result.status result.code result.at
-        (PlainComesTo I.Source O.Sink command.now input.old input.new output.old output.new) }
+    ensures comes { EndsSo result (PlainComesTo I.Source O.Sink command.now input.old input.new output.old output.new) }
     ensures unread { reads_input command.now ≡ false → input.new ≡ input.old }
     ensures nobody { result.peer ≡ None }
     ensures idle { (result.rows.items ≡ []) × (result.seat ≡ None) × (result.marks ≡ []) × (result.live ≡ None) }

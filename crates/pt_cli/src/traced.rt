@@ -12,38 +12,35 @@ use pt_asked::Asked;
 use pt_command::End;
 use pt_io::{Clock, Gate, Sink};
 use pt_live::{TraceEnd, run_trace};
-use std::alloc::{AllocError, Global};
+use pt_run::System;
+use std::alloc::AllocError;
 use std::sync::Wait;
 use std::thread::Threads;
 use std::time;
 
 /// Runs the sample program, its threads beside one another, with one session over it from its first write to its last. The
-/// output takes the session's stream as it comes; stamps are what `clock` says at each write. It may wait for the threads
+/// output takes the session's stream as it comes; stamps are what the clock says at each write. It may wait for the threads
 /// and for their locks.
 pub(crate) fn traced<L, R: Threads + Wait + time::Clock + Sync, O: Sink, C: Clock, G: Gate>(
-    rt: &R,
-    alloc: Global,
+    system: &System<'_, R, C, G>,
     asked: Asked,
     output: &mut O,
-    clock: &C,
-    gate: &G,
 ) -> Finished<L>
     requires { Fits asked }
-    ensures traced { EndsSo result.status result.code result.at
-        (TracesTo O.Sink asked output.old output.new result.rows.items result.seat result.marks) }
+    ensures traced { EndsSo result (TracesTo O.Sink asked output.old output.new result.rows.items result.seat result.marks) }
     ensures nobody { result.peer ≡ None }
     ensures unserved { result.live ≡ None }
 {
     let Asked { plan, config } = asked;
     match run_trace(
-        rt,
-        alloc,
+        system.rt,
+        system.alloc,
         &plan,
         config,
         &standard_info(1, 1),
         output,
-        clock,
-        gate,
+        system.clock,
+        system.gate,
     ) {
         Ok(
             TraceEnd {
@@ -65,7 +62,7 @@ pub(crate) fn traced<L, R: Threads + Wait + time::Clock + Sync, O: Sink, C: Cloc
                 live: None,
             }
         }
-        Err(AllocError) => ended_with(alloc, End::OutOfMemory, None),
+        Err(AllocError) => ended_with(system.alloc, End::OutOfMemory, None),
     }
 }
 

@@ -7,8 +7,8 @@ ghost use Rattle.pt_watch.specs.Command.{Watches};
 use crate::ends::Finished;
 use pt_asked::Asked;
 use pt_io::{Clock, Gate, Sink};
+use pt_run::System;
 use pt_watch::{Watched, watch};
-use std::alloc::Global;
 use std::sync::Wait;
 use std::thread::Threads;
 use std::time;
@@ -16,16 +16,12 @@ use std::time;
 /// Runs the sample program, its threads beside one another, and counts what one session over it gets, as `pt_watch::watch`
 /// does.
 pub(crate) fn watched<L, R: Threads + Wait + time::Clock + Sync, O: Sink, C: Clock, G: Gate>(
-    rt: &R,
-    alloc: Global,
+    system: &System<'_, R, C, G>,
     asked: Asked,
     output: &mut O,
-    clock: &C,
-    gate: &G,
 ) -> Finished<L>
     requires { Fits asked }
-    ensures watched { EndsSo result.status result.code result.at
-        (Watches O.Sink asked output.old output.new result.rows.items result.seat result.marks) }
+    ensures watched { EndsSo result (Watches O.Sink asked output.old output.new result.rows.items result.seat result.marks) }
     ensures nobody { result.peer ≡ None }
     ensures unserved { result.live ≡ None }
 {
@@ -34,7 +30,14 @@ pub(crate) fn watched<L, R: Threads + Wait + time::Clock + Sync, O: Sink, C: Clo
         rows,
         marks,
         seat,
-    } = watch(rt, alloc, asked, output, clock, gate);
+    } = watch(
+        system.rt,
+        system.alloc,
+        asked,
+        output,
+        system.clock,
+        system.gate,
+    );
     Finished {
         status: end.status(),
         code: end.code(),

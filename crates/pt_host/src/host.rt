@@ -41,6 +41,15 @@ pub(crate) type LiveDesk<'r, 't, 'a, W, R, L> = Desk<
     L,
 >;
 
+/// What the server has around it in a run, which never changes: the run's scene, what its threads share, and where the grants of
+/// its sessions stand.
+#[derive(Drop)]
+pub(crate) struct Around<'r, 't, 'a, W: World, R, L: Link, C, G> {
+    pub(crate) scene: Scene<'r, W, R, C, G>,
+    pub(crate) shared: &'t Shared<'a, W, L>,
+    pub(crate) shelf: &'a Shelf<Grant>,
+}
+
 /// Takes connections before the writers begin, until so many sessions were opened on all rows.
 pub(crate) fn serve_early<
     'r,
@@ -53,9 +62,7 @@ pub(crate) fn serve_early<
     C: Clock,
     G: Gate,
 >(
-    scene: &Scene<'_, W, R, C, G>,
-    shared: &Shared<'a, W, L>,
-    shelf: &'a Shelf<Grant>,
+    around: &Around<'r, 't, 'a, W, R, L, C, G>,
     desk: &mut LiveDesk<'r, 't, 'a, W, R, L>,
     stands: &mut Stands<'a, W>,
     held: &mut HeldDock<'_, D>,
@@ -70,11 +77,11 @@ pub(crate) fn serve_early<
     ensures stands { stands.new ≡ Some 0 }
     ensures same { held.new.dock.ghost_name ≡ held.old.dock.ghost_name }
 {
-    for _ in scene.rt.forever() {
+    for _ in around.scene.rt.forever() {
         if desk.decider().early() >= wait {
             return Exit::Enough;
         }
-        if let Some(exit) = turn(scene, shared, shelf, desk, stands, held, true) {
+        if let Some(exit) = turn(around, desk, stands, held, true) {
             return exit;
         }
     }
@@ -93,9 +100,7 @@ pub(crate) fn serve_late<
     C: Clock,
     G: Gate,
 >(
-    scene: &Scene<'_, W, R, C, G>,
-    shared: &Shared<'a, W, L>,
-    shelf: &'a Shelf<Grant>,
+    around: &Around<'r, 't, 'a, W, R, L, C, G>,
     desk: &mut LiveDesk<'r, 't, 'a, W, R, L>,
     stands: &mut Stands<'a, W>,
     held: &mut HeldDock<'_, D>,
@@ -107,11 +112,11 @@ pub(crate) fn serve_late<
         desk.old.decider desk.new.decider }
     ensures same { held.new.dock.ghost_name ≡ held.old.dock.ghost_name }
 {
-    for _ in scene.rt.forever() {
-        if shared.hints.have_ended() {
+    for _ in around.scene.rt.forever() {
+        if around.shared.hints.have_ended() {
             return Exit::Enough;
         }
-        if let Some(exit) = turn(scene, shared, shelf, desk, stands, held, false) {
+        if let Some(exit) = turn(around, desk, stands, held, false) {
             return exit;
         }
     }
@@ -130,9 +135,7 @@ fn turn<
     C: Clock,
     G: Gate,
 >(
-    scene: &Scene<'_, W, R, C, G>,
-    shared: &Shared<'a, W, L>,
-    shelf: &'a Shelf<Grant>,
+    around: &Around<'r, 't, 'a, W, R, L, C, G>,
     desk: &mut LiveDesk<'r, 't, 'a, W, R, L>,
     stands: &mut Stands<'a, W>,
     held: &mut HeldDock<'_, D>,
@@ -152,7 +155,7 @@ fn turn<
     }
     match held.next() {
         Ok(Arrival::Link(link)) => {
-            take(scene, shared, shelf, desk, stands, link, early);
+            take(around, desk, stands, link, early);
             None
         }
         Ok(Arrival::Quiet) => None,
@@ -163,9 +166,7 @@ fn turn<
 
 // Takes the next connection.
 fn take<'r, 't, 'a, W: World, R: Wait + Timer, L: Link + Drop, C: Clock, G: Gate>(
-    scene: &Scene<'_, W, R, C, G>,
-    shared: &Shared<'a, W, L>,
-    shelf: &'a Shelf<Grant>,
+    around: &Around<'r, 't, 'a, W, R, L, C, G>,
     desk: &mut LiveDesk<'r, 't, 'a, W, R, L>,
     stands: &mut Stands<'a, W>,
     link: L,
@@ -180,16 +181,15 @@ fn take<'r, 't, 'a, W: World, R: Wait + Timer, L: Link + Drop, C: Clock, G: Gate
     ensures goes { GoesOn early desk.old.decider desk.new.decider }
     ensures stands { stands.new ≡ stands.old }
 {
+    let scene = &around.scene;
     if let Some(asked) = desk.answer(scene.alloc, scene.facts, scene.gate, link) {
-        begin(scene, shared, shelf, desk, stands, asked, early);
+        begin(around, desk, stands, asked, early);
     }
 }
 
 // Starts the session that was accepted last, and opens it on all rows.
 fn begin<'r, 't, 'a, W: World, R: Wait + Timer, L: Link + Drop, C: Clock, G: Gate>(
-    scene: &Scene<'_, W, R, C, G>,
-    shared: &Shared<'a, W, L>,
-    shelf: &'a Shelf<Grant>,
+    around: &Around<'r, 't, 'a, W, R, L, C, G>,
     desk: &mut LiveDesk<'r, 't, 'a, W, R, L>,
     stands: &mut Stands<'a, W>,
     asked: Asked<Holder<Holds<W>>, Free<'a, W>, L>,
@@ -213,9 +213,11 @@ fn begin<'r, 't, 'a, W: World, R: Wait + Timer, L: Link + Drop, C: Clock, G: Gat
         config,
         link,
     } = asked;
+    let scene = &around.scene;
     let rows = scene.plan.threads;
-    let events = shared.live.events();
-    let Some((grant, seat)) = granted(scene.rt, scene.alloc, shelf, config, rows, events) else {
+    let events = around.shared.live.events();
+    let Some((grant, seat)) = granted(scene.rt, scene.alloc, around.shelf, config, rows, events)
+    else {
         desk.fail(scene.gate, begun, link, Unstarted::Silent);
         return;
     };
@@ -237,7 +239,7 @@ fn begin<'r, 't, 'a, W: World, R: Wait + Timer, L: Link + Drop, C: Clock, G: Gat
     let started = Stream::start(
         scene.alloc,
         scene.rt,
-        &shared.live,
+        &around.shared.live,
         accepted,
         &reply,
         &scene.facts.info,
@@ -245,7 +247,7 @@ fn begin<'r, 't, 'a, W: World, R: Wait + Timer, L: Link + Drop, C: Clock, G: Gat
     match started {
         Ok(stream) => {
             scene.gate.pass(Moment::Answered { conn });
-            open(scene, shared, desk, stands, holder, stream, early);
+            open(around, desk, stands, holder, stream, early);
         }
         Err(NotStarted { free, sink, fault }) => {
             let (link, why) = sink.unstarted(fault);
@@ -262,8 +264,7 @@ fn begin<'r, 't, 'a, W: World, R: Wait + Timer, L: Link + Drop, C: Clock, G: Gat
 
 // Opens a session that was just started on all rows, and hands it over to its role.
 fn open<'r, 't, 'a, W: World, R: Wait + Timer, L: Link + Drop, C: Clock, G: Gate>(
-    scene: &Scene<'_, W, R, C, G>,
-    shared: &Shared<'a, W, L>,
+    around: &Around<'r, 't, 'a, W, R, L, C, G>,
     desk: &mut LiveDesk<'r, 't, 'a, W, R, L>,
     stands: &mut Stands<'a, W>,
     holder: Holder<Holds<W>>,
@@ -278,20 +279,21 @@ fn open<'r, 't, 'a, W: World, R: Wait + Timer, L: Link + Drop, C: Clock, G: Gate
     ensures goes { GoesOn early desk.old.decider desk.new.decider }
     ensures stands { stands.new ≡ stands.old }
 {
-    let (stream, all) = open_lent(scene, shared, stands, stream, early);
+    let (stream, all) = open_lent(around, stands, stream, early);
     let mut holder = holder;
     if all {
         desk.open(&mut holder, early);
         let session = stream.id();
-        scene.gate.pass(Moment::Opened { session });
+        around.scene.gate.pass(Moment::Opened { session });
     }
-    shared.hand_over(scene.rt, Handed::new(holder, stream));
+    around
+        .shared
+        .hand_over(around.scene.rt, Handed::new(holder, stream));
 }
 
 // Opens it on all rows. Before the writers begin it is lent their halves. Answers whether it is open on all rows.
 fn open_lent<'a, W: World, R: Wait + Timer, L: Link + Drop, C, G>(
-    scene: &Scene<'_, W, R, C, G>,
-    shared: &Shared<'a, W, L>,
+    around: &Around<'_, '_, 'a, W, R, L, C, G>,
     stands: &mut Stands<'a, W>,
     stream: Telling<'a, W, L>,
     early: bool,
@@ -304,6 +306,8 @@ fn open_lent<'a, W: World, R: Wait + Timer, L: Link + Drop, C, G>(
     ensures early { early ≡ true → result.0.early ≡ true }
     ensures stands { stands.new ≡ stands.old }
 {
+    let scene = &around.scene;
+    let shared = around.shared;
     if !early {
         return open_all(scene, shared, stream, false);
     }

@@ -1,13 +1,11 @@
 //! A run with its server, from its first turn to its end.
-ghost use Rattle.std.specs.Prelude.{◌≡◌, ◌+◌, ◌*◌, ◌<◌, ◌≤◌, ℕ, [], length, None, Some, true, false, vec_capacity, vec_len, IfOk, IfErr, IfNone, IfSome, OnErr, IsTrue};
+ghost use Rattle.std.specs.Prelude.{◌≡◌, ◌<◌, ◌≤◌, ℕ, [], length, None, Some, true, false, vec_capacity, vec_len, IfOk, IfErr, IfNone, IfSome, OnErr, IsTrue};
 ghost use Rattle.ep_journal.specs.declared.limits.TheConstants.{CONNECTIONS};
-ghost use Rattle.ep_table.specs.declared.limits.TheConstants.{SLOTS};
-ghost use Rattle.ep_registry.specs.declared.server.Mark.TheVariants as mark;
-ghost use Rattle.ep_registry.specs.Places.{numbered};
 ghost use Rattle.ep_live.specs.Made.{AreStands};
 ghost use Rattle.pt_host.specs.declared.exit.Exit.TheVariants as exit;
 ghost use Rattle.pt_host.specs.Ending.{AreLeftOver, IsAllOver, has_failed};
 ghost use Rattle.pt_host.specs.Server.{GoesOnFrom, HasServed, HasTurned, no_server};
+ghost use Rattle.pt_host.specs.Ties.{AreBlanksOf};
 ghost use Rattle.ep_defs.specs.declared.limits.TheConstants.{THREADS as MOST_THREADS, WRITES};
 ghost use Rattle.ep_defs.specs.Session.{is_valid_facts};
 ghost use Rattle.ep_journal.specs.declared.session.Entry.{Entry as EntryValue};
@@ -20,22 +18,22 @@ ghost use Rattle.pt_roles.specs.World.{AreOptions, IsWorldOf, rows_of, world_of}
 
 use crate::exit::Exit;
 use crate::held_dock::HeldDock;
-use crate::host::{LiveDesk, close, serve_early, serve_late};
+use crate::host::{Around, LiveDesk, close, serve_early, serve_late};
 use crate::locked::Locked;
-use crate::prepared::{Blanks, Prepared};
+use crate::prepared::{Blanks, Halves, Prepared};
 use ep_defs::Facts;
 use ep_guarded::{Agreed, Grant};
 use ep_journal::limits::CONNECTIONS;
 use ep_journal::{Entry, Log};
 use ep_live::Stands;
-use ep_registry::{Mark, Server};
+use ep_registry::Server;
 use ep_shelf::Shelf;
 use ep_tie::Right;
 use pt_io::{Clock, Dock, Gate, Link};
 use pt_load::Plan;
 use pt_load::laws::sample_events_are_valid;
 use pt_roles::{
-    AllLeft, AtEnd, Books, Left, LiveEnd, LiveOptions, LiveSession, RoleMarks, Scene, Shared,
+    AllLeft, AtEnd, Books, Left, LiveEnd, LiveOptions, LiveSession, RoleMarks, Scene,
     Streaming, Table, World, WritersKit, Writing, drafts_of, streamers_of,
 };
 use pt_server::{ConnEnd, Desk};
@@ -108,6 +106,7 @@ struct Parts<'r, R, C, G> {
 // The run, which has its name.
 fn run_named<
     'd,
+    'r,
     'a,
     W: World + Send + Sync,
     R: Threads + Wait + Timer + Sync,
@@ -116,7 +115,7 @@ fn run_named<
     C: Clock,
     G: Gate,
 >(
-    parts: Parts<'_, R, C, G>,
+    parts: Parts<'r, R, C, G>,
     shelf: &'a Shelf<Grant>,
     blanks: Blanks<'a>,
     held: HeldDock<'d, D>,
@@ -125,21 +124,18 @@ fn run_named<
     requires world { IsWorldOf W.world W.rows W.events W.writes W.setting W.facts W.greeting }
     requires plan { (parts.plan.now ≡ W.world.plan) × (parts.options ≡ W.world.options) }
     requires facts { (parts.facts.now ≡ W.world.facts) × IsTrue (is_valid_facts parts.facts.now) }
-    requires rows { (blanks.rows.ties ≡ W.ties) × (blanks.rows.places ≡ W.rows + 128 * W.rows) }
-    requires table { (blanks.books.ties ≡ W.books) × (blanks.holds.ties ≡ W.holds)
-        × (blanks.marks.ties ≡ W.marks) }
-    requires places { (blanks.books.places ≡ 1) × (blanks.holds.places ≡ CONNECTIONS)
-        × (blanks.marks.places ≡ SLOTS + 1) }
-    requires events { blanks.events.items ≡ W.events }
-    requires greeting { D.greeting held.dock.now ≡ W.world.greeting }
+    requires blanks { AreBlanksOf W.rows W.events W.ties W.books W.holds W.marks blanks }
+    requires greeting { D.greeting held.dock.now ≡ W.greeting }
     ensures same { result.dock.ghost_name ≡ held.entry.dock.ghost_name }
     ensures ran { IfOk answer.new (IsRan D.Dock L.Sink L.read_side L.write_side W.world
         held.entry.dock.now result.dock.now) }
     ensures memory { IfErr answer.new (λ _. result.dock.now ≡ held.entry.dock.now) }
 {
-    match Prepared::<W, L>::new(parts.alloc, parts.plan, parts.options.streamers, blanks) {
+    let scene: Scene<'r, W, R, C, G> = scene(&parts);
+    let options = parts.options;
+    match Prepared::<W, L>::new(&scene, options.streamers, blanks) {
         Ok(prepared) => {
-            let (held, end) = run_prepared(&parts, shelf, prepared, held);
+            let (held, end) = run_prepared(scene, options, shelf, prepared, held);
             *answer = end;
             held
         }
@@ -162,15 +158,14 @@ fn run_prepared<
     C: Clock,
     G: Gate,
 >(
-    parts: &Parts<'r, R, C, G>,
+    scene: Scene<'r, W, R, C, G>,
+    options: LiveOptions,
     shelf: &'a Shelf<Grant>,
     prepared: Prepared<'a, W, L>,
     held: HeldDock<'d, D>,
 ) -> (HeldDock<'d, D>, Result<LiveEnd<L>, AllocError>)
-    requires world { IsWorldOf W.world W.rows W.events W.writes W.setting W.facts W.greeting }
-    requires plan { (parts.now.plan.now ≡ W.world.plan) × (parts.now.options ≡ W.world.options) }
-    requires facts { (parts.now.facts.now ≡ W.world.facts) × IsTrue (is_valid_facts parts.now.facts.now) }
-    requires greeting { D.greeting held.dock.now ≡ W.world.greeting }
+    requires options { options ≡ W.world.options }
+    requires greeting { D.greeting held.dock.now ≡ W.greeting }
     ensures same { result.0.dock.ghost_name ≡ held.entry.dock.ghost_name }
     ensures ran { IfOk result.1 (IsRan D.Dock L.Sink L.read_side L.write_side W.world
         held.entry.dock.now result.0.dock.now) }
@@ -179,11 +174,14 @@ fn run_prepared<
     let Prepared {
         shared,
         sessions,
-        server,
-        roles,
-        stands,
+        halves,
     } = prepared;
-    let (held, over) = run_shared(parts, shelf, &shared, server, roles, stands, held);
+    let around = Around {
+        scene,
+        shared: &shared,
+        shelf,
+    };
+    let (held, over) = run_shared(around, options, halves, held);
     match over {
         Ok(over) => (held, Ok(end_of(shared.into_table(), over, sessions))),
         Err(error) => (held, Err(error)),
@@ -203,41 +201,30 @@ fn run_shared<
     C: Clock,
     G: Gate,
 >(
-    parts: &Parts<'r, R, C, G>,
-    shelf: &'a Shelf<Grant>,
-    shared: &'t Shared<'a, W, L>,
-    server: Server<Books<W>, RoleMarks<W>>,
-    roles: Vec<Right<RoleMarks<W>, Mark>>,
-    stands: Stands<'a, W>,
+    around: Around<'r, 't, 'a, W, R, L, C, G>,
+    options: LiveOptions,
+    halves: Halves<'a, W>,
     held: HeldDock<'d, D>,
 ) -> (HeldDock<'d, D>, Result<Over<W, L>, AllocError>)
-    requires world { IsWorldOf W.world W.rows W.events W.writes W.setting W.facts W.greeting }
-    requires plan { (parts.now.plan.now ≡ W.world.plan) × (parts.now.options ≡ W.world.options) }
-    requires facts { (parts.now.facts.now ≡ W.world.facts) × IsTrue (is_valid_facts parts.now.facts.now) }
-    requires server { server ≡ no_server }
-    requires roles { roles.items ≡ numbered SLOTS (mark.Role W.world.options.streamers false) }
-    requires stands { stands ≡ Some 0 }
+    requires options { options ≡ W.world.options }
     requires greeting { D.greeting held.dock.now ≡ W.greeting }
     ensures same { result.0.dock.ghost_name ≡ held.entry.dock.ghost_name }
     ensures served { IfOk result.1 (λ over. HasServed D.Dock L.read_side L.write_side W.facts W.greeting
         W.world.options.wait over.exit over.conns.items held.entry.dock.now result.0.dock.now over.server) }
     ensures none { IfErr result.1 (λ _. result.0.dock.now ≡ held.entry.dock.now) }
 {
-    let wait = parts.options.wait;
-    match groups_of(parts, shelf, shared, server, roles, stands) {
-        Ok((front, streaming)) => run_groups(parts.rt, wait, front, streaming, held),
+    let rt = around.scene.rt;
+    match groups_of(around, options, halves) {
+        Ok((front, streaming)) => run_groups(rt, options.wait, front, streaming, held),
         Err(error) => (held, Err(error)),
     }
 }
 
 // The server, the roles and the writers, each with what it needs.
 fn groups_of<'r, 't, 'a, W: World, R: Wait, L: Link + Drop, C, G>(
-    parts: &Parts<'r, R, C, G>,
-    shelf: &'a Shelf<Grant>,
-    shared: &'t Shared<'a, W, L>,
-    server: Server<Books<W>, RoleMarks<W>>,
-    roles: Vec<Right<RoleMarks<W>, Mark>>,
-    stands: Stands<'a, W>,
+    around: Around<'r, 't, 'a, W, R, L, C, G>,
+    options: LiveOptions,
+    halves: Halves<'a, W>,
 ) -> Result<
     (
         Front<'r, 't, 'a, W, R, L, C, G>,
@@ -245,36 +232,36 @@ fn groups_of<'r, 't, 'a, W: World, R: Wait, L: Link + Drop, C, G>(
     ),
     AllocError,
 >
-    requires world { IsWorldOf W.world W.rows W.events W.writes W.setting W.facts W.greeting }
-    requires plan { (parts.now.plan.now ≡ W.world.plan) × (parts.now.options ≡ W.world.options) }
-    requires facts { (parts.now.facts.now ≡ W.world.facts) × IsTrue (is_valid_facts parts.now.facts.now) }
-    requires server { server ≡ no_server }
-    requires roles { roles.items ≡ numbered SLOTS (mark.Role W.world.options.streamers false) }
-    requires stands { stands ≡ Some 0 }
+    requires { options ≡ W.world.options }
     ensures { IfOk result (λ groups. (groups.0.serving.desk.decider ≡ no_server)
         × (groups.0.serving.stands ≡ Some 0)) }
 {
-    let alloc = parts.alloc;
-    let threads = parts.plan.threads as usize;
-    let count = parts.options.streamers;
+    let Halves {
+        server,
+        roles,
+        stands,
+    } = halves;
+    let scene = &around.scene;
+    let shared = around.shared;
+    let alloc = scene.alloc;
+    let threads = scene.plan.threads as usize;
+    let count = options.streamers;
     let streaming = Streaming {
-        scene: scene(parts),
+        scene: scene.again(),
         streamers: streamers_of(alloc, shared, roles, count)?,
         roles: Vec::with_capacity(alloc, count as usize)?,
     };
     let kit = WritersKit {
-        scene: scene(parts),
+        scene: scene.again(),
         shared,
-        drafts: drafts_of(alloc, parts.plan, parts.options.lives)?,
+        drafts: drafts_of(alloc, scene.plan, scene.lives)?,
         writers: Vec::with_capacity(alloc, threads)?,
         rows: Vec::with_capacity(alloc, threads)?,
         halves: Vec::with_capacity(alloc, threads)?,
     };
-    let desk = Desk::new(alloc, Locked::new(parts.rt, shared, server))?;
+    let desk = Desk::new(alloc, Locked::new(scene.rt, shared, server))?;
     let serving = Serving {
-        scene: scene(parts),
-        shared,
-        shelf,
+        around,
         desk,
         stands,
     };
@@ -310,9 +297,7 @@ struct Front<'r, 't, 'a, W: World, R: Wait, L: Link + Drop, C, G> {
 // The server with what it needs.
 #[derive(Drop)]
 struct Serving<'r, 't, 'a, W: World, R: Wait, L: Link + Drop, C, G> {
-    scene: Scene<'r, W, R, C, G>,
-    shared: &'t Shared<'a, W, L>,
-    shelf: &'a Shelf<Grant>,
+    around: Around<'r, 't, 'a, W, R, L, C, G>,
     desk: LiveDesk<'r, 't, 'a, W, R, L>,
     stands: Stands<'a, W>,
 }
@@ -360,10 +345,10 @@ fn run_groups<
         move |scope|
             requires { (front.serving.desk.decider ≡ no_server) × (front.serving.stands ≡ Some 0)
                 × (D.greeting held.dock.now ≡ W.greeting) }
-            ensures { (result.0.dock.ghost_name ≡ held.entry.dock.ghost_name)
-                × IfOk result.1 (λ over. HasServed D.Dock L.read_side L.write_side W.facts W.greeting
-                wait over.exit over.conns.items held.entry.dock.now result.0.dock.now over.server)
-                × IfErr result.1 (λ _. result.0.dock.now ≡ held.entry.dock.now) }
+            ensures same { result.0.dock.ghost_name ≡ held.entry.dock.ghost_name }
+            ensures served { IfOk result.1 (λ over. HasServed D.Dock L.read_side L.write_side W.facts W.greeting
+                wait over.exit over.conns.items held.entry.dock.now result.0.dock.now over.server) }
+            ensures none { IfErr result.1 (λ _. result.0.dock.now ≡ held.entry.dock.now) }
         {
             let play = move || streaming.play_all();
             let playing = match scope.spawn(play) {
@@ -406,9 +391,7 @@ fn give_up<'r, 't, 'a, W: World, R: Wait, L: Link + Drop, C, G>(
 ) {
     let Front { serving, kit: _ } = front;
     let Serving {
-        scene: _,
-        shared: _,
-        shelf: _,
+        around: _,
         desk,
         stands: _,
     } = serving;
@@ -479,26 +462,14 @@ fn serve_first<
     ensures same { result.0.dock.ghost_name ≡ held.entry.dock.ghost_name }
 {
     let Serving {
-        scene,
-        shared,
-        shelf,
+        around,
         mut desk,
         mut stands,
     } = serving;
     let mut held = held;
-    let exit = serve_early(
-        &scene,
-        shared,
-        shelf,
-        &mut desk,
-        &mut stands,
-        &mut held,
-        wait,
-    );
+    let exit = serve_early(&around, &mut desk, &mut stands, &mut held, wait);
     let serving = Serving {
-        scene,
-        shared,
-        shelf,
+        around,
         desk,
         stands,
     };
@@ -519,17 +490,13 @@ fn lend<'r, 't, 'a, W: World, R: Wait, L: Link + Drop, C, G>(
     ensures halves { AreStands 0 result.1.items }
 {
     let Serving {
-        scene,
-        shared,
-        shelf,
+        around,
         desk,
         mut stands,
     } = serving;
     let halves = stands.lend();
     let serving = Serving {
-        scene,
-        shared,
-        shelf,
+        around,
         desk,
         stands,
     };
@@ -564,18 +531,14 @@ fn serve_on<
         return (held, first, serving);
     };
     let Serving {
-        scene,
-        shared,
-        shelf,
+        around,
         mut desk,
         mut stands,
     } = serving;
     let mut held = held;
-    let exit = serve_late(&scene, shared, shelf, &mut desk, &mut stands, &mut held);
+    let exit = serve_late(&around, &mut desk, &mut stands, &mut held);
     let serving = Serving {
-        scene,
-        shared,
-        shelf,
+        around,
         desk,
         stands,
     };

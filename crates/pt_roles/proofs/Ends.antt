@@ -35,11 +35,11 @@ use Rattle.nt_write.specs.declared.limits.TheConstants.{FRAMED_EVENTS}
 use Rattle.pt_io.specs.Faults.{HasRisen}
 use Rattle.pt_roles.specs.Ran.{AreMarksOf, HasEachRow, IsEnd, IsSpent, IsThread, TookPart, TookTrace, is_early, refused_of, taken_of, threads_in}
 use Rattle.pt_roles.specs.Fates.{fate_as}
-use Rattle.pt_roles.specs.Serving.{IsLastOf, IsLeftOf}
-use Rattle.pt_roles.specs.Table.{IsOver, was_opened}
+use Rattle.pt_roles.specs.Serving.{IsLeftOf}
+use Rattle.pt_roles.specs.Table.{IsOver, IsStreamOf, was_opened}
 use Rattle.pt_roles.specs.World.{IsWorldOf, WorldState, before_of, setting_of, writes_of}
 use Rattle.pt_roles.specs.declared.live_end.LiveSession.{LiveSession}
-use Rattle.pt_roles.proofs.Load.{count-writes}
+use Rattle.pt_writers.proofs.Load.{count-writes}
 use Rattle.pt_roles.proofs.Marks.{all-done, all-marks, each-row, early-marks, is-thread, of-threads}
 
 -- The link asked for the session that is left.
@@ -184,7 +184,7 @@ module _ {L : Type 0} (gave : L → ReadSide) (sink : Sink L) (side : Sink (Serv
   pub is-over : (world : WorldState) (rows : ℕ) (events : List EventDef) (writes : ℕ → List Write) (setting : Setting) (facts : Facts) (greeting : List ℕ)
       (hold : Hold) (stream : StreamState) (handed : Fate) (end : SessionEnd (ServedState L)) (session left_over : LiveSession L) (kept : Kept)
       → IsWorldOf world rows events writes setting facts greeting
-      → (is_fault handed ≡ false → is_complete stream ≡ true) → IsLastOf hold stream
+      → (is_fault handed ≡ false → is_complete stream ≡ true) → IsStreamOf hold stream
       → HasEnded side (watch_of rows events writes setting stream.config stream.id) rows setting.lives (setting.faults stream.id) stream handed end
       → IsLeftOf gave sink end session → kept ≡ fate_as session.fate → left_over ≡ session → IsOver world (record hold { stage = stage.Over kept }) left_over
   is-over world rows events writes setting facts greeting hold stream handed end session left_over kept w complete last h left kept_is same =

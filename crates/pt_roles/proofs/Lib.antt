@@ -1,5 +1,4 @@
 pub mod Load
-pub mod Lists
 pub mod Lives
 pub mod Marks
 pub mod Rows

@@ -3,7 +3,6 @@ use Rattle.std.proofs.Common.{◌≡◌, ℕ, zero, suc, ◌+◌, ◌-◌, ◌<�
 use Rattle.std.specs.Prelude.{◌==◌, ◌||◌, ◌&&◌, nat_lt, slice_index_or}
 use Rattle.std.specs.List.{AllByRecursion, list_all, list_any, range_with_len}
 use Rattle.std.proofs.lemmas.Bool.{eq-eqb, ltb-false, ltb-true}
-use Rattle.std.proofs.lemmas.Bool.Decides.{nat_tests}
 use Rattle.std.proofs.lemmas.List.Folds.{list_all_at}
 use Rattle.ep_defs.specs.declared.session.Marks.{Marks}
 use Rattle.ep_guarded.specs.Tied.{thread_of}
@@ -15,7 +14,7 @@ use Rattle.pt_stream.specs.State.{IsDone, no_place, place_at}
 use Rattle.pt_stream.specs.declared.place.Place.{Place}
 use Rattle.pt_roles.specs.Ran.{HasEachRow, IsThread, is_early, threads_in}
 use Rattle.pt_roles.specs.World.{WorldState, writes_of}
-use Rattle.pt_roles.proofs.Load.{count-writes}
+use Rattle.pt_writers.proofs.Load.{count-writes}
 
 -- ---- lists
 
@@ -23,11 +22,8 @@ pub all-map : {A : Type 0} (P Q : A → Type 0) → ((x : A) → P x → Q x) �
 all-map P Q h [] all = tt
 all-map P Q h (x ∷ xs) all = (h x all.0, all-map P Q h xs all.1)
 
-same-self : (n : ℕ) → (n == n) ≡ true
-same-self n = grind (arith, nat_tests)
-
 one-here : (n : ℕ) (ns : List ℕ) → IsOneOf (n ∷ ns) n
-one-here n ns = rw (same-self n) refl
+one-here n ns = rw (eq-eqb n n refl) refl
 
 or-true : (b : Bool) → (b || true) ≡ true
 or-true true = refl

@@ -1,12 +1,13 @@
 -- The streaming roles, by number, and their halves.
-use Rattle.std.proofs.Common.{◌≡◌, ◌∙◌, ℕ, zero, suc, ◌<◌, ◌≤◌, ⊎_elim, false, List, [], ◌∷◌, ◌++◌, Some, length, get_or, take, refl, sym, ap, arith}
+use Rattle.std.proofs.Common.{◌≡◌, ◌∙◌, ℕ, zero, suc, ◌<◌, ◌≤◌, ⊎_elim, false, List, [], ◌∷◌, ◌++◌, Some, length, get_or, take, sym, ap, arith}
 use Rattle.std.specs.Prelude.{slice_get}
 use Rattle.std.proofs.lemmas.Bool.{cases_lt}
-use Rattle.std.proofs.lemmas.List.{get_or-take, get_or_append_left, length-append, length-take}
+use Rattle.std.proofs.lemmas.List.{get_or-take, get_or_append_left, length-take}
 use Rattle.std.proofs.lemmas.Option.{slice_get-get_or}
 use Rattle.std.proofs.Math.Seq.{get_or-append_seam}
 use Rattle.ep_table.specs.declared.limits.TheConstants.{SLOTS}
 use Rattle.ep_tie.specs.Tied.{Tied}
+use Rattle.ep_registry.proofs.Numbered.{numbered-length}
 use Rattle.ep_registry.specs.Places.{numbered}
 use Rattle.ep_registry.specs.Registered.{RoleHalf}
 use Rattle.pt_roles.specs.Streamers.{AreThere}
@@ -17,21 +18,15 @@ use Rattle.pt_roles.specs.Streamers.{AreThere}
 abbrev half_at : {V : Type 0} → V → ℕ → Tied V
 half_at v k = record { place = k; value = Some v }
 
-pub length-numbered : {V : Type 0} (n : ℕ) (v : V) → length (numbered n v) ≡ n
-length-numbered zero v = refl
-length-numbered (suc n) v =
-    let less = length-numbered n v in
-    omega (arith, less, length-append (numbered n v) (half_at v n ∷ []))
-
 numbered-at : {V : Type 0} (n : ℕ) (v : V) (d : Tied V) (k : ℕ) → k < n → get_or (numbered n v) k d ≡ half_at v k
 numbered-at zero v d k few = absurd (omega arith)
 numbered-at {V} (suc n) v d k few =
     ⊎_elim
     (λ (small : k < n).
-    let long = length-numbered n v in
+    let long = numbered-length n v in
     get_or_append_left (numbered n v) (half_at v n ∷ []) d k (omega (arith, small, long)) ∙ numbered-at n v d k small)
     (λ (big : n ≤ k).
-    let long = length-numbered n v in
+    let long = numbered-length n v in
     let place : k ≡ length (numbered n v) = omega (arith, long, big, few) in
     let same : n ≡ k = omega (arith, big, few) in
     ap (λ (i : ℕ). get_or (numbered n v ++ half_at v n ∷ []) i d) place
@@ -49,7 +44,7 @@ half-at {V} halves n count k v half are few within is =
 
 pub count-halves : {V : Type 0} (halves : List (Tied V)) (n count : ℕ) (v : V) → halves ≡ take count (numbered n v) → count ≤ n → length halves ≡ count
 count-halves halves n count v are within =
-    let long = length-numbered n v in
+    let long = numbered-length n v in
     let cut = length-take count (numbered n v) in
     let same : length halves ≡ length (take count (numbered n v)) = ap length are in
     omega (arith, long, cut, same, within)

@@ -23,6 +23,7 @@ use Rattle.ep_journal.specs.Told.{AreTold}
 use Rattle.pt_load.specs.Sample.{sample}
 use Rattle.pt_server.specs.Connection.{HasAsked}
 use Rattle.pt_server.specs.Told.{AreTold as AreEnded}
+pub use Rattle.pt_writers.specs.Whole.{refused_of}
 use Rattle.pt_roles.specs.Fates.{fate_as}
 use Rattle.pt_roles.specs.World.{WorldState, before_of, rows_of, writes_of}
 use Rattle.pt_roles.specs.declared.live_end.LiveEnd.{LiveEnd}
@@ -68,10 +69,6 @@ is_early world marks =
 -- How many events the session took of all threads.
 abbrev pub taken_of : List Marks → ℕ
 taken_of marks = sum_by (λ mark. mark.taken) marks
-
--- How many events were refused of all threads.
-abbrev pub refused_of : List Marks → ℕ
-refused_of marks = sum_by (λ mark. mark.refused) marks
 
 -- ---- why a session had no more
 

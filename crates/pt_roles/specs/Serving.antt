@@ -1,15 +1,12 @@
 -- What becomes of a stream while the server or a role has it. All of it is this project's own.
-use Rattle.std.specs.Prelude.{◌≡◌, ℕ, Bool, true}
-use Rattle.ipc_body.specs.declared.request.Request.TheVariants as request
+use Rattle.std.specs.Prelude.{◌≡◌, ℕ, Bool, true, List, None}
+use Rattle.std.specs.List.{AllByRecursion}
+use Rattle.ep_defs.specs.declared.session.Write.{Write}
 use Rattle.pt_io.specs.Sides.{ReadSide}
 use Rattle.pt_io.specs.declared.sink.Sink.{Ghosts as Sink}
 use Rattle.ep_stream.specs.declared.session.SessionEnd.{SessionEnd}
-use Rattle.ep_journal.specs.Kept.{was_early}
-use Rattle.ep_registry.specs.declared.hold.Hold.{Hold}
-use Rattle.pt_server.specs.Connection.{HasAsked}
 use Rattle.pt_server.specs.Served.{ServedState}
-use Rattle.pt_stream.specs.State.{StreamState, is_complete, opened_on}
-use Rattle.pt_roles.specs.Table.{was_opened}
+use Rattle.pt_stream.specs.State.{IsDone, StreamState, is_complete, opened_on}
 use Rattle.pt_roles.specs.declared.live_end.LiveSession.{LiveSession}
 
 -- It is the same session's, an early one as before, with the same halves of threads.
@@ -28,14 +25,11 @@ pub record IsOpenedOnce (early : Bool) (row : ℕ) (old new : StreamState) : Typ
   pub first : early ≡ true → life ≡ 0
   pub is : new ≡ opened_on row life old
 
--- Who has the session has its stream, early and open on all rows where that is known.
-pub record IsLastOf (hold : Hold) (stream : StreamState) : Type 0 where
-  pub asked : HasAsked stream.gave (request.Collect stream.config)
-  pub id_is : stream.id ≡ hold.id
-  pub slot_is : stream.slot ≡ hold.slot
-  pub conn_is : stream.conn ≡ hold.conn
-  pub complete : is_complete stream ≡ was_opened hold.opened
-  pub early : was_early hold.opened ≡ true → stream.early ≡ true
+-- It was opened on all rows and has the halves of no thread, and each thread on which it was closed had made all its writes.
+pub record FollowsRows (writes : ℕ → List Write) (stream : StreamState) : Type 0 where
+  pub complete : is_complete stream ≡ true
+  pub lent : stream.stands ≡ None
+  pub done : AllByRecursion (IsDone writes) stream.marks
 
 -- What is left of a session once its link is shut.
 pub record IsLeftOf {L : Type 0} (gave : L → ReadSide) (sink : Sink L) (end : SessionEnd (ServedState L)) (session : LiveSession L) : Type 0 where

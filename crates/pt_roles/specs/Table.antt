@@ -23,14 +23,18 @@ was_opened opened.Early = true
 was_opened opened.Late = true
 
 -- The stream is that of the session, whose link asked for it, opened on all rows where the session was, and before any write
--- where that is said; each thread on which it was closed had made all its writes, and it has the halves of no thread.
-pub record Fits (writes : ℕ → List Write) (hold : Hold) (stream : StreamState) : Type 0 where
+-- where that is said.
+pub record IsStreamOf (hold : Hold) (stream : StreamState) : Type 0 where
   pub asked : HasAsked stream.gave (request.Collect stream.config)
   pub id_is : stream.id ≡ hold.id
   pub slot_is : stream.slot ≡ hold.slot
   pub conn_is : stream.conn ≡ hold.conn
   pub complete : is_complete stream ≡ was_opened hold.opened
   pub early : was_early hold.opened ≡ true → stream.early ≡ true
+
+-- Each thread on which it was closed had made all its writes, and it has the halves of no thread.
+pub record Fits (writes : ℕ → List Write) (hold : Hold) (stream : StreamState) : Type 0 where
+  pub is : IsStreamOf hold stream
   pub done : AllByRecursion (IsDone writes) stream.marks
   pub lent : stream.stands ≡ None
 

@@ -7,8 +7,10 @@ use Rattle.ep_defs.specs.declared.session.Facts.{Facts}
 use Rattle.ep_defs.specs.declared.session.Write.{Write}
 use Rattle.ep_defs.specs.Session.{standard_info_of}
 use Rattle.ep_guarded.specs.Tied.{thread_of}
-use Rattle.pt_load.specs.Sample.{nth, sample}
+use Rattle.pt_load.specs.Sample.{sample}
 use Rattle.pt_load.specs.declared.plan.Plan.{Plan}
+use Rattle.pt_writers.specs.Written.{no_plan}
+pub use Rattle.pt_writers.specs.Written.{writes_of}
 use Rattle.ipc_body.specs.Answering.{session_reply}
 use Rattle.pt_stream.specs.Setting.{Setting}
 use Rattle.pt_roles.specs.declared.limits.TheConstants.{LIVES}
@@ -26,7 +28,7 @@ pub record WorldState : Type 0 where
 abbrev pub no_world : WorldState
 no_world =
     record {
-      plan = record { seed = 0; threads = 0; writes = 0 };
+      plan = no_plan;
       options = record { wait = 0; streamers = 0; lives = 0 };
       facts =
           record {
@@ -50,10 +52,6 @@ pub record AreOptions (options : LiveOptions) : Type 0 where
   pub few_lives : options.lives ≤ LIVES
 
 -- ---- what the threads write
-
--- All that a thread, from 1, writes in a run.
-abbrev pub writes_of : Plan → ℕ → List Write
-writes_of plan thread = map (nth plan thread) (range_with_len 0 plan.writes)
 
 -- The last thread of a row, by its number from 0.
 abbrev pub last_of : Plan → ℕ → ℕ → ℕ

@@ -37,8 +37,8 @@ pub record StandsAt (plan : Plan) (lives number life index next : ℕ) (writer :
   pub drafts_are : writer.drafts ≡ drafts_from plan number next (lives - next)
 
 -- They are the writers of the rows, by number, and no thread has made a write.
-abbrev pub AreReady : Plan → ℕ → List WriterState → Type 0
-AreReady plan lives writers = (k : ℕ) (writer : WriterState) → slice_get writers k ≡ Some writer → StandsAt plan lives k 0 0 0 writer
+abbrev pub HaveYetToWrite : Plan → ℕ → List WriterState → Type 0
+HaveYetToWrite plan lives writers = (k : ℕ) (writer : WriterState) → slice_get writers k ≡ Some writer → StandsAt plan lives k 0 0 0 writer
 
 -- They are the writers of the rows, by number, and each row's last thread has made all its writes.
 abbrev pub HaveWritten : Plan → ℕ → List WriterState → Type 0
@@ -50,5 +50,5 @@ abbrev pub AreAtEnd : Plan → ℕ → List (Tied Agreed) → Type 0
 AreAtEnd plan lives halves = (k : ℕ) (half : Tied Agreed) → slice_get halves k ≡ Some half → IsAt plan k (lives - 1) plan.writes half
 
 -- What gives the writes of each row, by number, in all its lives.
-abbrev pub AreDrafts : Plan → ℕ → List (List Drafted) → Type 0
-AreDrafts plan lives drafts = (k : ℕ) (ds : List Drafted) → slice_get drafts k ≡ Some ds → ds ≡ drafts_from plan k 0 lives
+abbrev pub AreRowDrafts : Plan → ℕ → List (List Drafted) → Type 0
+AreRowDrafts plan lives drafts = (k : ℕ) (ds : List Drafted) → slice_get drafts k ≡ Some ds → ds ≡ drafts_from plan k 0 lives

@@ -3,7 +3,7 @@ ghost use Rattle.std.specs.Prelude.{◌≡◌, ◌≢◌, ◌+◌, ◌-◌, ◌*
 ghost use Rattle.ep_defs.specs.declared.limits.TheConstants.{THREADS as MOST_THREADS};
 ghost use Rattle.ep_guarded.specs.Tied.{thread_of};
 ghost use Rattle.pt_roles.specs.declared.limits.TheConstants.{LIVES};
-ghost use Rattle.pt_roles.specs.Writers.{AreDrafts, drafted, drafts_from};
+ghost use Rattle.pt_roles.specs.Writers.{AreRowDrafts, drafted, drafts_from};
 
 use pt_load::{Draft, Plan};
 use std::alloc::{AllocError, Global};
@@ -68,7 +68,7 @@ pub fn drafts_of(alloc: Global, plan: &Plan, lives: u32) -> Result<Vec<Drafts>, 
     requires few { plan.now.threads ≤ MOST_THREADS }
     requires few_lives { lives ≤ LIVES }
     ensures count { IfOk result (λ drafts. vec_len drafts ≡ plan.now.threads) }
-    ensures drafts { IfOk result (λ drafts. AreDrafts plan.now lives drafts.items) }
+    ensures drafts { IfOk result (λ drafts. AreRowDrafts plan.now lives drafts.items) }
 {
     let mut drafts = Vec::with_capacity(alloc, plan.threads as usize)?;
     for number in 0..plan.threads {

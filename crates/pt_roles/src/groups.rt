@@ -4,7 +4,7 @@ ghost use Rattle.ep_live.specs.Made.{AreStands};
 ghost use Rattle.ep_registry.specs.Registered.{AreLeft};
 ghost use Rattle.pt_roles.specs.Streamers.{AreThere};
 ghost use Rattle.pt_roles.specs.World.{rows_of};
-ghost use Rattle.pt_roles.specs.Writers.{AreDrafts, AreReady};
+ghost use Rattle.pt_roles.specs.Writers.{AreRowDrafts, HaveYetToWrite};
 
 use crate::drafts::Drafts;
 use crate::scene::Scene;
@@ -31,7 +31,7 @@ pub struct WritersKit<'r, 't, 'a, W: World, R: Wait, L: Link, C, G> {
     pub rows: Vec<(u64, u32)>,
     pub halves: Vec<Right<W, Agreed<'a>>>,
     pub ghost count: { vec_len drafts ≡ W.rows },
-    pub ghost drafts_are: { AreDrafts W.world.plan W.world.options.lives drafts.items },
+    pub ghost drafts_are: { AreRowDrafts W.world.plan W.world.options.lives drafts.items },
     pub ghost none: { (writers.items ≡ []) × (rows.items ≡ []) × (halves.items ≡ []) },
     pub ghost writer_room: { W.rows ≤ vec_capacity writers },
     pub ghost row_room: { W.rows ≤ vec_capacity rows },
@@ -47,7 +47,7 @@ pub struct Writing<'r, 't, 'a, W: World, R: Wait, L: Link, C, G> {
     rows: Vec<(u64, u32)>,
     halves: Vec<Right<W, Agreed<'a>>>,
     pub ghost count: { vec_len writers ≡ W.rows },
-    pub ghost ready: { AreReady W.world.plan W.world.options.lives writers.items },
+    pub ghost ready: { HaveYetToWrite W.world.plan W.world.options.lives writers.items },
     pub ghost none: { (rows.items ≡ []) × (halves.items ≡ []) },
     pub ghost row_room: { W.rows ≤ vec_capacity rows },
     pub ghost half_room: { W.rows ≤ vec_capacity halves },

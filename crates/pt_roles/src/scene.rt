@@ -35,3 +35,19 @@ pub struct Scene<'r, W: World, R, C, G> {
     pub ghost writes_are: { (thread : ℕ) → length (W.writes thread) ≡ plan.now.writes },
     pub ghost events_are: { AreEvents W.events },
 }
+
+impl<'r, W: World, R, C, G> Scene<'r, W, R, C, G> {
+    /// The same for another thread of the run.
+    pub fn again(&self) -> Scene<'r, W, R, C, G> {
+        Scene {
+            rt: self.rt,
+            alloc: self.alloc,
+            clock: self.clock,
+            gate: self.gate,
+            plan: self.plan,
+            facts: self.facts,
+            lives: self.lives,
+            name: PhantomData,
+        }
+    }
+}

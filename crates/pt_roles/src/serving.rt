@@ -7,8 +7,8 @@ ghost use Rattle.ep_journal.specs.Recorded.{goes_on, may_end};
 ghost use Rattle.ep_live_laws.specs.Tracing.{is_fault};
 ghost use Rattle.pt_stream.specs.State.{IsDone, IsShut, is_complete};
 ghost use Rattle.pt_roles.specs.Fates.{fate_as};
-ghost use Rattle.pt_roles.specs.Serving.{IsLastOf, IsLeftOf, KeepsSession};
-ghost use Rattle.pt_roles.specs.Table.{Fits};
+ghost use Rattle.pt_roles.specs.Serving.{FollowsRows, IsLeftOf, KeepsSession};
+ghost use Rattle.pt_roles.specs.Table.{Fits, IsStreamOf};
 
 use crate::finale::Finale;
 use crate::live_end::LiveSession;
@@ -90,12 +90,9 @@ fn follow<'a, W: World, R: Wait, L: Link, C, G>(
     shared: &Shared<'a, W, L>,
     stream: Telling<'a, W, L>,
 ) -> (Telling<'a, W, L>, bool)
-    requires complete { is_complete stream ≡ true }
-    requires lent { stream.stands ≡ None }
-    requires done { AllByRecursion (IsDone W.writes) stream.marks }
+    requires { FollowsRows W.writes stream }
     ensures same { KeepsSession stream.entry result.0 }
-    ensures complete { is_complete result.0 ≡ true }
-    ensures done { AllByRecursion (IsDone W.writes) result.0.marks }
+    ensures follows { FollowsRows W.writes result.0 }
 {
     let mut stream = stream;
     if scene.lives == 1 {
@@ -119,12 +116,9 @@ fn follow_row<'a, W: World, R: Wait, L: Link, C, G>(
     number: u32,
 ) -> (Telling<'a, W, L>, bool)
     requires row { number < W.rows }
-    requires complete { is_complete stream ≡ true }
-    requires lent { stream.stands ≡ None }
-    requires done { AllByRecursion (IsDone W.writes) stream.marks }
+    requires follows { FollowsRows W.writes stream }
     ensures same { KeepsSession stream.entry result.0 }
-    ensures complete { is_complete result.0 ≡ true }
-    ensures done { AllByRecursion (IsDone W.writes) result.0.marks }
+    ensures follows { FollowsRows W.writes result.0 }
 {
     let row = number + 1;
     let place = stream.place(row);
@@ -247,7 +241,7 @@ fn finish<'a, W: World, R: Wait, L: Link + Drop, C: Clock, G: Gate>(
     requires complete { is_fault fate ≡ false → is_complete stream ≡ true }
     requires shut { IsShut W.rows stream }
     requires done { fate ≡ fates.ProgramEnd → AllByRecursion (IsDone W.writes) stream.marks }
-    requires last { IsLastOf holder stream }
+    requires own_stream { IsStreamOf holder stream }
 {
     a_traced_stream_is_found();
     a_part_is_found();

@@ -2,7 +2,7 @@
 ghost use Rattle.std.specs.Prelude.{◌≡◌, ◌+◌, ◌-◌, ◌*◌, ◌<◌, ◌≤◌, [], IfOk, length, vec_len, vec_capacity};
 ghost use Rattle.ep_live.specs.Made.{AreStands};
 ghost use Rattle.pt_roles.specs.World.{rows_of};
-ghost use Rattle.pt_roles.specs.Writers.{AreAtEnd, AreDrafts, AreReady, HasLeft, HaveWritten, IsAt, StandsAt};
+ghost use Rattle.pt_roles.specs.Writers.{AreAtEnd, AreRowDrafts, HaveYetToWrite, HasLeft, HaveWritten, IsAt, StandsAt};
 
 use crate::drafts::{Drafts, thread_of};
 use crate::hints::Hints;
@@ -49,9 +49,9 @@ pub fn writers_of<'t, 'a, P: World, L: Link>(
     requires room { vec_len halves ≤ vec_capacity writers.old }
     requires equal { vec_len drafts ≡ vec_len halves }
     requires halves { AreStands 0 halves.items }
-    requires drafts { AreDrafts P.world.plan P.world.options.lives drafts.items }
+    requires drafts { AreRowDrafts P.world.plan P.world.options.lives drafts.items }
     ensures count { vec_len writers.new ≡ vec_len halves.entry }
-    ensures ready { AreReady P.world.plan P.world.options.lives writers.new.items }
+    ensures ready { HaveYetToWrite P.world.plan P.world.options.lives writers.new.items }
 {
     for (half, drafts) in halves.into_iter().zip(drafts) {
         writers.push_reserved(Writer {
@@ -178,7 +178,7 @@ pub fn write_each<
     G: Gate,
 >(scene: &Scene<'_, P, R, C, G>, writers: &mut [Writer<'t, 'a, P, L>])
     requires rows { length writers.old ≡ P.rows }
-    requires ready { AreReady P.world.plan P.world.options.lives writers.old }
+    requires ready { HaveYetToWrite P.world.plan P.world.options.lives writers.old }
     ensures { HaveWritten P.world.plan P.world.options.lives writers.new }
 {
     let writing = |number: usize, writer: &mut Writer<'_, '_, P, L>|

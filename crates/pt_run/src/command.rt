@@ -1,6 +1,5 @@
 //! The command `run`.
-ghost use Rattle.std.specs.Prelude.{◌≡◌, None, IfOk, IsTrue};
-ghost use Rattle.ep_defs.specs.Session.{is_valid_facts};
+ghost use Rattle.std.specs.Prelude.{◌≡◌, None, IfOk};
 ghost use Rattle.pt_run.specs.Command.{RunsTo, AreFew, end_of, text_of};
 ghost use Rattle.pt_run.specs.Reverse.{RunsAs};
 ghost use Rattle.pt_command.specs.Says.{SaysLine};
@@ -8,8 +7,8 @@ ghost use Rattle.pt_run.specs.Words.{Fits};
 
 use crate::reverse::run_reverse;
 use crate::summary::{put_connections, put_plan, put_session};
+use crate::system::System;
 use crate::words::Asked;
-use ep_defs::Facts;
 use ipc_reverse::Advertise;
 use pt_command::{End, say};
 use pt_host::run_live;
@@ -42,26 +41,19 @@ pub fn run<
     C: Clock,
     G: Gate,
 >(
-    rt: &R,
-    alloc: Global,
+    system: &System<'_, R, C, G>,
     asked: &Asked<'_>,
-    facts: &Facts,
     output: &mut O,
     dock: &mut D,
     caller: &mut K,
-    clock: &C,
-    gate: &G,
 ) -> Ran<L>
-    requires asked { Fits asked.now }
-    requires facts { IsTrue (is_valid_facts facts.now) }
-    ensures { RunsAs O.Sink D.Dock K.Caller L.Sink L.read_side L.write_side asked.now facts.now
+    requires { Fits asked.now }
+    ensures { RunsAs O.Sink D.Dock K.Caller L.Sink L.read_side L.write_side asked.now system.now.facts.now
         output.old output.new dock.old dock.new caller.old caller.new result.peer result.live result.end }
 {
     match &asked.reverse {
-        Some(reverse) => run_reverse(
-            rt, alloc, asked, reverse, facts, output, caller, clock, gate,
-        ),
-        None => run_at(rt, alloc, asked, facts, output, dock, clock, gate),
+        Some(reverse) => run_reverse(system, asked, reverse, output, caller),
+        None => run_at(system, asked, output, dock),
     }
 }
 
@@ -73,19 +65,9 @@ pub(crate) fn run_at<
     D: Dock<Link = L>,
     C: Clock,
     G: Gate,
->(
-    rt: &R,
-    alloc: Global,
-    asked: &Asked<'_>,
-    facts: &Facts,
-    output: &mut O,
-    dock: &mut D,
-    clock: &C,
-    gate: &G,
-) -> Ran<L>
-    requires asked { Fits asked.now }
-    requires facts { IsTrue (is_valid_facts facts.now) }
-    ensures runs { RunsTo O.Sink D.Dock L.Sink L.read_side L.write_side asked.now facts.now
+>(system: &System<'_, R, C, G>, asked: &Asked<'_>, output: &mut O, dock: &mut D) -> Ran<L>
+    requires { Fits asked.now }
+    ensures runs { RunsTo O.Sink D.Dock L.Sink L.read_side L.write_side asked.now system.now.facts.now
         output.old output.new dock.old dock.new result.live result.end }
     ensures nobody { result.peer ≡ None }
 {
@@ -94,9 +76,18 @@ pub(crate) fn run_at<
         streamers: asked.streamers,
         lives: asked.lives,
     };
-    match run_live(rt, alloc, &asked.plan, &options, facts, dock, clock, gate) {
+    match run_live(
+        system.rt,
+        system.alloc,
+        &asked.plan,
+        &options,
+        system.facts,
+        dock,
+        system.clock,
+        system.gate,
+    ) {
         Ok(live) => {
-            let end = told(alloc, &asked.plan, output, &live);
+            let end = told(system.alloc, &asked.plan, output, &live);
             Ran {
                 end,
                 live: Some(live),

@@ -1,6 +1,4 @@
 //! A run whose server calls a tool that listens.
-ghost use Rattle.std.specs.Prelude.{◌≡◌, IsTrue};
-ghost use Rattle.ep_defs.specs.Session.{is_valid_facts};
 ghost use Rattle.ipc_reverse.specs.Calls.{dock_of, uncalled};
 ghost use Rattle.ipc_reverse.specs.Dock.{calls_of};
 ghost use Rattle.ipc_reverse.specs.Named.{Makes};
@@ -9,12 +7,11 @@ ghost use Rattle.pt_run.specs.Reverse.{RunsReverse};
 ghost use Rattle.pt_run.specs.Words.{Fits};
 
 use crate::command::{Ran, run_at};
+use crate::system::System;
 use crate::words::{Asked, Reverse};
-use ep_defs::Facts;
 use ipc_reverse::{Advertise, Calls, NamedDock, ReverseDock, advert};
 use pt_command::End;
 use pt_io::{Caller, Clock, Gate, Sink};
-use std::alloc::Global;
 use std::marker::Brand;
 use std::sync::Wait;
 use std::thread::Threads;
@@ -29,31 +26,24 @@ pub(crate) fn run_reverse<
     C: Clock,
     G: Gate,
 >(
-    rt: &R,
-    alloc: Global,
+    system: &System<'_, R, C, G>,
     asked: &Asked<'_>,
     reverse: &Reverse<'_>,
-    facts: &Facts,
     output: &mut O,
     caller: &mut K,
-    clock: &C,
-    gate: &G,
 ) -> Ran<L>
-    requires asked { Fits asked.now }
-    requires facts { IsTrue (is_valid_facts facts.now) }
-    ensures { RunsReverse O.Sink K.Caller L.Sink L.read_side L.write_side asked.now reverse.now facts.now
+    requires { Fits asked.now }
+    ensures { RunsReverse O.Sink K.Caller L.Sink L.read_side L.write_side asked.now reverse.now system.now.facts.now
         output.old output.new caller.old caller.new result.peer result.live result.end }
 {
-    let advert = advert(facts);
+    let advert = advert(system.facts);
     let dock = ReverseDock::new(caller, reverse.target.path(), advert, reverse.calls);
     let mut ran = Ran {
         end: End::OutOfMemory,
         live: None,
         peer: None,
     };
-    let dock = run_named::<Brand, _, _, _, _, _, _>(
-        rt, alloc, asked, facts, output, dock, clock, gate, &mut ran,
-    );
+    let dock = run_named::<Brand, _, _, _, _, _, _>(system, asked, output, dock, &mut ran);
     ran.peer = dock.end();
     ran
 }
@@ -69,24 +59,19 @@ fn run_named<
     C: Clock,
     G: Gate,
 >(
-    rt: &R,
-    alloc: Global,
+    system: &System<'_, R, C, G>,
     asked: &Asked<'_>,
-    facts: &Facts,
     output: &mut O,
     dock: ReverseDock<'a, K>,
-    clock: &C,
-    gate: &G,
     ran: &mut Ran<L>,
 ) -> ReverseDock<'a, K>
     requires asked { Fits asked.now }
-    requires facts { IsTrue (is_valid_facts facts.now) }
     requires makes { Makes K.Caller L.Sink N.calls dock }
     ensures makes { Makes K.Caller L.Sink N.calls result }
     ensures runs { RunsTo O.Sink (dock_of K.Caller L.Sink N.calls.advert N.calls.most) L.Sink L.read_side L.write_side
-        asked.now facts.now output.old output.new (calls_of dock.entry) (calls_of result) ran.new.live ran.new.end }
+        asked.now system.now.facts.now output.old output.new (calls_of dock.entry) (calls_of result) ran.new.live ran.new.end }
 {
     let mut named: NamedDock<'a, K, N> = NamedDock::new(dock);
-    *ran = run_at(rt, alloc, asked, facts, output, &mut named, clock, gate);
+    *ran = run_at(system, asked, output, &mut named);
     named.into_dock()
 }

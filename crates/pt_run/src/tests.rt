@@ -10,13 +10,13 @@ use std::test::Fail;
 /// What a session had of a thread: from where to where, how many writes were taken, and how many were refused.
 type Had = (u32, u32, u32, u32);
 
-/// All writes of four threads, of which half were taken, or an eighth.
-const HALF: [Had; 4] = [(0, 10_000, 5_000, 0); 4];
+/// All writes of three threads, of which half were taken, or an eighth.
+const HALF: [Had; 3] = [(0, 10_000, 5_000, 0); 3];
 
-const EIGHTH: [Had; 4] = [(0, 10_000, 1_250, 0); 4];
+const EIGHTH: [Had; 3] = [(0, 10_000, 1_250, 0); 3];
 
 /// What the sessions, of ids 1, 2, .., had of threads 1, 2, .., and why each ended; how many connections there were; the
-/// lines, of a run of four threads and 10,000 writes of each.
+/// lines, of a run of three threads and 10,000 writes of each.
 type Case = (&'static [(&'static [Had], Fate)], u64, &'static str);
 
 const CASES: [Case; 3] = [
@@ -24,17 +24,15 @@ const CASES: [Case; 3] = [
     (
         &[(&HALF, Fate::ProgramEnd), (&EIGHTH, Fate::ProgramEnd)],
         2,
-        "run          4      10000
-session          1      20000          0 end
+        "run          3      10000
+session          1      15000          0 end
 mark          1          1          0      10000       5000          0
 mark          1          2          0      10000       5000          0
 mark          1          3          0      10000       5000          0
-mark          1          4          0      10000       5000          0
-session          2       5000          0 end
+session          2       3750          0 end
 mark          2          1          0      10000       1250          0
 mark          2          2          0      10000       1250          0
 mark          2          3          0      10000       1250          0
-mark          2          4          0      10000       1250          0
 connections          2
 ",
     ),
@@ -47,7 +45,7 @@ connections          2
             (&[], Fate::OutOfMemory),
         ],
         500,
-        "run          4      10000
+        "run          3      10000
 session          1          1          1 stop
 mark          1          1          7          9          1          1
 session          2          0          0 link
@@ -60,7 +58,7 @@ connections        500
     (
         &[],
         0,
-        "run          4      10000\nconnections          0\n",
+        "run          3      10000\nconnections          0\n",
     ),
 ];
 
@@ -99,7 +97,7 @@ fn lines(
 ) -> Result<Vec<u8>, AllocError> {
     let plan = Plan {
         seed: 0,
-        threads: 4,
+        threads: 3,
         writes: 10_000,
     };
     let mut text = Vec::new(alloc);

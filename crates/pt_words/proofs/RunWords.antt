@@ -10,7 +10,7 @@ use Rattle.clap.proofs.OnLiterals.{clap_on_literals}
 use Rattle.pt_words.specs.Options.{has_foreign, Told, told_in, texts_of}
 use Rattle.pt_words.specs.Trace.{at_most_one}
 use Rattle.pt_words.specs.Run.{RunTexts, run_options, run_of, run_in, said}
-use Rattle.pt_words.specs.RunTexts.{texts_from}
+use Rattle.pt_words.specs.RunTexts.{run_from, texts_from}
 use Rattle.pt_words.specs.Commands.{run_app}
 use Rattle.pt_words.specs.Matches.{IsRead}
 use Rattle.pt_words.proofs.Arguments.{Command, IsCommand, is-option, is-position}
@@ -57,12 +57,6 @@ run_by positions texts = None
 
 abbrev run_texts : Option Texts → Option RunTexts
 run_texts texts = option_and_then (λ both. run_by both.0 both.1) texts
-
--- The same of what is found of each name.
-abbrev run_from : (Text → Option Text) → Option RunTexts
-run_from found =
-    texts_from (found (codes "one")) (found (codes "two")) (found (codes "seed")) (found (codes "wait")) (found (codes "streamers")) (found (codes "lives"))
-    (found (codes "reverse")) (found (codes "calls"))
 
 from-run : (a b s w k l r m : Option Text) → texts_from a b s w k l r m ≡ run_texts (option_map (λ texts. (texts, s ∷ w ∷ k ∷ l ∷ r ∷ m ∷ [])) (each (a ∷ b ∷ [])))
 from-run None b s w k l r m = refl

@@ -13,7 +13,7 @@ use Rattle.pt_words.specs.Options.{texts_of, one_by, first_by, told_in}
 use Rattle.pt_words.specs.Options as any
 use Rattle.pt_words.specs.Trace.{seed_option, megabytes_option, is_alone, is_attached, is_known, is_foreign, has_foreign, Told, with_position, with_seed, with_megabytes, attached_text, one_word, TraceTexts, at_most_one, trace_of, trace_in, said}
 use Rattle.pt_words.specs.Trace as of
-use Rattle.pt_words.specs.TraceTexts.{texts_from}
+use Rattle.pt_words.specs.TraceTexts.{texts_from, trace_from}
 use Rattle.pt_words.specs.Commands.{trace_app}
 use Rattle.pt_words.specs.Matches.{IsRead}
 use Rattle.pt_words.proofs.Arguments.{Command, IsCommand, is-option, is-position}
@@ -124,10 +124,6 @@ trace_by positions texts = None
 
 abbrev trace_texts : Option Texts → Option TraceTexts
 trace_texts texts = option_and_then (λ both. trace_by both.0 both.1) texts
-
--- The same of what is found of each name.
-abbrev trace_from : (Text → Option Text) → Option TraceTexts
-trace_from found = texts_from (found (codes "one")) (found (codes "two")) (found (codes "three")) (found (codes "seed")) (found (codes "mb"))
 
 from-trace : (a b c s m : Option Text) → texts_from a b c s m ≡ trace_texts (option_map (λ texts. (texts, s ∷ m ∷ [])) (each (a ∷ b ∷ c ∷ [])))
 from-trace None b c s m = refl

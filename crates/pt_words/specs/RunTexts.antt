@@ -1,5 +1,5 @@
 -- What is answered of such a command, as texts.
-use Rattle.std.specs.Prelude.{ℕ, List, Option, Some, None, option_map}
+use Rattle.std.specs.Prelude.{ℕ, List, Option, Some, None, option_map, codes}
 use Rattle.pt_words.specs.Run.{RunTexts}
 use Rattle.pt_words.specs.declared.run.Run.{Run}
 
@@ -31,3 +31,9 @@ texts_from (Some threads) (Some writes) seed wait streamers lives reverse calls 
       calls = calls;
     })
 texts_from threads writes seed wait streamers lives reverse calls = None
+
+-- The same by the text that is found of each name.
+abbrev pub run_from : (List ℕ → Option (List ℕ)) → Option RunTexts
+run_from found =
+    texts_from (found (codes "one")) (found (codes "two")) (found (codes "seed")) (found (codes "wait")) (found (codes "streamers")) (found (codes "lives"))
+    (found (codes "reverse")) (found (codes "calls"))

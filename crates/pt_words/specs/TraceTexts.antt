@@ -1,5 +1,5 @@
 -- What is answered of such a command, as texts.
-use Rattle.std.specs.Prelude.{ℕ, List, Option, Some, None, option_map}
+use Rattle.std.specs.Prelude.{ℕ, List, Option, Some, None, option_map, codes}
 use Rattle.pt_words.specs.Trace.{TraceTexts}
 use Rattle.pt_words.specs.declared.trace.Trace.{Trace}
 
@@ -19,3 +19,7 @@ abbrev pub texts_from : Option (List ℕ) → Option (List ℕ) → Option (List
 texts_from (Some threads) (Some writes) (Some text) seed megabytes =
     Some (record { threads = threads; writes = writes; text = text; seed = seed; megabytes = megabytes })
 texts_from threads writes text seed megabytes = None
+
+-- The same by the text that is found of each name.
+abbrev pub trace_from : (List ℕ → Option (List ℕ)) → Option TraceTexts
+trace_from found = texts_from (found (codes "one")) (found (codes "two")) (found (codes "three")) (found (codes "seed")) (found (codes "mb"))

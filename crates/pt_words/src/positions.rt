@@ -68,9 +68,9 @@ fn several_of<'a>(
     alloc: Global,
     matches: &ArgMatches<'a>,
 ) -> Result<Option<Several<'a>>, AllocError>
-    ensures { IfOk result (λ texts. option_map texts_of texts ≡ several_from
-        (first_value (found_of matches.now) (codes "one")) (first_value (found_of matches.now) (codes "two"))
-        (option_map raw_values (matched_of (found_of matches.now) (codes "rest")))) }
+    ensures { let found = found_of matches.now in IfOk result (λ texts. option_map texts_of texts
+        ≡ several_from (first_value found (codes "one")) (first_value found (codes "two"))
+        (option_map raw_values (matched_of found (codes "rest")))) }
 {
     let Some(one) = matches.get_str("one") else {
         return Ok(None);

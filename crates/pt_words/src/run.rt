@@ -1,12 +1,12 @@
 //! The words of a command of two positions with the options `--seed`, `--wait`, `--streamers`, `--lives`, `--reverse` and `--calls`.
-ghost use Rattle.std.specs.Prelude.{◌≡◌, ◌||◌, ◌++◌, ◌∷◌, [], IfOk, map, nat_eq, option_map, codes};
+ghost use Rattle.std.specs.Prelude.{◌≡◌, ◌||◌, ◌++◌, ◌∷◌, [], IfOk, map, nat_eq, option_map};
 ghost use Rattle.std.specs.List.{list_any, starts_with};
 ghost use Rattle.std.specs.Str.{bytes_eq};
 ghost use Rattle.std.specs.String.{string_bytes};
 ghost use Rattle.clap.specs.Words.{found_of, first_value};
 ghost use Rattle.pt_words.specs.Options.{is_foreign, is_known};
 ghost use Rattle.pt_words.specs.Run.{run_in, run_options, common_options, calling_options};
-ghost use Rattle.pt_words.specs.RunTexts.{texts_of, texts_from};
+ghost use Rattle.pt_words.specs.RunTexts.{run_from, texts_of};
 
 use crate::commands::run_words;
 use crate::matches::matches_of;
@@ -46,11 +46,7 @@ pub fn run_texts<'a>(alloc: Global, words: &'a [String]) -> Result<Option<Run<'a
 
 // The texts of the matches, where each position has one.
 fn texts_of<'a>(matches: &ArgMatches<'a>) -> Option<Run<'a>>
-    ensures { option_map texts_of result ≡ texts_from
-        (first_value (found_of matches.now) (codes "one")) (first_value (found_of matches.now) (codes "two"))
-        (first_value (found_of matches.now) (codes "seed")) (first_value (found_of matches.now) (codes "wait"))
-        (first_value (found_of matches.now) (codes "streamers")) (first_value (found_of matches.now) (codes "lives"))
-        (first_value (found_of matches.now) (codes "reverse")) (first_value (found_of matches.now) (codes "calls")) }
+    ensures { option_map texts_of result ≡ run_from (first_value (found_of matches.now)) }
 {
     Some(Run {
         threads: matches.get_str("one")?,

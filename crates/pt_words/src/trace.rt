@@ -4,7 +4,7 @@ ghost use Rattle.std.specs.List.{list_any};
 ghost use Rattle.std.specs.String.{string_bytes};
 ghost use Rattle.clap.specs.Words.{found_of, first_value};
 ghost use Rattle.pt_words.specs.Trace.{is_foreign, is_known, trace_in};
-ghost use Rattle.pt_words.specs.TraceTexts.{texts_of, texts_from};
+ghost use Rattle.pt_words.specs.TraceTexts.{texts_of, trace_from};
 
 use crate::commands::trace_words;
 use crate::matches::matches_of;
@@ -41,10 +41,7 @@ pub fn trace_texts<'a>(alloc: Global, words: &'a [String]) -> Result<Option<Trac
 
 // The texts of the matches, where each position has one.
 fn texts_of<'a>(matches: &ArgMatches<'a>) -> Option<Trace<'a>>
-    ensures { option_map texts_of result ≡ texts_from
-        (first_value (found_of matches.now) (codes "one")) (first_value (found_of matches.now) (codes "two"))
-        (first_value (found_of matches.now) (codes "three"))
-        (first_value (found_of matches.now) (codes "seed")) (first_value (found_of matches.now) (codes "mb")) }
+    ensures { option_map texts_of result ≡ trace_from (first_value (found_of matches.now)) }
 {
     Some(Trace {
         threads: matches.get_str("one")?,

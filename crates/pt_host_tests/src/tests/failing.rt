@@ -1,35 +1,33 @@
 //! Runs of which a link or the dock fails.
-use super::peers::{Request, deaf, sound, unheard};
+use super::peers::{deaf, unheard};
 use super::scene::{Asked, Case, come, lives, run, runs};
 use super::stream::is_part;
+use pt_peers::{JOBS, MOST};
 use std::alloc::{AllocError, Global};
 use std::process::Abort;
 use std::sync::Wait;
 use std::thread::Threads;
 use std::time::Clock as Timer;
 
-const JOBS: Request = Request::Jobs;
-
 // The first link fails at its read, and at its reply; another session gets all.
 #[test]
 fn a_link_that_fails_begins_no_session(rt: HostRuntime) -> Result<(), AllocError> {
-    let most = Request::Most;
     let cases: [Case<'_>; 3] = [
         (
             runs(4, 80, 2),
-            &[unheard(most, 1), sound(JOBS)],
+            &[unheard(MOST, 1), JOBS],
             &[],
             "rows [1-4 80]\nsession 1 of 2: program [1-4 0..80 10+0]\nconnection 1: read fault 0 bytes",
         ),
         (
             runs(4, 80, 2),
-            &[deaf(most, 1, 0), sound(JOBS)],
+            &[deaf(MOST, 1, 0), JOBS],
             &[],
             "rows [1-4 80]\nsession 2 of 2: program [1-4 0..80 10+0]\nconnection 1: write fault 0 bytes",
         ),
         (
             runs(4, 80, 2),
-            &[deaf(most, 2, 0), sound(JOBS)],
+            &[deaf(MOST, 2, 0), JOBS],
             &[],
             "rows [1-4 80]\nsession 2 of 2: program [1-4 0..80 10+0]\nconnection 1: write fault 28 bytes",
         ),
@@ -42,7 +40,7 @@ fn a_link_that_fails_begins_no_session(rt: HostRuntime) -> Result<(), AllocError
 fn a_link_that_fails_ends_its_own_session(rt: HostRuntime) -> Result<(), AllocError> {
     let ended = "rows [1-4 80]\nsession 1 of 1: link\nsession 2 of 2: program [1-4 0..80 10+0]";
     for (keep, bytes) in [(0, 130), (5, 135)] {
-        let peers = [deaf(Request::Most, 3, keep), sound(JOBS)];
+        let peers = [deaf(MOST, 3, keep), JOBS];
         let told = run(&rt, rt.alloc(), runs(4, 80, 2), &peers, &[])?;
         let seen = (
             told.says(ended),
@@ -64,7 +62,7 @@ fn first_that_is_not_made<R: Threads + Wait + Timer + Sync + Abort>(
     sound_run: &str,
 ) -> Result<u64, AllocError> {
     for failing in 3..1_000 {
-        let peers = [deaf(Request::Most, failing, 7), sound(JOBS)];
+        let peers = [deaf(MOST, failing, 7), JOBS];
         let told = run(rt, alloc, asked, &peers, &[])?;
         if told.says(sound_run) {
             return Ok(failing);
@@ -111,7 +109,7 @@ fn a_dock_that_fails_ends_no_session(rt: HostRuntime) -> Result<(), AllocError> 
         (first, &[], &[], "rows [1-1 0]\nthe dock failed"),
         (
             second,
-            &[sound(Request::Most), sound(JOBS)],
+            &[MOST, JOBS],
             &[],
             "rows [1-4 80]\nsession 1 of 1: program [1-4 0..80 40+0]\nthe dock failed",
         ),

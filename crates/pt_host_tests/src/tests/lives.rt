@@ -1,30 +1,30 @@
 //! Runs whose rows serve one thread after another.
 use super::gates::{answered, begun, opened, swept, until, wrote};
-use super::peers::{Request, deaf, sound};
+use super::peers::{STOP, deaf};
 use super::scene::{Case, come, lives};
+use pt_peers::{INFO, JOBS, MOST};
 use std::alloc::AllocError;
 
 // A session is open on each of a row's threads, from its first write to its last.
 #[test]
 fn threads_come_and_go(rt: HostRuntime) -> Result<(), AllocError> {
-    let most = sound(Request::Most);
     let cases: [Case<'_>; 4] = [
         (lives(2, 80, 1, 3), &[], &[], "rows [5-6 80]"),
         (
             lives(2, 80, 1, 3),
-            &[most],
+            &[MOST],
             &[],
             "rows [5-6 80]\nsession 1 of 1: program [1-6 0..80 40+0]",
         ),
         (
             lives(2, 0, 1, 3),
-            &[most],
+            &[MOST],
             &[],
             "rows [5-6 0]\nsession 1 of 1: program [1-6 0..0 0+0]",
         ),
         (
             lives(256, 8, 1, 2),
-            &[most],
+            &[MOST],
             &[],
             "rows [257-512 8]\nsession 1 of 1: program [1-512 0..8 4+0]",
         ),
@@ -34,13 +34,11 @@ fn threads_come_and_go(rt: HostRuntime) -> Result<(), AllocError> {
 
 #[test]
 fn sessions_come_and_end_between_two_threads(rt: HostRuntime) -> Result<(), AllocError> {
-    let most = sound(Request::Most);
-    let jobs = sound(Request::Jobs);
     let cases: [Case<'_>; 3] = [
         // The second session comes once the second threads have made one write each.
         (
             lives(2, 80, 1, 3),
-            &[most, jobs],
+            &[MOST, JOBS],
             &[
                 until(answered(2), begun(3, 0)),
                 until(answered(2), begun(4, 0)),
@@ -52,7 +50,7 @@ fn sessions_come_and_end_between_two_threads(rt: HostRuntime) -> Result<(), Allo
         // The session's role learns of the stop once the first threads have made all their writes.
         (
             lives(2, 80, 1, 2),
-            &[most, sound(Request::Info), sound(Request::Stop)],
+            &[MOST, INFO, STOP],
             &[
                 until(answered(2), wrote(1, 79)),
                 until(answered(2), wrote(2, 79)),
@@ -63,7 +61,7 @@ fn sessions_come_and_end_between_two_threads(rt: HostRuntime) -> Result<(), Allo
         // The first write behind its stream's start is made once they have, and fails.
         (
             lives(2, 80, 2, 2),
-            &[deaf(Request::Most, 3, 0), jobs],
+            &[deaf(MOST, 3, 0), JOBS],
             &[
                 until(begun(1, 0), swept(1, 0)),
                 until(begun(2, 0), swept(1, 0)),

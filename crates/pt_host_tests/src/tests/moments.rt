@@ -1,14 +1,13 @@
 //! Runs whose threads wait for one another. Each ends only where none of them waits in vain.
 use super::gates::{answered, begun, often, swept, until, wrote};
-use super::peers::{Request, sound};
+use super::peers::WEB;
 use super::scene::{Case, come, run, runs};
 use super::stream::points_in;
+use pt_peers::{JOBS, MOST};
 use std::alloc::AllocError;
 
 #[test]
 fn threads_do_not_wait_for_one_another(rt: HostRuntime) -> Result<(), AllocError> {
-    let most = sound(Request::Most);
-    let jobs = sound(Request::Jobs);
     let cases: [Case<'_>; 3] = [
         // Two threads are in a write at once.
         (
@@ -20,7 +19,7 @@ fn threads_do_not_wait_for_one_another(rt: HostRuntime) -> Result<(), AllocError
         // A session is swept twice while its thread is in a write.
         (
             runs(1, 100, 1),
-            &[most],
+            &[MOST],
             &[often(until(begun(1, 50), swept(1, 0)), 2)],
             "rows [1-1 100]\nsession 1 of 1: program [1-1 0..100 50+0]",
         ),
@@ -28,7 +27,7 @@ fn threads_do_not_wait_for_one_another(rt: HostRuntime) -> Result<(), AllocError
         // three of 80, 80 and 96 bytes.
         (
             runs(1, 40_000, 3),
-            &[most, jobs, sound(Request::Web)],
+            &[MOST, JOBS, WEB],
             &[
                 until(begun(1, 0), swept(3, 0)),
                 until(swept(3, 0), wrote(1, 39_999)),
@@ -42,7 +41,7 @@ fn threads_do_not_wait_for_one_another(rt: HostRuntime) -> Result<(), AllocError
 // Each session has a place on both rows, and the next one finds no slot.
 #[test]
 fn the_65th_session_finds_no_slot(rt: HostRuntime) -> Result<(), AllocError> {
-    let peers = [sound(Request::Jobs); 65];
+    let peers = [JOBS; 65];
     let holds = [until(wrote(1, 0), answered(65))];
     let told = run(&rt, rt.alloc(), runs(2, 8, 64), &peers, &holds)?;
     let mut wanted = String::from_str(rt.alloc(), "rows [1-2 8]")?;
@@ -59,9 +58,9 @@ fn the_65th_session_finds_no_slot(rt: HostRuntime) -> Result<(), AllocError> {
 #[test]
 fn one_of_three_sessions_is_spent_by_four_threads(rt: HostRuntime) -> Result<(), AllocError> {
     let peers = [
-        sound(Request::Most),
-        sound(Request::Jobs),
-        sound(Request::Web),
+        MOST,
+        JOBS,
+        WEB,
     ];
     let holds = [
         until(begun(1, 0), swept(3, 0)),
@@ -94,7 +93,7 @@ fn a_session_is_swept_beside_its_thread(rt: HostRuntime) -> Result<(), AllocErro
         &rt,
         rt.alloc(),
         runs(1, 100, 1),
-        &[sound(Request::Most)],
+        &[MOST],
         &holds,
     )?;
     let seen = (

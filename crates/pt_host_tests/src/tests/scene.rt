@@ -3,14 +3,14 @@ ghost use Rattle.std.specs.Prelude.{IsTrue};
 ghost use Rattle.ep_defs.specs.Session.{is_valid_facts};
 
 use super::gates::{Hold, Holds};
-use super::peers::{Peer, links_of};
 use super::text::put_end;
 use super::watched::{WatchedDock, WatchedLink};
 use ep_defs::limits::{SESSIONS, THREADS, WRITES};
-use ep_defs::{Facts, Items, Marks, standard_info};
+use ep_defs::{Facts, Marks};
 use pt_host::run_live;
 use pt_io::{MemDock, StepClock};
 use pt_load::Plan;
+use pt_peers::{Peer, facts_of, links_of};
 use pt_roles::{LIVES, LiveEnd, LiveOptions, LiveSession};
 use std::alloc::{AllocError, Global};
 use std::process::Abort;
@@ -125,20 +125,6 @@ fn dock_of<'g>(
     let links = links_of(alloc, peers)?;
     let fails = [asked.failing_turn].to_vec(alloc)?;
     Ok(WatchedDock::new(MemDock::new(links, 0, fails), gate))
-}
-
-// What the program says of itself.
-fn facts_of(alloc: Global) -> Facts
-    ensures { IsTrue (is_valid_facts result) }
-{
-    Facts {
-        process_id: 7,
-        cookie: [1; 16],
-        command_line: Items::new(Vec::new(alloc)),
-        system: Items::new(Vec::new(alloc)),
-        arch: Items::new(Vec::new(alloc)),
-        info: standard_info(1, 1),
-    }
 }
 
 // The call alone.

@@ -1,26 +1,24 @@
 //! Runs whose session is stopped.
 use super::gates::{answered, begun, late, late_as, swept, until, until_turn, wrote};
-use super::peers::{Request, sound};
+use super::peers::STOP;
 use super::scene::{Case, come, run, runs};
+use pt_peers::{JOBS, MOST};
 use std::alloc::AllocError;
 
 // A session that is stopped within its threads' writes was open on each from the first write on.
 #[test]
 fn a_session_is_stopped_while_its_threads_write(rt: HostRuntime) -> Result<(), AllocError> {
-    let most = sound(Request::Most);
-    let jobs = sound(Request::Jobs);
-    let stop = sound(Request::Stop);
     let cases: [Case<'_>; 2] = [
         (
             runs(2, 10, 1),
-            &[most, stop],
+            &[MOST, STOP],
             &[until(wrote(1, 5), answered(2))],
             "rows [1-2 10]\nsession 1 of 1: stopped by 2 [1-*\nconnection 2: stops 1 28 bytes",
         ),
         // The other session goes on.
         (
             runs(2, 16, 2),
-            &[most, jobs, stop],
+            &[MOST, JOBS, STOP],
             &[until(wrote(1, 5), answered(3))],
             "rows [1-2 16]\nsession 1 of 1: stopped by 3 [1-*\nsession 2 of 2: program [1-2 0..16 2+0]\nconnection 3: stops 1 28 bytes",
         ),
@@ -36,21 +34,18 @@ fn a_session_is_stopped_while_its_threads_write(rt: HostRuntime) -> Result<(), A
 fn a_session_is_stopped_before_and_behind_its_threads_writes(
     rt: HostRuntime,
 ) -> Result<(), AllocError> {
-    let most = sound(Request::Most);
-    let jobs = sound(Request::Jobs);
-    let stop = sound(Request::Stop);
     let cases: [Case<'_>; 3] = [
         // Before any write. It counts among those that are waited for, though it has ended.
         (
             runs(2, 16, 2),
-            &[most, stop, jobs],
+            &[MOST, STOP, JOBS],
             &[late_as(3, 1)],
             "rows [1-2 16]\nsession 1 of 1: stopped by 2 [1-2 0..0 0+0]\nsession 2 of 3: program [1-2 0..16 2+0]\nconnection 2: stops 1 28 bytes",
         ),
         // Behind the last write, before its role knows of the program's end.
         (
             runs(2, 16, 1),
-            &[most, stop],
+            &[MOST, STOP],
             &[
                 until_turn(begun(1, 0), 2),
                 until(begun(1, 0), swept(1, 0)),
@@ -63,7 +58,7 @@ fn a_session_is_stopped_before_and_behind_its_threads_writes(
         // Once it has ended with the program.
         (
             runs(2, 16, 1),
-            &[most, stop],
+            &[MOST, STOP],
             &[until_turn(begun(1, 0), 2), late_as(2, 1)],
             "rows [1-2 16]\nsession 1 of 1: program [1-2 0..16 8+0]\nconnection 2: error 80004005 24 bytes",
         ),

@@ -1,7 +1,8 @@
 //! Whole runs, whose links take all that is written.
-use super::peers::{Request, sound};
+use super::peers::STOP;
 use super::scene::{Asked, Case, come, run, runs};
 use super::stream::described_in;
+use pt_peers::{INFO, JOBS, MOST};
 use std::alloc::AllocError;
 
 const BOTH: &str =
@@ -10,10 +11,6 @@ const BOTH: &str =
 // A session gets of each thread what its rules admit, whatever the number of streaming roles is.
 #[test]
 fn sessions_get_what_their_rules_admit(rt: HostRuntime) -> Result<(), AllocError> {
-    let most = sound(Request::Most);
-    let jobs = sound(Request::Jobs);
-    let stop = sound(Request::Stop);
-    let info = sound(Request::Info);
     let alone = Asked {
         streamers: 1,
         ..runs(2, 16, 2)
@@ -26,15 +23,15 @@ fn sessions_get_what_their_rules_admit(rt: HostRuntime) -> Result<(), AllocError
         (runs(1, 0, 1), &[], &[], "rows [1-1 0]"),
         (
             runs(4, 10_000, 2),
-            &[most, jobs],
+            &[MOST, JOBS],
             &[],
             "rows [1-4 10000]\nsession 1 of 1: program [1-4 0..10000 5000+0]\nsession 2 of 2: program [1-4 0..10000 1250+0]",
         ),
-        (alone, &[most, jobs], &[], BOTH),
-        (apart, &[most, jobs], &[], BOTH),
+        (alone, &[MOST, JOBS], &[], BOTH),
+        (apart, &[MOST, JOBS], &[], BOTH),
         (
             runs(1, 8, 1),
-            &[info, stop, most],
+            &[INFO, STOP, MOST],
             &[],
             "rows [1-1 8]\nsession 1 of 3: program [1-1 0..8 4+0]\nconnection 1: info 62 bytes\nconnection 2: error 80004005 24 bytes",
         ),
@@ -46,8 +43,8 @@ fn sessions_get_what_their_rules_admit(rt: HostRuntime) -> Result<(), AllocError
 #[test]
 fn a_session_with_a_rundown_describes_what_it_used(rt: HostRuntime) -> Result<(), AllocError> {
     let alloc = rt.alloc();
-    let most = run(&rt, alloc, runs(2, 16, 1), &[sound(Request::Most)], &[])?;
-    let jobs = run(&rt, alloc, runs(2, 16, 1), &[sound(Request::Jobs)], &[])?;
+    let most = run(&rt, alloc, runs(2, 16, 1), &[MOST], &[])?;
+    let jobs = run(&rt, alloc, runs(2, 16, 1), &[JOBS], &[])?;
     let described = (
         described_in(alloc, &most.taken),
         described_in(alloc, &jobs.taken),
@@ -59,8 +56,8 @@ fn a_session_with_a_rundown_describes_what_it_used(rt: HostRuntime) -> Result<()
 // Nobody is let in behind them, so the threads wait for no session more, and the session that is there goes on to its end.
 #[test]
 fn a_run_takes_500_connections(rt: HostRuntime) -> Result<(), AllocError> {
-    let mut peers = [sound(Request::Info); 501];
-    peers[0] = sound(Request::Jobs);
+    let mut peers = [INFO; 501];
+    peers[0] = JOBS;
     let told = run(&rt, rt.alloc(), runs(2, 8, 2), &peers, &[])?;
     let mut wanted = String::from_str(
         rt.alloc(),

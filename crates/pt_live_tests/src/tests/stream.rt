@@ -7,6 +7,7 @@ ghost use Rattle.ep_defs.specs.Session as valid;
 ghost use Rattle.ep_rundown.specs.Rundown.{lacks_rundown};
 ghost use Rattle.ep_guarded.specs.Granted.{IsGrantFor};
 ghost use Rattle.ep_live.specs.Made.{AreHandTies, AreStands};
+ghost use Rattle.ep_live.specs.declared.limits.TheConstants.{ROW_TIES};
 ghost use Rattle.pt_stream.specs.State.{first_seat};
 ghost use Rattle.pt_live_tests.specs.Tests.{HasLeft, IsAt, IsProgram};
 
@@ -15,7 +16,7 @@ use ep_defs::{
     Config, EventDef, Items, MarkList, Marks, Rule, TraceInfo, Units, Write, standard_info,
 };
 use ep_guarded::{Agreed, Grant, Program};
-use ep_live::{Ended, Free, Live, free_slots};
+use ep_live::{Ended, Free, Live, ROW_TIES, free_slots};
 use ep_pool::{Pool, PoolSeat};
 use ep_rundown::rundown_def;
 use ep_stream::{Fate, SessionEnd};
@@ -341,8 +342,7 @@ impl<'r, 'a, P: Run, R: Wait + Abort> Scene<'r, 'a, P, R> {
         stream: Stream<'a, P, MemSink>,
         first: &mut Right<P, Agreed<'a>>,
     ) -> Stream<'a, P, MemSink>
-        requires two { P.rows ≡ 2 }
-        requires lives { P.setting.lives ≡ 2 }
+        requires rows { (P.rows ≡ 2) × (P.setting.lives ≡ 2) }
         requires program { IsProgram P.events P.writes TURNS self.now.write.now }
         requires first { IsAt 0 1 0 first.old }
         ensures stands { result.stands ≡ stream.entry.stands }
@@ -363,8 +363,7 @@ impl<'r, 'a, P: Run, R: Wait + Abort> Scene<'r, 'a, P, R> {
         stream: Stream<'a, P, MemSink>,
         first: &mut Right<P, Agreed<'a>>,
     ) -> Stream<'a, P, MemSink>
-        requires two { P.rows ≡ 2 }
-        requires lives { P.setting.lives ≡ 2 }
+        requires rows { (P.rows ≡ 2) × (P.setting.lives ≡ 2) }
         requires program { IsProgram P.events P.writes TURNS self.now.write.now }
         requires lent { stream.stands ≡ None }
         requires first { IsAt 0 1 2 first.old }
@@ -423,31 +422,41 @@ fn slot_three<'a, P: Program, R: Abort>(
     slots.swap_remove(3)
 }
 
-// A session over both rows, which is stopped in the second life of the first.
-fn middle<'a, P: Run, R: Wait + Abort>(
-    rt: &R,
-    alloc: Global,
+// What a session over both rows is made of, and what each thread writes.
+#[derive(Drop)]
+struct Given<'g, 'a> {
     blank: Blank<Agreed<'a>>,
     events: Vec<EventDef>,
-    write: &Write,
-    info: &TraceInfo,
+    write: &'g Write,
+    info: &'g TraceInfo,
     grant: &'a Grant,
     pool: PoolSeat,
     sink: MemSink,
-    reply: &[u8],
-) -> Told
-    requires ties { blank.ties ≡ P.ties }
-    requires places { blank.places ≡ 258 }
-    requires two { P.rows ≡ 2 }
-    requires events { events.items ≡ P.events }
-    requires program { IsProgram P.events P.writes TURNS write.now }
-    requires lives { P.setting.lives ≡ 2 }
-    requires info { info.now ≡ P.setting.info }
-    requires granted { IsGrantFor P.events grant.now }
-    requires seat { pool ≡ first_seat grant.now.pool 3 }
-    requires before { sink.taken ++ reply.now ≡ P.setting.before 5 }
-    requires faults { sink.faults ≡ P.setting.faults 5 }
+    reply: &'g [u8],
+}
+
+// A session over both rows, which is stopped in the second life of the first.
+fn middle<'a, P: Run, R: Wait + Abort>(rt: &R, alloc: Global, given: Given<'_, 'a>) -> Told
+    requires ties { (given.blank.ties ≡ P.ties) × (given.blank.places ≡ 2 + ROW_TIES * 2) }
+    requires rows { (P.rows ≡ 2) × (P.setting.lives ≡ 2) }
+    requires events { given.events.items ≡ P.events }
+    requires program { IsProgram P.events P.writes TURNS given.write.now }
+    requires info { given.info.now ≡ P.setting.info }
+    requires granted { IsGrantFor P.events given.grant.now }
+    requires seat { given.pool ≡ first_seat given.grant.now.pool 3 }
+    requires before { given.sink.taken ++ given.reply.now ≡ P.setting.before 5 }
+    requires faults { given.sink.faults ≡ P.setting.faults 5 }
 {
+    let Given {
+        blank,
+        events,
+        write,
+        info,
+        grant,
+        pool,
+        sink,
+        reply,
+    } = given;
     let (live, threads, hands) = Live::<P>::new(alloc, blank, 2, events).expect(rt, MEMORY);
     let (mut first, mut second) = threads_of_two(threads);
     let accepted = Accepted {
@@ -481,18 +490,18 @@ fn run<R: Wait + Abort>(rt: &R, alloc: Global, fails: Vec<u64>) -> Told {
     let asked = config(alloc).expect(rt, MEMORY);
     let grant = Grant::new(alloc, asked, pool, events.as_slice()).expect(rt, MEMORY);
     let write = write(alloc);
-    middle::<Brand, _>(
-        rt,
-        alloc,
-        Blank::new(alloc, 258).expect(rt, MEMORY),
+    let info = standard_info(1, 1);
+    let given = Given {
+        blank: Blank::new(alloc, 2 + ROW_TIES as u32 * 2).expect(rt, MEMORY),
         events,
-        &write,
-        &standard_info(1, 1),
-        &grant,
-        seat,
-        MemSink::new(fails),
-        REPLY,
-    )
+        write: &write,
+        info: &info,
+        grant: &grant,
+        pool: seat,
+        sink: MemSink::new(fails),
+        reply: REPLY,
+    };
+    middle::<Brand, _>(rt, alloc, given)
 }
 
 // ---- what is tried

@@ -1,7 +1,8 @@
 //! What the program's one call comes to with the other words, and what it leaves alone.
-use super::peers::{INFO, PROGRAM, Peer};
+use super::peers::PROGRAM;
 use super::scene::{Asked, run, words};
 use pt_command::status;
+use pt_peers::{INFO, Peer};
 use std::test::Fail;
 
 /// Words, whom a client finds where it calls, the status, what is written, and whether somebody is left whom it could have

@@ -1,14 +1,11 @@
 //! What the program's one call has around it in the tests, all of it in memory, and what it comes to.
-ghost use Rattle.std.specs.Prelude.{IsTrue};
-ghost use Rattle.ep_defs.specs.Session.{is_valid_facts};
-
-use super::peers::{Peer, caller_of, dock_of};
+use super::peers::{caller_of, dock_of};
 use super::texts::words_of;
-use ep_defs::{Facts, Items, standard_info};
 use pt_cli::{Finished, tracepipe};
 use pt_io::{
     Arrival, Caller, Dock, MemCaller, MemDock, MemLink, MemSink, MemSource, OpenGate, StepClock,
 };
+use pt_peers::{Peer, facts_of};
 use std::alloc::{AllocError, Global};
 use std::sync::Wait;
 use std::thread::Threads;
@@ -87,20 +84,6 @@ fn outside_of(alloc: Global, asked: &Asked<'_>) -> Result<Outside, AllocError> {
         dock: dock_of(alloc, asked.peers, asked.failing_turn)?,
         caller: caller_of(alloc, asked.called)?,
     })
-}
-
-// What the program says of itself.
-fn facts_of(alloc: Global) -> Facts
-    ensures { IsTrue (is_valid_facts result) }
-{
-    Facts {
-        process_id: 7,
-        cookie: [1; 16],
-        command_line: Items::new(Vec::new(alloc)),
-        system: Items::new(Vec::new(alloc)),
-        arch: Items::new(Vec::new(alloc)),
-        info: standard_info(1, 1),
-    }
 }
 
 // The call alone.

@@ -18,3 +18,12 @@ pub(super) fn words_of(alloc: Global, words: &str) -> Result<Vec<String>, AllocE
     }
     Ok(owned)
 }
+
+/// The parts of a text, one after another.
+pub(super) fn joined(alloc: Global, parts: &[&str]) -> Result<Vec<u8>, AllocError> {
+    let mut text = Vec::new(alloc);
+    for part in parts {
+        text.extend_from_slice(part.as_bytes())?;
+    }
+    Ok(text)
+}

@@ -1,7 +1,7 @@
 -- What the command comes to that the words mean.
 use Rattle.std.proofs.Common.{Option, subst, ◌∙◌}
 use Rattle.pt_cli.specs.declared.words.Command.{Command}
-use Rattle.pt_cli.specs.Program.{Around, HasFaults}
+use Rattle.pt_cli.specs.Program.{Around, HasFaults, around_of}
 use Rattle.pt_command.specs.declared.end.End.TheVariants as ends
 use Rattle.pt_cli.proofs.Causes.{comes-faults}
 use Rattle.pt_cli.proofs.Nothing.{ungreeted, unlisted, unran}
@@ -42,23 +42,8 @@ returns-in-Ok-clause-faults g c =
     let comes = c.carry_out.ensures.comes in
     let Faults : Option Command → Type 0 =
     λ asked. HasFaults g.I.Source g.O.Sink asked c.args.input.now c.carry_out.new.input c.args.output.now c.carry_out.new.output comes.0 in
-    let result = c.carry_out.result in
     let around : Around g.row.I.Denot g.row.O.Denot g.row.D.Denot g.row.K.Denot g.row.L.Denot =
-    record {
-      input_old = c.args.input.now;
-      input_new = c.carry_out.new.input;
-      output_old = c.args.output.now;
-      output_new = c.carry_out.new.output;
-      dock_old = c.args.dock.now;
-      dock_new = c.carry_out.new.dock;
-      caller_old = c.args.caller.now;
-      caller_new = c.carry_out.new.caller;
-      peer = result.peer;
-      rows = result.rows.items;
-      seat = result.seat;
-      marks = result.marks;
-      live = result.live;
-    } in
+    around_of c.args.input.now c.carry_out.new.input c.args.output.now c.carry_out.new.output c.args.dock.now c.carry_out.new.dock c.args.caller.now c.carry_out.new.caller c.carry_out.result in
     (comes.0, comes.1, subst Faults c.in-Ok.ensures.meant (comes-faults g.I.Source g.O.Sink g.D.Dock g.K.Caller g.L.Source g.L.Sink g.L.Sink.read_side g.L.Source.write_side c.args.facts.now c.in-Ok.command around comes.0 comes.2 c.carry_out.ensures.alone.unread))
 
 -- Where the words found no memory nothing was listed.

@@ -4,7 +4,7 @@ use Rattle.pt_load.specs.declared.plan.Plan.{Plan}
 use Rattle.pt_stream.specs.Setting.{Setting}
 use Rattle.pt_stream.specs.State.{AreEvents}
 use Rattle.pt_roles.specs.declared.options.LiveOptions.{LiveOptions}
-use Rattle.pt_roles.proofs.Load.{count-writes}
+use Rattle.pt_writers.proofs.Load.{count-writes}
 use Rattle.pt_host.proofs.run.scene.Goals as goal
 
 pub invariant_of-result : goal.invariant_of-result

@@ -20,11 +20,11 @@ new-finale-requires-clause-ended g c =
     let fact : IsEnd {L = g.row.L.Denot} g.L.Sink.read_side g.L.Sink world session = is-end g.L.Sink.read_side g.L.Sink _ (λ s. refl) (λ s. refl) (λ s. refl) (λ s. refl) world g.W.Program.rows g.W.Program.events g.W.Program.writes g.W.Run.setting g.W.Process.facts g.W.Process.greeting c.args.stream c.args.fate c.end-end.result.0 session
     c.args.scene.now.is_world
     (c.a_traced_stream_is_found.ensures sample session.config (writes_of world.plan)) (c.a_part_is_found.ensures sample session.config (writes_of world.plan)) c.sample_events_are_valid.ensures.lacks
-    c.requires.last.asked c.requires.own.1 c.requires.complete c.requires.done c.end-end.ensures.ended c.session_of-session.ensures.left spent
+    c.requires.own_stream.asked c.requires.own.1 c.requires.complete c.requires.done c.end-end.ensures.ended c.session_of-session.ensures.left spent
     in
     search (rules, fact)
 
 pub end-requires-clause-over : goal.end-requires-clause-over
 end-requires-clause-over g c κs within =
     is-over g.L.Sink.read_side g.L.Sink _ (λ s. refl) (λ s. refl) g.W.World.world g.W.Program.rows g.W.Program.events g.W.Program.writes g.W.Run.setting g.W.Process.facts g.W.Process.greeting c.args.holder c.args.stream c.args.fate c.end-end.result.0 c.session_of-session.result c.new-finale.result c.fate_as-fate.result
-    c.args.scene.now.is_world c.requires.complete c.requires.last c.end-end.ensures.ended c.session_of-session.ensures.left c.fate_as-fate.ensures c.new-finale.ensures
+    c.args.scene.now.is_world c.requires.complete c.requires.own_stream c.end-end.ensures.ended c.session_of-session.ensures.left c.fate_as-fate.ensures c.new-finale.ensures

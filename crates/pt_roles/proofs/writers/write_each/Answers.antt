@@ -1,7 +1,7 @@
 use Rattle.std.proofs.Common.{◌-◌, ◌<◌, length, refl, subst, arith, rules, of_calls}
 use Rattle.std.proofs.lemmas.Option.{slice_get_read}
 use Rattle.pt_roles.specs.Writers.{StandsAt}
-use Rattle.pt_roles.proofs.Lists.{each-within}
+use Rattle.pt_writers.proofs.Lists.{each-within}
 use Rattle.pt_roles.proofs.writers.write_each.Goals as goal
 
 pub for_each_mut-requires-clause-accepts : goal.for_each_mut-requires-clause-accepts

@@ -1,6 +1,6 @@
 use Rattle.std.proofs.Common.{◌≡◌, ◌≤◌, length}
 use Rattle.std.specs.Prelude.{vec_len, vec_capacity}
-use Rattle.pt_roles.specs.Writers.{AreReady}
+use Rattle.pt_roles.specs.Writers.{HaveYetToWrite}
 use Rattle.pt_roles.proofs.writers.writers_of.Given as goal
 
 -- the writers so far
@@ -9,5 +9,5 @@ invariant-loop-half g l =
     record {
       count : vec_len l.writers ≡ length l.yielded;
       room : vec_capacity l.initial.writers ≤ vec_capacity l.writers;
-      each : AreReady g.P.World.world.plan g.P.World.world.options.lives l.writers.items;
+      each : HaveYetToWrite g.P.World.world.plan g.P.World.world.options.lives l.writers.items;
     }

@@ -4,4 +4,4 @@ use Rattle.pt_run.proofs.command.run_at.Goals as goal
 
 pub told-end-requires : goal.told-end-requires
 told-end-requires g c =
-    record { few = sessions-few g.L.Sink.read_side g.L.Sink _ c.in-Ok.live.sessions.items c.requires.asked.plan.few c.requires.asked.lives.1 c.in-Ok.ensures.ran.each }
+    record { few = sessions-few g.L.Sink.read_side g.L.Sink _ c.in-Ok.live.sessions.items c.requires.plan.few c.requires.lives.1 c.in-Ok.ensures.ran.each }

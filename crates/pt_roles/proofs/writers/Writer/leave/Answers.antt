@@ -4,7 +4,7 @@ use Rattle.ep_guarded.specs.declared.agreed.Stand.{Stand}
 use Rattle.ep_guarded.specs.Tied.{stand_in, thread_of}
 use Rattle.ep_live.proofs.Pushing.{same}
 use Rattle.pt_roles.specs.Writers.{WriterState}
-use Rattle.pt_roles.proofs.Load.{count-writes}
+use Rattle.pt_writers.proofs.Load.{count-writes}
 use Rattle.pt_roles.proofs.writers.Writer.leave.Goals as goal
 
 pub leave-requires-clause-all : goal.leave-requires-clause-all

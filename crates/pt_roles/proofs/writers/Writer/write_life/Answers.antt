@@ -9,7 +9,7 @@ use Rattle.pt_load.specs.Shape.{Drafted}
 use Rattle.pt_load.specs.declared.plan.Plan.{Plan}
 use Rattle.pt_roles.specs.Writers.{IsAt, WriterState, drafted, drafts_from}
 use Rattle.pt_roles.proofs.Lives.{drafts-next, drafts-some, snoc-same}
-use Rattle.pt_roles.proofs.Load.{write-at}
+use Rattle.pt_writers.proofs.Load.{write-at}
 use Rattle.pt_roles.proofs.writers.Writer.write_life.Goals as goal
 
 pub next-draft-requires : goal.next-draft-requires

@@ -1,8 +1,8 @@
 use Rattle.std.specs.Prelude.{is_ok}
 use Rattle.std.proofs.lemmas.Result.{IfOk-at_ok}
 use Rattle.pt_io.specs.Memory.{IsUnused}
-use Rattle.pt_host_tests.proofs.Links.{links-pushed}
-use Rattle.pt_host_tests.proofs.tests.peers.links_of.Goals as goal
+use Rattle.pt_peers.proofs.Links.{links-pushed}
+use Rattle.pt_peers.proofs.peer.links_of.Goals as goal
 
 pub loop-peer-preserved : goal.loop-peer-preserved
 loop-peer-preserved c =

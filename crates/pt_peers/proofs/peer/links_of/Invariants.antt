@@ -1,6 +1,6 @@
 use Rattle.std.specs.List.{All}
 use Rattle.pt_io.specs.Memory.{IsUnused}
-use Rattle.pt_host_tests.proofs.tests.peers.links_of.Given as goal
+use Rattle.pt_peers.proofs.peer.links_of.Given as goal
 
 -- the links so far
 abbrev pub invariant-loop-peer : goal.invariant-loop-peer

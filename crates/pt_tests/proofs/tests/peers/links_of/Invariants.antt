@@ -1,7 +1,0 @@
-use Rattle.std.specs.List.{All}
-use Rattle.pt_io.specs.Memory.{IsUnused}
-use Rattle.pt_tests.proofs.tests.peers.links_of.Given as goal
-
--- the links so far
-abbrev pub invariant-loop-peer : goal.invariant-loop-peer
-invariant-loop-peer l = All IsUnused l.links.items
