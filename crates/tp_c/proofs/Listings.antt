@@ -1,6 +1,6 @@
 -- The counts of threads, listed in the threads' order.
-use Rattle.std.proofs.Common.{◌≡◌, ℕ, ◌<◌, Bool, true, false, cond, eqb, inl, inr, List, [], ◌∷◌, length, Option, Some, None, Result, Ok, Err, refl, ap, sym, subst, ◌∙◌, arith}
-use Rattle.std.proofs.lemmas.Bool.{cases_Bool, eqb-true, false≢true, true≢false, lt-ltb, ltb-false}
+use Rattle.std.proofs.Common.{◌≡◌, ℕ, ◌<◌, Bool, true, false, cond, eqb, inl, inr, List, [], ◌∷◌, length, Option, Some, None, refl, ap, sym, subst, ◌∙◌, arith}
+use Rattle.std.proofs.lemmas.Bool.{cases_Bool, eqb-true, false≢true, lt-ltb, ltb-false}
 use Rattle.std.specs.BTreeMap.{is_at}
 use Rattle.std.specs.Cmp.{unsigned_tied}
 use Rattle.std.specs.List.{list_any}
@@ -8,21 +8,9 @@ use Rattle.std.specs.List.Sorted.{IsStrictlySortedBy}
 use Rattle.std.specs.Map.{keys_of}
 use Rattle.std.specs.Option.{IsSome}
 use Rattle.std.specs.Ordering.{nat_cmp}
-use Rattle.std.specs.Prelude.{◌||◌, nat_lt, unwrap_or, is_err, OnOk, OnErr}
+use Rattle.std.specs.Prelude.{◌||◌, nat_lt, unwrap_or}
 use Rattle.tp_c.specs.Counting.{told_of}
 use Rattle.tp_c.specs.Listed.{count_at, listed, AreListed}
-
--- ---- a call that is asked for its error
-
--- What holds where there is none.
-pub where-ok : {A E P : Type 0} (result : Result A E) → is_err result ≡ false → OnOk result P → P
-where-ok (Ok x) e p = p
-where-ok (Err x) e p = absurd (true≢false e)
-
--- What holds where there is one.
-pub where-err : {A E P : Type 0} (result : Result A E) → is_err result ≡ true → OnErr result P → P
-where-err (Ok x) e p = absurd (false≢true e)
-where-err (Err x) e p = p
 
 -- ---- the list
 
@@ -70,6 +58,12 @@ told-seen counts threads seen thread count view all is =
     ∙ told-listed counts threads thread
     ∙ ap (λ (b : Bool). cond b (Some (count_at counts thread)) None) (all thread)
     ∙ ap (λ (n : ℕ). cond (nat_lt 0 n) (Some n) None) (sym is)
+
+-- A thread that has a count is told of.
+pub told-some : (counts : ℕ → Option ℕ) (threads : List ℕ) (seen : List (ℕ × ℕ)) (thread : ℕ) → listed counts threads ≡ seen → AreListed counts threads → 0 < count_at counts thread → told_of thread seen ≡ Some (count_at counts thread)
+told-some counts threads seen thread view all some =
+    let count : ℕ = count_at counts thread in
+    told-seen counts threads seen thread count view all refl ∙ ap (λ (b : Bool). cond b (Some count) None) (lt-ltb 0 count some)
 
 -- A thread of which something is told is among them.
 pub told-among : (counts : ℕ → Option ℕ) (threads : List ℕ) (seen : List (ℕ × ℕ)) (thread : ℕ) → listed counts threads ≡ seen → IsSome (told_of thread seen) → is_among thread threads ≡ true

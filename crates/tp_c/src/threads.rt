@@ -1,7 +1,7 @@
 //! How many events each thread has.
 //!
 //! A count is found in a few steps, whichever thread writes; the threads themselves stand in order beside the counts.
-ghost use Rattle.std.specs.Prelude.{◌≡◌, ℕ, ◌+◌, ◌^◌, ◌<◌, ◌≤◌, List, Some, None, Err, [], length, nat_lt, IsSome, IfOk, OnOk, OnErr, ◌==◌, if◌then◌else◌};
+ghost use Rattle.std.specs.Prelude.{◌≡◌, ℕ, ◌+◌, ◌^◌, ◌<◌, ◌≤◌, List, Some, None, Err, [], length, nat_lt, IsSome, IfOk, IfSome, OnOk, OnErr, ◌==◌, if◌then◌else◌};
 ghost use Rattle.std.specs.BTreeSet.{btree_set_len, IsOrdered, keys};
 ghost use Rattle.std.specs.List.Sorted.{IsStrictlySortedBy};
 ghost use Rattle.std.specs.Map.{keys_of};
@@ -61,6 +61,9 @@ impl Threads {
         ensures ascending { OnOk result (IsStrictlySortedBy nat_cmp (keys_of self.new)) }
         ensures same { OnErr result (self.new ≡ self.old) }
     {
+        if let Some(number) = one_more(&mut self.counts, thread) {
+            return Ok(number);
+        }
         let count = self.events_of(thread);
         if count == 0 {
             return self.enter(thread);
@@ -71,7 +74,7 @@ impl Threads {
     }
 
     // How many events a thread has.
-    #[inline(always)]
+    #[inline(never)]
     fn events_of(&self, thread: u64) -> u32
         ensures { told_of thread self.now ≡ (if nat_lt 0 result then Some result else None) }
     {
@@ -79,7 +82,7 @@ impl Threads {
     }
 
     // Sets how many events a thread has that has some.
-    #[inline(always)]
+    #[inline(never)]
     fn set(&mut self, thread: u64, count: u32)
         requires some { IsSome (told_of thread self.old) }
         requires positive { 0 < count }
@@ -108,11 +111,13 @@ impl Threads {
             return Err(Refusal::TooManyThreads);
         }
         self.counts.insert(thread, 0)?;
-        if self.threads.insert(thread).is_err() {
-            return Err(Refusal::OutOfMemory);
+        match self.threads.insert(thread) {
+            Ok(_) => {
+                self.counts.set(thread, 1);
+                Ok(1)
+            }
+            Err(_) => Err(Refusal::OutOfMemory),
         }
-        self.counts.set(thread, 1);
-        Ok(1)
     }
 
     /// The threads with their counts, in ascending order.
@@ -123,6 +128,37 @@ impl Threads {
     {
         in_order(alloc, &self.counts, &self.threads)
     }
+}
+
+// Counts one event more of a thread that has some, where its count is found at once and can be one more, and answers its
+// number.
+#[inline(always)]
+fn one_more(counts: &mut ById<u32>, thread: u64) -> Option<u32>
+    ensures some { IfSome result (λ number. 0 < count_at (value_at counts.old) thread) }
+    ensures number { IfSome result (λ number. number ≡ count_at (value_at counts.old) thread + 1) }
+    ensures put { IfSome result (λ number. (other : ℕ) → value_at counts.new other
+        ≡ (if thread == other then Some number else value_at counts.old other)) }
+    ensures same { result ≡ None → counts.new ≡ counts.old }
+{
+    if counts.is_in_row(thread) {
+        let number = next(*counts.in_row(thread))?;
+        counts.set_in_row(thread, number);
+        return Some(number);
+    }
+    let place = counts.other_at_once(thread)?;
+    let number = next(*counts.other(place))?;
+    let _ = counts.replace_other(place, number);
+    Some(number)
+}
+
+// The number of the next event of a thread that has this many, if it has some and can have one more.
+fn next(count: u32) -> Option<u32>
+    ensures { IfSome result (λ number. (0 < count) × (number ≡ count + 1)) }
+{
+    if count == 0 {
+        return None;
+    }
+    count.checked_add(1)
 }
 
 // The count of a thread, 0 where it has none.
