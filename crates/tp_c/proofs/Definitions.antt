@@ -1,7 +1,9 @@
 -- Definitions that are numbered as they come, each of them once.
 use Rattle.std.proofs.Common.{◌≡◌, ℕ, zero, suc, ◌+◌, ◌<◌, Bool, true, false, cond, eqb, inl, inr, List, [], ◌∷◌, ◌++◌, length, Option, Some, None, refl, ap, sym, ◌∙◌, subst, arith, length-append}
 use Rattle.std.proofs.lemmas.Bool.{cases_Bool}
+use Rattle.std.proofs.lemmas.List.{get_or_append_left}
 use Rattle.std.proofs.lemmas.List.Elements.{All-push}
+use Rattle.std.proofs.lemmas.Option.{get_or_from_slice_get, slice_get-get_or, slice_get_within}
 use Rattle.std.specs.Prelude.{◌⊎◌, unwrap_or, slice_get, IsTrue}
 use Rattle.std.specs.List.{position_from}
 use Rattle.ep_defs.specs.declared.event.EventDef.{EventDef}
@@ -20,12 +22,6 @@ use Rattle.tp_c.specs.Recording.{HasAll}
 get-nothing : {A : Type 0} (k : ℕ) (x : A) → slice_get [] k ≡ Some x → ⊥
 get-nothing zero x h = cc
 get-nothing (suc k) x h = cc
-
--- What stands in a list stands in a longer one.
-pub get-longer : {A : Type 0} (xs ys : List A) (k : ℕ) (x : A) → slice_get xs k ≡ Some x → slice_get (xs ++ ys) k ≡ Some x
-get-longer [] ys k x h = absurd (get-nothing k x h)
-get-longer (y ∷ xs) ys zero x h = h
-get-longer (y ∷ xs) ys (suc k) x h = get-longer xs ys k x h
 
 -- What stands in a list with one more stands in the list, or is the last.
 get-more : {A : Type 0} (xs : List A) (y : A) (k : ℕ) (x : A) → slice_get (xs ++ y ∷ []) k ≡ Some x → (slice_get xs k ≡ Some x) ⊎ ((k ≡ length xs) × (x ≡ y))
@@ -137,7 +133,10 @@ has-fewer definitions def table h = by_test (eqb (id_in is_same_event def defini
   where
     longer : (number : ℕ) (other : EventDef) → definition_at definitions number ≡ Some other → definition_at (definitions ++ def ∷ []) number ≡ Some other
     longer zero other e = e
-    longer (suc place) other e = get-longer definitions (def ∷ []) place other e
+    longer (suc place) other e =
+        let here = slice_get_within definitions place other e in
+        slice_get-get_or (definitions ++ def ∷ []) place other (omega (arith, here, length-append definitions (def ∷ [])))
+        ∙ ap Some (get_or_append_left definitions (def ∷ []) other place here ∙ get_or_from_slice_get definitions place other other e)
 
     by_test : (is_new : Bool) → HasAll (cond is_new (definitions ++ def ∷ []) definitions) table → HasAll definitions table
     by_test true h = λ number other e. h number other (longer number other e)
