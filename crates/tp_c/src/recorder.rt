@@ -1,5 +1,5 @@
 //! The writer of one stream, whose bytes wait to be pulled.
-ghost use Rattle.std.specs.Prelude.{◌≡◌, ℕ, ◌++◌, List, [], ◌∷◌, length, take, drop, min, true, false, ◌⊎◌, ◌↔◌, Some, None, Ok, Err, IsTrue, IfOk, OnOk, OnErr};
+ghost use Rattle.std.specs.Prelude.{◌≡◌, ℕ, ◌++◌, List, [], ◌∷◌, length, take, drop, min, true, false, ◌⊎◌, ◌↔◌, Some, None, Ok, Err, IsSome, is_none, IsTrue, IfOk, OnOk, OnErr};
 ghost use Rattle.ep_defs.specs.declared.event.EventDef.{EventDef};
 ghost use Rattle.ep_defs.specs.declared.session.TraceInfo.{TraceInfo};
 ghost use Rattle.ep_defs.specs.Definitions.{AreDistinct, definition_at};
@@ -113,8 +113,8 @@ impl Recorder {
         ensures same { result ≡ Err OutOfMemory → self.new ≡ self.old }
         ensures definitions { definitions_of self.new ≡ definitions_of self.old }
     {
-        if let Some(refusal) = self.refuses_head(head.event, frames, payload) {
-            return Err(refusal);
+        if !self.takes_head(head.event, frames, payload) {
+            return Err(self.head_refusal(head.event, frames, payload));
         }
         self.take_event(alloc, head, frames, payload)
     }
@@ -228,26 +228,37 @@ impl Recorder {
         }
     }
 
-    // Why an event is refused, whichever thread writes it.
-    fn refuses_head(&self, event: u32, frames: &[u8], payload: &[u8]) -> Option<Refusal>
-        ensures { result ≡ head_refused self.now event frames.now payload.now }
+    // Whether an event is taken, if its thread can have one more. Nearly all are, so that why one is refused is asked
+    // apart.
+    #[inline(always)]
+    fn takes_head(&self, event: u32, frames: &[u8], payload: &[u8]) -> bool
+        ensures { result ≡ is_none (head_refused self.now event frames.now payload.now) }
+    {
+        self.refuses().is_none()
+            && self.definitions.get(event).is_some()
+            && payload.len() <= PAYLOAD_BYTES
+            && (frames.is_empty() || (are_frames(frames) && has_stack_left(self.framed, frames)))
+    }
+
+    // Why an event is refused that no thread can write.
+    #[inline(never)]
+    fn head_refusal(&self, event: u32, frames: &[u8], payload: &[u8]) -> Refusal
+        requires { IsSome (head_refused self.now event frames.now payload.now) }
+        ensures { head_refused self.now event frames.now payload.now ≡ Some result }
     {
         if let Some(refusal) = self.refuses() {
-            return Some(refusal);
+            return refusal;
         }
         if self.definitions.get(event).is_none() {
-            return Some(Refusal::NoDefinition);
+            return Refusal::NoDefinition;
         }
         if !are_frames(frames) {
-            return Some(Refusal::BadFrames);
+            return Refusal::BadFrames;
         }
         if payload.len() > PAYLOAD_BYTES {
-            return Some(Refusal::LongPayload);
+            return Refusal::LongPayload;
         }
-        if !has_stack_left(self.framed, frames) {
-            return Some(Refusal::TooManyStacks);
-        }
-        None
+        Refusal::TooManyStacks
     }
 
     // Numbers an event of which only the thread may be refused, and writes it.
