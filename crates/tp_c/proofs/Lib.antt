@@ -2,7 +2,7 @@ mod AsBox
 mod Counts
 mod Definitions
 mod Handles
-mod LastCounts
+mod Listings
 mod Pulling
 mod Recordings
 mod Refusing

@@ -4,14 +4,13 @@ use Rattle.ep_defs.specs.declared.session.TraceInfo.{TraceInfo}
 use Rattle.ep_defs.specs.Entry.{Entry}
 use Rattle.pt_io.specs.Taken.{IsPrefix}
 use Rattle.nt_write.specs.declared.writer.TraceWriter.{TraceWriter}
-use Rattle.nt_write.specs.Canonical.{IsCanonical}
 use Rattle.nt_write.specs.Sinks.{with_sink}
 use Rattle.nt_write.specs.Writer.{sink_of}
 use Rattle.tp_c.specs.declared.recorder.Stage.{Stage}
 use Rattle.tp_c.specs.declared.recorder.Recorder.{Recorder}
 use Rattle.tp_c.specs.Outgoing.{Outgoing, all_of, after_pull}
 use Rattle.tp_c.specs.Answering.{Begins}
-use Rattle.tp_c.specs.Recording.{IsBegun, IsComplete, StandsFor, IsRecording, IsCut, bytes_of, outgoing_of, is_cut_stage}
+use Rattle.tp_c.specs.Recording.{IsBegun, StandsFor, IsRecording, IsCut, bytes_of, outgoing_of, is_cut_stage}
 
 -- What has come is the same after a pull.
 pub all-after : (count : ℕ) (bytes : Outgoing) → all_of (after_pull count bytes) ≡ all_of bytes

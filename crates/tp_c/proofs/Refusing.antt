@@ -1,5 +1,5 @@
 -- An event that is not refused can be written.
-use Rattle.std.proofs.Common.{◌≡◌, ℕ, zero, suc, ◌-◌, ◌%◌, ◌≤◌, ◌<◌, Bool, true, false, List, [], ◌∷◌, length, Option, Some, None, refl, ap, arith}
+use Rattle.std.proofs.Common.{◌≡◌, ℕ, zero, suc, ◌-◌, ◌%◌, ◌≤◌, ◌<◌, Bool, true, false, List, length, Option, Some, None, refl, ap, arith}
 use Rattle.std.proofs.lemmas.Bool.{leb-true, and_parts, eqb-true}
 use Rattle.std.specs.Prelude.{not, is_some, is_none, nat_le, ◌==◌, if◌then◌else◌, slice_get}
 use Rattle.ep_defs.specs.declared.event.EventDef.{EventDef}

@@ -8,4 +8,4 @@ pub mod Recording
 pub mod Answering
 -- what private fields stand for
 pub mod Owning
-pub mod LastCounted
+pub mod Listed

@@ -1,5 +1,5 @@
 -- What a recorder stands for.
-use Rattle.std.specs.Prelude.{◌≡◌, ℕ, ◌+◌, ◌%◌, ◌++◌, Bool, true, false, ◌&&◌, ◌||◌, not, List, [], ◌∷◌, length, nat_le, nat_lt, ◌==◌, Option, Some, None, is_some, is_none, if◌then◌else◌}
+use Rattle.std.specs.Prelude.{◌≡◌, ℕ, ◌+◌, ◌%◌, ◌++◌, Bool, true, false, ◌&&◌, ◌||◌, not, List, [], ◌∷◌, length, nat_le, nat_lt, ◌==◌, Option, Some, None, Result, Err, OnOk, is_some, is_none, if◌then◌else◌}
 use Rattle.std.specs.Option.{option_or}
 use Rattle.ep_defs.specs.declared.event.EventDef.{EventDef}
 use Rattle.ep_defs.specs.declared.limits.TheConstants.{FRAME_BYTES, PAYLOAD_BYTES}
@@ -168,3 +168,15 @@ abbrev pub HasCut : TraceInfo → List Entry → List ℕ → Recorder → Event
 HasCut info entries pulled old head frames payload new =
     (def : EventDef) × (definition_at (definitions_of old) head.event ≡ Some def)
     × IsCut info (entries ++ Event (event_of def entries head frames payload) ∷ []) pulled new
+
+-- On success the recorder stands for the event too, whatever it stood for.
+abbrev pub TakesEvent : {A : Type 0} → Recorder → EventHead → List ℕ → List ℕ → Recorder → Result A Refusal → Type 0
+TakesEvent old head frames payload new result =
+    (info : TraceInfo) (entries : List Entry) (pulled : List ℕ)
+    → IsRecording info entries pulled old → OnOk result (HasTaken info entries pulled old head frames payload new)
+
+-- Where it answers that it was cut, it was cut amid the event.
+abbrev pub CutsEvent : {A : Type 0} → Recorder → EventHead → List ℕ → List ℕ → Recorder → Result A Refusal → Type 0
+CutsEvent old head frames payload new result =
+    (info : TraceInfo) (entries : List Entry) (pulled : List ℕ)
+    → IsRecording info entries pulled old → result ≡ Err Cut → HasCut info entries pulled old head frames payload new

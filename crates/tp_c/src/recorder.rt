@@ -49,7 +49,7 @@ pub struct Recorder {
 }
 
 impl Recorder {
-    ghost use Rattle.tp_c.specs.Recording.{IsRecording, IsCut, HasTaken, HasCut, outgoing_of, definitions_of, threads_of, call_refused, define_refused, head_refused, event_refused, is_over, is_cut};
+    ghost use Rattle.tp_c.specs.Recording.{IsRecording, IsCut, TakesEvent, CutsEvent, outgoing_of, definitions_of, threads_of, call_refused, define_refused, head_refused, event_refused, is_over, is_cut};
 
     /// The stream's start.
     pub fn begin(alloc: Global, info: &TraceInfo) -> Result<Recorder, Refusal>
@@ -108,12 +108,8 @@ impl Recorder {
         ensures memory { (refusal : Refusal)
             → event_refused self.old head.now frames.now payload.now ≡ None
             → result ≡ Err refusal → (refusal ≡ OutOfMemory) ⊎ (refusal ≡ Cut) }
-        ensures ok { (info : TraceInfo) (entries : List Entry) (pulled : List ℕ)
-            → IsRecording info entries pulled self.old
-            → OnOk result (HasTaken info entries pulled self.old head.now frames.now payload.now self.new) }
-        ensures cut { (info : TraceInfo) (entries : List Entry) (pulled : List ℕ)
-            → IsRecording info entries pulled self.old → result ≡ Err Cut
-            → HasCut info entries pulled self.old head.now frames.now payload.now self.new }
+        ensures ok { TakesEvent self.old head.now frames.now payload.now self.new result }
+        ensures cut { CutsEvent self.old head.now frames.now payload.now self.new result }
         ensures same { result ≡ Err OutOfMemory → self.new ≡ self.old }
         ensures definitions { definitions_of self.new ≡ definitions_of self.old }
     {
@@ -269,12 +265,8 @@ impl Recorder {
         ensures memory { (refusal : Refusal)
             → thread_refused (threads_of self.old) head.now.thread ≡ None
             → result ≡ Err refusal → (refusal ≡ OutOfMemory) ⊎ (refusal ≡ Cut) }
-        ensures ok { (info : TraceInfo) (entries : List Entry) (pulled : List ℕ)
-            → IsRecording info entries pulled self.old
-            → OnOk result (HasTaken info entries pulled self.old head.now frames.now payload.now self.new) }
-        ensures cut { (info : TraceInfo) (entries : List Entry) (pulled : List ℕ)
-            → IsRecording info entries pulled self.old → result ≡ Err Cut
-            → HasCut info entries pulled self.old head.now frames.now payload.now self.new }
+        ensures ok { TakesEvent self.old head.now frames.now payload.now self.new result }
+        ensures cut { CutsEvent self.old head.now frames.now payload.now self.new result }
         ensures same { result ≡ Err OutOfMemory → self.new ≡ self.old }
         ensures definitions { definitions_of self.new ≡ definitions_of self.old }
     {

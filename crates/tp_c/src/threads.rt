@@ -1,46 +1,41 @@
 //! How many events each thread has.
 //!
-//! The last thread's count stands apart, so that a thread that writes one event after another is counted without the map.
-ghost use Rattle.std.specs.Prelude.{◌≡◌, ℕ, ◌+◌, ◌^◌, ◌<◌, ◌≤◌, List, false, Some, None, Err, [], length, IfOk, OnOk, OnErr, ◌==◌, if◌then◌else◌};
-ghost use Rattle.std.specs.BTreeMap.{btree_map_len, IsOrdered};
+//! A count is found in a few steps, whichever thread writes; the threads themselves stand in order beside the counts.
+ghost use Rattle.std.specs.Prelude.{◌≡◌, ℕ, ◌+◌, ◌^◌, ◌<◌, ◌≤◌, List, Some, None, Err, [], length, nat_lt, IsSome, IfOk, OnOk, OnErr, ◌==◌, if◌then◌else◌};
+ghost use Rattle.std.specs.BTreeSet.{btree_set_len, IsOrdered, keys};
 ghost use Rattle.std.specs.List.Sorted.{IsStrictlySortedBy};
 ghost use Rattle.std.specs.Map.{keys_of};
 ghost use Rattle.std.specs.Ordering.{nat_cmp};
 ghost use Rattle.nt_blocks.specs.declared.limits.TheConstants.{POINT_THREADS};
+ghost use Rattle.nt_check.specs.state.Ids.{value_at};
 ghost use Rattle.tp_c.specs.declared.refusal.Refusal.{Refusal};
 ghost use Rattle.tp_c.specs.declared.refusal.Refusal.TheVariants.{OutOfMemory, TooManyEvents};
 ghost use Rattle.tp_c.specs.Counting.{told_of, count_in, thread_refused};
-ghost use Rattle.tp_c.specs.LastCounted.{with_last, KnowsLast};
+ghost use Rattle.tp_c.specs.Listed.{count_at, listed, AreListed};
 
 use crate::refusal::Refusal;
 use nt_blocks::limits::POINT_THREADS;
+use nt_check::ById;
 use std::alloc::{AllocError, Global};
-use std::collections::BTreeMap;
+use std::collections::BTreeSet;
 use std::marker::Model;
-
-/// A thread, and how many events it has.
-#[derive(Clone, Copy, Debug)]
-pub struct Counted {
-    pub thread: u64,
-    pub count: u32,
-}
 
 /// The threads that have events, in ascending order, each with their count.
 #[derive(Drop)]
 pub struct Threads {
-    // The count of the last thread is an older one here.
-    counts: BTreeMap<u64, u32>,
-    // The thread that was counted last, if one was.
-    last: Option<Counted>,
+    // The count of each thread, 0 of one for which there was no more memory.
+    counts: ById<u32>,
+    // The threads that have events.
+    threads: BTreeSet<u64>,
 }
 
 impl Model for Threads {
     ghost Value = { List (ℕ × ℕ) };
 
-    ghost view = { λ t. with_last t.counts.entries t.last };
+    ghost view = { λ t. listed (value_at t.counts) (keys t.threads) };
 
-    ghost invariant = { λ t. (btree_map_len t.counts ≤ POINT_THREADS) × IsOrdered nat_cmp t.counts
-        × KnowsLast t.counts.entries t.last };
+    ghost invariant = { λ t. (btree_set_len t.threads ≤ POINT_THREADS) × IsOrdered nat_cmp t.threads
+        × AreListed (value_at t.counts) (keys t.threads) };
 }
 
 impl Threads {
@@ -49,8 +44,8 @@ impl Threads {
         ensures { result ≡ [] }
     {
         Threads {
-            counts: BTreeMap::new(alloc),
-            last: None,
+            counts: ById::new(alloc),
+            threads: BTreeSet::new(alloc),
         }
     }
 
@@ -66,68 +61,79 @@ impl Threads {
         ensures ascending { OnOk result (IsStrictlySortedBy nat_cmp (keys_of self.new)) }
         ensures same { OnErr result (self.new ≡ self.old) }
     {
-        if let Some(last) = self.last
-            && last.thread == thread
-        {
-            let count = after(last.count)?;
-            self.last = Some(Counted { thread, count });
-            return Ok(count);
+        let count = self.events_of(thread);
+        if count == 0 {
+            return self.enter(thread);
         }
-        settle(&mut self.counts, self.last.take());
-        let count = enter(&mut self.counts, thread)?;
-        self.last = Some(Counted { thread, count });
-        Ok(count)
+        let number = after(count)?;
+        self.set(thread, number);
+        Ok(number)
+    }
+
+    // How many events a thread has.
+    #[inline(always)]
+    fn events_of(&self, thread: u64) -> u32
+        ensures { told_of thread self.now ≡ (if nat_lt 0 result then Some result else None) }
+    {
+        counted(&self.counts, thread)
+    }
+
+    // Sets how many events a thread has that has some.
+    #[inline(always)]
+    fn set(&mut self, thread: u64, count: u32)
+        requires some { IsSome (told_of thread self.old) }
+        requires positive { 0 < count }
+        ensures told { (other : ℕ) → told_of other self.new
+            ≡ (if thread == other then Some count else told_of other self.old) }
+        ensures ascending { IsStrictlySortedBy nat_cmp (keys_of self.new) }
+    {
+        self.counts.set(thread, count);
+    }
+
+    // Counts the first event of a thread.
+    #[inline(never)]
+    fn enter(&mut self, thread: u64) -> Result<u32, Refusal>
+        requires { told_of thread self.old ≡ None }
+        ensures refused { (refusal : Refusal) → thread_refused self.old thread ≡ Some refusal
+            → result ≡ Err refusal }
+        ensures memory { (refusal : Refusal) → thread_refused self.old thread ≡ None
+            → result ≡ Err refusal → refusal ≡ OutOfMemory }
+        ensures number { IfOk result (λ number. number ≡ 1) }
+        ensures told { OnOk result ((other : ℕ) → told_of other self.new
+            ≡ (if thread == other then Some 1 else told_of other self.old)) }
+        ensures ascending { OnOk result (IsStrictlySortedBy nat_cmp (keys_of self.new)) }
+        ensures same { OnErr result (self.new ≡ self.old) }
+    {
+        if self.threads.len() >= POINT_THREADS {
+            return Err(Refusal::TooManyThreads);
+        }
+        self.counts.insert(thread, 0)?;
+        if self.threads.insert(thread).is_err() {
+            return Err(Refusal::OutOfMemory);
+        }
+        self.counts.set(thread, 1);
+        Ok(1)
     }
 
     /// The threads with their counts, in ascending order.
-    pub fn roll(&mut self, alloc: Global) -> Result<Vec<(u64, u32)>, AllocError>
-        ensures roll { IfOk result (λ roll. roll.items ≡ self.old) }
-        ensures few { length self.old ≤ POINT_THREADS }
-        ensures ascending { IsStrictlySortedBy nat_cmp (keys_of self.old) }
-        ensures same { self.new ≡ self.old }
+    pub fn roll(&self, alloc: Global) -> Result<Vec<(u64, u32)>, AllocError>
+        ensures roll { IfOk result (λ roll. roll.items ≡ self.now) }
+        ensures few { length self.now ≤ POINT_THREADS }
+        ensures ascending { IsStrictlySortedBy nat_cmp (keys_of self.now) }
     {
-        settle(&mut self.counts, self.last.take());
-        let counts = &self.counts;
-        listed(alloc, counts)
+        in_order(alloc, &self.counts, &self.threads)
     }
 }
 
-// Writes the last thread's count to its place in the map.
-fn settle(counts: &mut BTreeMap<u64, u32>, last: Option<Counted>)
-    requires known { KnowsLast counts.old.entries last }
-    requires ordered { IsOrdered nat_cmp counts.old }
-    ensures ordered { IsOrdered nat_cmp counts.new }
-    ensures entries { counts.new.entries ≡ with_last counts.old.entries last }
-    ensures len { btree_map_len counts.new ≡ btree_map_len counts.old }
+// The count of a thread, 0 where it has none.
+#[inline(always)]
+fn counted(counts: &ById<u32>, thread: u64) -> u32
+    ensures { result ≡ count_at (value_at counts.now) thread }
 {
-    if let Some(last) = last
-        && let Some(count) = counts.get_mut(&last.thread)
-    {
-        *count = last.count;
+    match counts.get(thread) {
+        Some(count) => *count,
+        None => 0,
     }
-}
-
-// The number of the next event of a thread, which has a place in the map then.
-fn enter(counts: &mut BTreeMap<u64, u32>, thread: u64) -> Result<u32, Refusal>
-    requires few { btree_map_len counts.old ≤ POINT_THREADS }
-    requires ordered { IsOrdered nat_cmp counts.old }
-    ensures refused { (refusal : Refusal) → thread_refused counts.old.entries thread ≡ Some refusal
-        → result ≡ Err refusal }
-    ensures memory { (refusal : Refusal) → thread_refused counts.old.entries thread ≡ None
-        → result ≡ Err refusal → refusal ≡ OutOfMemory }
-    ensures number { IfOk result (λ number. number ≡ count_in counts.old.entries thread + 1) }
-    ensures there { OnOk result (KnowsLast counts.new.entries (Some (record { thread = thread; count = 0 }))) }
-    ensures others { OnOk result ((other : ℕ) → (thread == other) ≡ false
-        → told_of other counts.new.entries ≡ told_of other counts.old.entries) }
-    ensures few { btree_map_len counts.new ≤ POINT_THREADS }
-    ensures ordered { IsOrdered nat_cmp counts.new }
-    ensures same { OnErr result (counts.new.entries ≡ counts.old.entries) }
-{
-    let number = next(counts, thread)?;
-    if number == 1 && counts.insert(thread, number).is_err() {
-        return Err(Refusal::OutOfMemory);
-    }
-    Ok(number)
 }
 
 // The number of the event after this many.
@@ -143,34 +149,18 @@ fn after(count: u32) -> Result<u32, Refusal>
     }
 }
 
-// The entries of the map.
-fn listed(alloc: Global, counts: &BTreeMap<u64, u32>) -> Result<Vec<(u64, u32)>, AllocError>
-    ensures list { IfOk result (λ list. list.items ≡ counts.now.entries) }
-    ensures ordered { IsOrdered nat_cmp counts.now }
+// The threads with their counts.
+fn in_order(
+    alloc: Global,
+    counts: &ById<u32>,
+    threads: &BTreeSet<u64>,
+) -> Result<Vec<(u64, u32)>, AllocError>
+    ensures list { IfOk result (λ list. list.items ≡ listed (value_at counts.now) (keys threads.now)) }
+    ensures ordered { IsOrdered nat_cmp threads.now }
 {
-    let mut list = Vec::with_capacity(alloc, counts.len())?;
-    for (thread, count) in counts {
-        list.push((*thread, *count))?;
+    let mut list = Vec::with_capacity(alloc, threads.len())?;
+    for thread in threads {
+        list.push((*thread, counted(counts, *thread)))?;
     }
     Ok(list)
-}
-
-// The number of the next event of a thread.
-fn next(counts: &BTreeMap<u64, u32>, thread: u64) -> Result<u32, Refusal>
-    ensures refused { (refusal : Refusal) → result ≡ Err refusal
-        → thread_refused counts.now.entries thread ≡ Some refusal }
-    ensures accepted { OnOk result (thread_refused counts.now.entries thread ≡ None) }
-    ensures number { IfOk result (λ number. number ≡ count_in counts.now.entries thread + 1) }
-    ensures room { OnOk result (told_of thread counts.now.entries ≡ None
-        → btree_map_len counts.now < POINT_THREADS) }
-{
-    match counts.get(&thread) {
-        Some(count) => after(*count),
-        None => {
-            if counts.len() >= POINT_THREADS {
-                return Err(Refusal::TooManyThreads);
-            }
-            Ok(1)
-        }
-    }
 }

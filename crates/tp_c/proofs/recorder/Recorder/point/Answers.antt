@@ -13,7 +13,7 @@ returns-in-Ok-clause-ok c info entries pulled h =
     let before = c.in-Open.writer in
     let after = c.point.new.self in
     let standing = by_writer info entries old.definitions old.stage before c.in-Open.is h.stands in
-    pointed info entries pulled (point_of c.args.stamp old.threads) old _ before after h c.in-Open.is refl refl c.roll.ensures.same refl
+    pointed info entries pulled (point_of c.args.stamp old.threads) old _ before after h c.in-Open.is refl refl refl refl
     (λ table distinct has.
     subst (λ (ts : List (ℕ × ℕ)). IsWriting tells all_of [] table info (entries ++ Point (point_of c.args.stamp ts) ∷ []) after)
     (c.deref.ensures.value ∙ c.in_ok-roll.ensures.roll) (c.in-Ok.ensures.ok [] table info entries (standing table distinct has)))
