@@ -22,12 +22,12 @@ use Rattle.nt_write.specs.Value.{StacksSeen, AreFew, framed_with, no_stacks}
 use Rattle.nt_write.specs.Layout.{Layout, empty_layout, id_in, with_member, needs_flush, flushed, with_event, with_entry, with_entries}
 use Rattle.nt_write.specs.Writable.{CanTell, StacksFit, framed_after, framed}
 use Rattle.nt_write.specs.Canonical.{encoded, IsCanonical}
-use Rattle.nt_write.specs.Arriving.{roomy}
-use Rattle.nt_write.specs.Writing.{HasWritten, TookAll, TookSome, AreIds, IsPending, IsAt}
+use Rattle.nt_write.specs.Arriving.{flushed_if, roomy}
+use Rattle.nt_write.specs.Writing.{HasWritten, TookAll, TookSome, AreIds, IsPending, IsAt, IsKept}
 use Rattle.nt_write.specs.Writer.{IsWriting, TookPart, TookStream}
 use Rattle.nt_write.proofs.Answered.{on_ok-then, on_err-then}
 use Rattle.nt_write.proofs.Prefixes.{some-all, prefix-more, prefix-behind, prefix-longer, some-longer}
-use Rattle.nt_write.proofs.Flushing.{flushed-extends, flushed_if-extends}
+use Rattle.nt_write.proofs.Flushing.{flushed-extends, flushed_if-extends, flushed_if-definitions, flushed_if-flushes}
 use Rattle.nt_write.proofs.Defining.{stack-new, stack-known}
 use Rattle.nt_write.proofs.BlockSteps.{all-more}
 use Rattle.nt_write.proofs.WrittenIsCanonical.{is-canonical, with_entries-more, stacks_fit-more}
@@ -157,11 +157,22 @@ part-start tells taken before info sink fits t =
     )
 
 -- Where nothing more was written, the sink took a part of what is with an event more.
-pub nothing-more : {S : Type 0} (tells : S → Bool) (taken : S → List ℕ) (start : List ℕ) (defs : ℕ → Option EventDef) (layout : Layout) (event : EventEntry) (writer : TraceWriter S) → IsAt tells taken start defs layout writer → TookSome tells taken start (blocks_bytes (roomy layout event).blocks) writer.output.sink
+pub nothing-more : {S : Type 0} (tells : S → Bool) (taken : S → List ℕ) (start : List ℕ) (defs : ℕ → Option EventDef) (layout : Layout) (event : EventEntry) (writer : TraceWriter S) → IsKept tells taken start defs layout writer → TookSome tells taken start (blocks_bytes (roomy layout event).blocks) writer.output.sink
 nothing-more tells taken start defs layout event writer h =
     some-longer tells taken start (blocks_bytes layout.blocks) (blocks_bytes (roomy layout event).blocks) writer.output.sink
     (flushed_if-extends (needs_flush layout event) layout)
-    (some-all tells taken start (blocks_bytes layout.blocks) writer.output.sink h.kept.output.took)
+    (some-all tells taken start (blocks_bytes layout.blocks) writer.output.sink h.output.took)
+
+-- The writer that made the room which an event needs stands where the layout with that room does.
+pub kept-roomy : {S : Type 0} (tells : S → Bool) (taken : S → List ℕ) (start : List ℕ) (defs : ℕ → Option EventDef) (layout : Layout) (event : EventEntry) (writer : TraceWriter S) (output : Output S) (pending : Pending) (lacks : Bool) → IsKept tells taken start defs layout writer → lacks ≡ needs_flush layout event → HasWritten tells taken start (flushed_if lacks layout).blocks output × IsPending (flushed_if lacks layout) pending
+    → IsKept tells taken start defs (roomy layout event) (record writer { output = output; pending = pending })
+kept-roomy tells taken start defs layout event writer output pending lacks h needs made =
+    record {
+      output = subst (λ (full : Bool). HasWritten tells taken start (flushed_if full layout).blocks output) needs made.0;
+      pending = subst (λ (full : Bool). IsPending (flushed_if full layout) pending) needs made.1;
+      ids = subst (λ (ds : List EventDef). AreIds defs ds writer.ids) (sym (flushed_if-definitions (needs_flush layout event) layout)) h.ids;
+      flushes = flushed_if-flushes (needs_flush layout event) layout h.flushes;
+    }
 
 -- ---- what is canonical
 

@@ -15,6 +15,7 @@ pub mod Laid
 pub mod Names
 pub mod Placing
 pub mod Prefixes
+pub mod Ready
 pub mod Sameness
 pub mod Sinks
 pub mod Told

@@ -1,9 +1,10 @@
 -- The definitions of a stream are those that its entries use, and a writer has no id for any other.
-use Rattle.std.proofs.Common.{◌≡◌, ℕ, suc, ◌+◌, ◌<◌, Bool, true, false, not, ◌⊎◌, inl, inr, List, [], ◌∷◌, ◌++◌, Option, Some, None, map, refl, ap, sym, ◌∙◌, subst, arith, append_assoc}
+use Rattle.std.proofs.Common.{◌≡◌, ℕ, suc, ◌+◌, ◌<◌, Bool, true, false, not, inl, inr, List, [], ◌∷◌, ◌++◌, Option, Some, None, map, refl, ap, sym, ◌∙◌, subst, arith, append_assoc}
 use Rattle.std.specs.Prelude.{◌&&◌, ◌==◌, filter, unwrap_or, Contains}
 use Rattle.std.specs.List.{list_any, position_from}
 use Rattle.std.proofs.lemmas.Bool.{cases_Bool, ne_eqb}
 use Rattle.std.proofs.lemmas.List.{append-nil}
+use Rattle.std.proofs.lemmas.Option.{none-some}
 use Rattle.std.proofs.lemmas.List.Elements.{filter_agree}
 use Rattle.ep_defs.specs.declared.event.EventDef.{EventDef}
 use Rattle.ep_defs.specs.declared.session.TraceInfo.{TraceInfo}
@@ -125,20 +126,6 @@ definitions-used entries = definitions-more empty_layout entries ∙ filter-all 
 
 -- ---- more definitions by number
 
--- What a number stands for.
-found-or-none : {A : Type 0} (found : Option A) → (found ≡ None) ⊎ ((a : A) × (found ≡ Some a))
-found-or-none None = inl refl
-found-or-none (Some a) = inr (a, refl)
-
-one-value : {A : Type 0} {a b : A} → Some a ≡ Some b → a ≡ b
-one-value e = cc
-
-some-none : {A X : Type 0} {a : A} → Some a ≡ None → X
-some-none {a = a} e = absurd (clash a e)
-  where
-    clash : {A : Type 0} (a : A) → Some a ≡ None → ⊥
-    clash a e = cc
-
 -- What is none of them has no id.
 id-absent : (def : EventDef) (n : ℕ) (definitions : List EventDef) → (Contains definitions def → ⊥) → unwrap_or (position_from (λ other. is_same_event def other) n definitions) 0 ≡ 0
 id-absent def n [] none = refl
@@ -170,18 +157,18 @@ ids-more : (defs more : ℕ → Option EventDef) (definitions : List EventDef) (
 ids-more defs more definitions ids e h =
     record {
       used = h.used;
-      id_is = λ number def at. known number def at (found-or-none (defs number));
-      none_is = λ number none. h.none_is number (undefined number none (found-or-none (defs number)));
+      id_is = λ number def at. known number def at (defs number) refl;
+      none_is = λ number none. h.none_is number (undefined number none (defs number) refl);
       numbers = map-more defs more e.same (numbers_in ids) definitions h.numbers;
     }
   where
-    known : (number : ℕ) (def : EventDef) → more number ≡ Some def → (defs number ≡ None) ⊎ ((d : EventDef) × (defs number ≡ Some d)) → id_at ids number ≡ id_in is_same_event def definitions
-    known number def at (inl none) = h.none_is number none ∙ sym (id-absent def 1 definitions (e.new number def none at))
-    known number def at (inr (d, is)) = h.id_is number def (is ∙ sym (e.same number d is) ∙ at)
+    known : (number : ℕ) (def : EventDef) → more number ≡ Some def → (found : Option EventDef) → defs number ≡ found → id_at ids number ≡ id_in is_same_event def definitions
+    known number def at None none = h.none_is number none ∙ sym (id-absent def 1 definitions (e.new number def none at))
+    known number def at (Some d) is = h.id_is number def (is ∙ sym (e.same number d is) ∙ at)
 
-    undefined : (number : ℕ) → more number ≡ None → (defs number ≡ None) ⊎ ((d : EventDef) × (defs number ≡ Some d)) → defs number ≡ None
-    undefined number none (inl is) = is
-    undefined number none (inr (d, is)) = some-none (sym (e.same number d is) ∙ none)
+    undefined : (number : ℕ) → more number ≡ None → (found : Option EventDef) → defs number ≡ found → defs number ≡ None
+    undefined number none None is = is
+    undefined number none (Some d) is = absurd (none-some d (sym none ∙ e.same number d is))
 
 -- A writer of events of some definitions is one of events of more.
 pub writing-of-more : {S : Type 0} (tells : S → Bool) (taken : S → List ℕ) (before : List ℕ) (defs more : ℕ → Option EventDef) (info : TraceInfo) (entries : List Entry) (writer : TraceWriter S) → IsWriting tells taken before defs info entries writer → Extends (used entries) defs more → IsWriting tells taken before more info entries writer

@@ -11,3 +11,4 @@ pub mod Vectors
 -- what private fields stand for, and what private functions make of them
 pub mod Arriving
 pub mod Writing
+pub mod Adding

@@ -1,13 +1,15 @@
 -- What a writer has written, and what it keeps until the next flush.
-use Rattle.std.specs.Prelude.{◌≡◌, ℕ, ◌++◌, Bool, List, Option, Some, None, Contains, IsTrue}
+use Rattle.std.specs.Prelude.{◌≡◌, ◌⊎◌, ℕ, ◌++◌, Bool, List, Option, Some, None, Result, Err, Contains, IsTrue}
 use Rattle.std.specs.List.{AllByRecursion}
 use Rattle.ep_defs.specs.declared.event.EventDef.{EventDef}
 use Rattle.ep_defs.specs.declared.session.TraceInfo.{TraceInfo}
 use Rattle.ep_defs.specs.Session.{is_info}
 use Rattle.ep_defs.specs.Entry.{EventEntry, PointEntry, Entry}
+use Rattle.pt_io.specs.Faults.{HasRisen}
 use Rattle.pt_io.specs.Taken.{IsPrefix}
 use Rattle.nt_object.specs.Stream.{stream_start}
 use Rattle.nt_write.specs.declared.fault.Fault.{Fault}
+use Rattle.nt_write.specs.declared.fault.Fault.TheVariants.{WriteFault}
 use Rattle.nt_write.specs.declared.writer.EventOut.{EventOut}
 use Rattle.nt_write.specs.declared.writer.TraceWriter.{TraceWriter}
 use Rattle.nt_write.specs.Layout.{empty_layout, with_entries}
@@ -22,6 +24,16 @@ fault_of writer = writer.fault
 -- The sink of the writer.
 abbrev pub sink_of : {S : Type 0} → TraceWriter S → S
 sink_of writer = writer.output.sink
+
+-- A writer that had failed answers its fault again, and stays as it is.
+abbrev pub StaysFailed : {S A : Type 0} → TraceWriter S → TraceWriter S → Result A Fault → Type 0
+StaysFailed old new result =
+    (fault : Fault) → fault_of old ≡ Some fault → (result ≡ Err fault) × (new ≡ old)
+
+-- A writer answers that its sink failed only where it had answered so before, or the sink failed in this call.
+abbrev pub TellsWriteFault : {S A : Type 0} → (S → ℕ) → TraceWriter S → TraceWriter S → Result A Fault → Type 0
+TellsWriteFault faults old new result =
+    result ≡ Err WriteFault → (fault_of old ≡ Some WriteFault) ⊎ HasRisen (faults (sink_of old)) (faults (sink_of new))
 
 -- The entry of an event that is written with this definition.
 abbrev pub entry_of : EventDef → EventOut → EventEntry

@@ -14,6 +14,12 @@ use nt_stacks::{Interned, Interner};
 use std::alloc::{AllocError, Global};
 use std::marker::Model;
 
+// What stands for no frames.
+const NO_STACK: Interned = Interned {
+    id: 0,
+    is_new: false,
+};
+
 /// The stacks since the last point: those that have ids, how many events had one, and those that are not written yet,
 /// which have the ids from the first one on.
 #[derive(Drop)]
@@ -64,6 +70,7 @@ impl Stacks {
     }
 
     /// The id of the stack of one event more, and whether it is new. Out of memory, nothing changes.
+    #[inline(always)]
     pub fn id_of(&mut self, alloc: Global, frames: &[u8]) -> Result<Interned, AllocError>
         requires { (frames.now ≡ []) ⊎ (self.old.framed < FRAMED_EVENTS) }
         ensures ok { OnOk result (self.new ≡ record self.old {
@@ -77,10 +84,12 @@ impl Stacks {
         ensures few { OnOk result (AreFew self.new.known self.new.framed) }
         ensures err { OnErr result (self.new ≡ self.old) }
     {
-        let stack = self.known.id_of(alloc, frames)?;
-        if !frames.is_empty() {
-            self.framed += 1;
+        let framed = self.framed;
+        if frames.is_empty() {
+            return Ok(NO_STACK);
         }
+        let stack = self.known.id_of(alloc, frames)?;
+        self.framed = framed + 1;
         Ok(stack)
     }
 

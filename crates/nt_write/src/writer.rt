@@ -1,5 +1,5 @@
 //! The writer of a stream.
-ghost use Rattle.std.specs.Prelude.{◌≡◌, ◌≢◌, ℕ, ◌+◌, ◌%◌, ◌^◌, ◌<◌, ◌≤◌, ◌⊎◌, ◌↔◌, ◌++◌, List, [], ◌∷◌, length, Option, Some, None, Ok, Err, IsTrue, IfOk, IfErr, OnOk, OnErr, map};
+ghost use Rattle.std.specs.Prelude.{◌≡◌, ◌≢◌, ℕ, ◌+◌, ◌%◌, ◌^◌, ◌<◌, ◌≤◌, ◌⊎◌, ◌↔◌, ◌++◌, List, [], ◌∷◌, length, Option, Some, None, Ok, Err, IsTrue, false, IfOk, IfErr, OnOk, OnErr, map};
 ghost use Rattle.std.specs.List.{AllByRecursion};
 ghost use Rattle.std.specs.Option.{option_map};
 ghost use Rattle.ep_defs.specs.declared.limits.TheConstants.{FRAME_BYTES, PAYLOAD_BYTES};
@@ -64,9 +64,10 @@ impl<S: Sink> TraceWriter<S> {
     ghost use Rattle.nt_object.specs.Stream.{blocks_bytes};
     ghost use Rattle.nt_write.specs.Layout.{Layout, id_in, flushed, with_event, with_point};
     ghost use Rattle.nt_write.specs.Value.{framed_with};
-    ghost use Rattle.nt_write.specs.Arriving.{HasRoomFor, IsInterned, roomy, with_definition};
+    ghost use Rattle.nt_write.specs.Adding.{IsReady, Adds, AddsPart};
+    ghost use Rattle.nt_write.specs.Arriving.{HasRoomFor, IsInterned, with_definition};
     ghost use Rattle.nt_write.specs.Writing.{IsAt, IsKept, HasRoom, ids_of, pending_of};
-    ghost use Rattle.nt_write.specs.Writer.{fault_of, sink_of, Extends, IsWriting, TookPart, TookStream};
+    ghost use Rattle.nt_write.specs.Writer.{fault_of, sink_of, Extends, IsWriting, StaysFailed, TellsWriteFault, TookPart, TookStream};
     ghost use Rattle.ep_rundown.specs.Rundown.{used};
     ghost use Rattle.nt_write.specs.Sinks.{with_sink};
 
@@ -125,10 +126,8 @@ impl<S: Sink> TraceWriter<S> {
             ++ Event (entry_of def.now out.now) ∷ []) (sink_of self.new)) }
         ensures fails { IfErr result (λ fault. fault_of self.new ≡ Some fault) }
         ensures sound { OnOk result (fault_of self.new ≡ None) }
-        ensures stays { (fault : _) → fault_of self.old ≡ Some fault
-            → (result ≡ Err fault) × (self.new ≡ self.old) }
-        ensures write_fault { result ≡ Err WriteFault → (fault_of self.old ≡ Some WriteFault)
-            ⊎ HasRisen (S.write_faults (sink_of self.old)) (S.write_faults (sink_of self.new)) }
+        ensures stays { StaysFailed self.old self.new result }
+        ensures write_fault { TellsWriteFault S.write_faults self.old self.new result }
         ensures too_long { (before : List ℕ) (defs : ℕ → Option EventDef) (info : TraceInfo)
             (entries : List Entry)
             → IsWriting S.tells_taken S.taken before defs info entries self.old
@@ -162,10 +161,8 @@ impl<S: Sink> TraceWriter<S> {
             ++ Point (point_of stamp threads.now) ∷ []) (sink_of self.new)) }
         ensures fails { IfErr result (λ fault. fault_of self.new ≡ Some fault) }
         ensures sound { OnOk result (fault_of self.new ≡ None) }
-        ensures stays { (fault : _) → fault_of self.old ≡ Some fault
-            → (result ≡ Err fault) × (self.new ≡ self.old) }
-        ensures write_fault { result ≡ Err WriteFault → (fault_of self.old ≡ Some WriteFault)
-            ⊎ HasRisen (S.write_faults (sink_of self.old)) (S.write_faults (sink_of self.new)) }
+        ensures stays { StaysFailed self.old self.new result }
+        ensures write_fault { TellsWriteFault S.write_faults self.old self.new result }
         ensures too_long { result ≡ Err TooLong → fault_of self.old ≡ Some TooLong }
         ensures wrote { result ≢ Err WriteFault
             → S.write_faults (sink_of self.new) ≡ S.write_faults (sink_of self.old) }
@@ -277,16 +274,10 @@ impl<S: Sink> TraceWriter<S> {
         requires frames { length out.now.frames.now ≤ STACK_BYTES }
         requires payload { length out.now.payload.now ≤ PAYLOAD_BYTES }
 
-        ensures ok { (start : List ℕ) (defs : ℕ → Option EventDef) (layout : Layout)
-            → IsAt S.tells_taken S.taken start defs layout self.old → AreDistinct defs
-            → defs out.now.event ≡ Some def.now
-            → OnOk result (IsAt S.tells_taken S.taken start defs (with_event (roomy layout (entry_of def.now out.now)) (entry_of def.now out.now)) self.new) }
+        ensures ok { Adds S.tells_taken S.taken (λ start defs layout. IsAt S.tells_taken S.taken start defs layout self.old) def.now out.now self.new result }
         ensures framed { OnOk result ((pending_of self.new).stacks.framed
             ≡ framed_with (pending_of self.old).stacks.framed out.now.frames.now) }
-        ensures part { (start : List ℕ) (defs : ℕ → Option EventDef) (layout : Layout)
-            → IsAt S.tells_taken S.taken start defs layout self.old → AreDistinct defs
-            → defs out.now.event ≡ Some def.now
-            → OnErr result (TookSome S.tells_taken S.taken start (blocks_bytes (roomy layout (entry_of def.now out.now)).blocks) (sink_of self.new)) }
+        ensures part { AddsPart S.tells_taken S.taken (λ start defs layout. IsAt S.tells_taken S.taken start defs layout self.old) def.now out.now self.new result }
         ensures too_long { (result ≡ Err TooLong) ↔ ((0 < length out.now.frames.now)
             × ((pending_of self.old).stacks.framed ≡ FRAMED_EVENTS)) }
         ensures wrote { result ≢ Err WriteFault
@@ -311,44 +302,37 @@ impl<S: Sink> TraceWriter<S> {
         requires not_spent { (out.now.frames.now ≡ [])
             ⊎ ((pending_of self.old).stacks.framed < FRAMED_EVENTS) }
 
-        ensures ok { (start : List ℕ) (defs : ℕ → Option EventDef) (layout : Layout)
-            → IsAt S.tells_taken S.taken start defs layout self.old → AreDistinct defs
-            → defs out.now.event ≡ Some def.now
-            → OnOk result (IsAt S.tells_taken S.taken start defs (with_event (roomy layout (entry_of def.now out.now)) (entry_of def.now out.now)) self.new) }
+        ensures ok { Adds S.tells_taken S.taken (λ start defs layout. IsAt S.tells_taken S.taken start defs layout self.old) def.now out.now self.new result }
         ensures framed { OnOk result ((pending_of self.new).stacks.framed
             ≡ framed_with (pending_of self.old).stacks.framed out.now.frames.now) }
-        ensures part { (start : List ℕ) (defs : ℕ → Option EventDef) (layout : Layout)
-            → IsAt S.tells_taken S.taken start defs layout self.old → AreDistinct defs
-            → defs out.now.event ≡ Some def.now
-            → OnErr result (TookSome S.tells_taken S.taken start (blocks_bytes (roomy layout (entry_of def.now out.now)).blocks) (sink_of self.new)) }
+        ensures part { AddsPart S.tells_taken S.taken (λ start defs layout. IsAt S.tells_taken S.taken start defs layout self.old) def.now out.now self.new result }
         ensures counted { IsCounted S.write_faults (sink_of self.old) (sink_of self.new) result }
         ensures other_side { S.read_side (sink_of self.new) ≡ S.read_side (sink_of self.old) }
     {
+        let stack = self.pending.stacks.id_of(alloc, out.frames)?;
         let id = self.ids.get(out.event);
-        if id != 0 && out.frames.is_empty() {
-            return self.add_known(alloc, id, out);
+        if id != 0 && !stack.is_new {
+            return self.add_known(alloc, id, stack.id, out);
         }
         // A copy, so that the event is put together in memory on this way alone.
         let out = *out;
-        self.add_new(alloc, def, &out)
+        self.add_new(alloc, def, &stack, &out)
     }
 
-    // Makes room, and adds an event without frames, whose definition has this id.
-    fn add_known(&mut self, alloc: Global, id: u32, out: &EventOut) -> Result<(), Fault>
+    // Makes room, and adds an event whose definition and whose stack have these ids.
+    fn add_known(
+        &mut self,
+        alloc: Global,
+        id: u32,
+        stack: u32,
+        out: &EventOut,
+    ) -> Result<(), Fault>
         requires given { (0 < id) × (id ≡ id_at (ids_of self.old) out.now.event) }
-        requires frames { out.now.frames.now ≡ [] }
         requires payload { length out.now.payload.now ≤ PAYLOAD_BYTES }
 
-        ensures ok { (start : List ℕ) (defs : ℕ → Option EventDef) (layout : Layout) (def : EventDef)
-            → IsAt S.tells_taken S.taken start defs layout self.old → AreDistinct defs
-            → defs out.now.event ≡ Some def
-            → OnOk result (IsAt S.tells_taken S.taken start defs (with_event (roomy layout (entry_of def out.now)) (entry_of def out.now)) self.new) }
-        ensures framed { OnOk result ((pending_of self.new).stacks.framed
-            ≡ framed_with (pending_of self.old).stacks.framed out.now.frames.now) }
-        ensures part { (start : List ℕ) (defs : ℕ → Option EventDef) (layout : Layout) (def : EventDef)
-            → IsAt S.tells_taken S.taken start defs layout self.old → AreDistinct defs
-            → defs out.now.event ≡ Some def
-            → OnErr result (TookSome S.tells_taken S.taken start (blocks_bytes (roomy layout (entry_of def out.now)).blocks) (sink_of self.new)) }
+        ensures ok { (def : EventDef) → Adds S.tells_taken S.taken (λ start defs layout. IsReady S.tells_taken S.taken start defs layout out.now.frames.now (record { id = stack; is_new = false }) self.old) def out.now self.new result }
+        ensures part { (def : EventDef) → AddsPart S.tells_taken S.taken (λ start defs layout. IsReady S.tells_taken S.taken start defs layout out.now.frames.now (record { id = stack; is_new = false }) self.old) def out.now self.new result }
+        ensures framed { OnOk result ((pending_of self.new).stacks.framed ≡ (pending_of self.old).stacks.framed) }
         ensures counted { IsCounted S.write_faults (sink_of self.old) (sink_of self.new) result }
         ensures other_side { S.read_side (sink_of self.new) ≡ S.read_side (sink_of self.old) }
     {
@@ -359,38 +343,36 @@ impl<S: Sink> TraceWriter<S> {
         };
         self.output.make_room(alloc, &mut self.pending, &arrival)?;
         self.pending
-            .add_event(&event_head(id, 0, out), out.payload)?;
+            .add_event(&event_head(id, stack, out), out.payload)?;
         Ok(())
     }
 
-    // Gives the event's stack its id, makes room, and adds the event.
+    // Makes room, and adds an event of which the definition or the stack, which has its id, is new.
     #[inline(never)]
-    fn add_new(&mut self, alloc: Global, def: &EventDef, out: &EventOut) -> Result<(), Fault>
+    fn add_new(
+        &mut self,
+        alloc: Global,
+        def: &EventDef,
+        stack: &Interned,
+        out: &EventOut,
+    ) -> Result<(), Fault>
         requires valid { IsTrue (is_valid_event def.now) }
         requires event { out.now.event ≤ LAST_EVENT }
         requires frames { length out.now.frames.now ≤ STACK_BYTES }
         requires payload { length out.now.payload.now ≤ PAYLOAD_BYTES }
-        requires not_spent { (out.now.frames.now ≡ [])
-            ⊎ ((pending_of self.old).stacks.framed < FRAMED_EVENTS) }
+        requires next { IsTrue stack.now.is_new
+            → (pending_of self.old).stacks.first + length (pending_of self.old).stacks.fresh ≤ length (pending_of self.old).stacks.known }
 
-        ensures ok { (start : List ℕ) (defs : ℕ → Option EventDef) (layout : Layout)
-            → IsAt S.tells_taken S.taken start defs layout self.old → AreDistinct defs
-            → defs out.now.event ≡ Some def.now
-            → OnOk result (IsAt S.tells_taken S.taken start defs (with_event (roomy layout (entry_of def.now out.now)) (entry_of def.now out.now)) self.new) }
-        ensures framed { OnOk result ((pending_of self.new).stacks.framed
-            ≡ framed_with (pending_of self.old).stacks.framed out.now.frames.now) }
-        ensures part { (start : List ℕ) (defs : ℕ → Option EventDef) (layout : Layout)
-            → IsAt S.tells_taken S.taken start defs layout self.old → AreDistinct defs
-            → defs out.now.event ≡ Some def.now
-            → OnErr result (TookSome S.tells_taken S.taken start (blocks_bytes (roomy layout (entry_of def.now out.now)).blocks) (sink_of self.new)) }
+        ensures ok { Adds S.tells_taken S.taken (λ start defs layout. IsReady S.tells_taken S.taken start defs layout out.now.frames.now stack.now self.old) def.now out.now self.new result }
+        ensures framed { OnOk result ((pending_of self.new).stacks.framed ≡ (pending_of self.old).stacks.framed) }
+        ensures part { AddsPart S.tells_taken S.taken (λ start defs layout. IsReady S.tells_taken S.taken start defs layout out.now.frames.now stack.now self.old) def.now out.now self.new result }
         ensures counted { IsCounted S.write_faults (sink_of self.old) (sink_of self.new) result }
         ensures other_side { S.read_side (sink_of self.new) ≡ S.read_side (sink_of self.old) }
     {
-        let stack = self.pending.stacks.id_of(alloc, out.frames)?;
         let meta = new_meta(alloc, &self.ids, def, out.event)?;
-        let arrival = arrival_of(out, &meta, &stack);
+        let arrival = arrival_of(out, &meta, stack);
         self.output.make_room(alloc, &mut self.pending, &arrival)?;
-        self.enter(alloc, &meta, &stack, out)?;
+        self.enter(alloc, &meta, stack, out)?;
         Ok(())
     }
 
