@@ -5,6 +5,7 @@ use Rattle.std.specs.List.{list_all}
 use Rattle.std.proofs.lemmas.Bool.{and_parts, true≢false}
 use Rattle.std.proofs.lemmas.Bool.Decides.{eqb_tells}
 use Rattle.std.proofs.lemmas.List.{append-nil}
+use Rattle.std.proofs.lemmas.Option.{none-some, same_Some}
 use Rattle.ep_defs.specs.Definitions.{AreDistinct, definition_at}
 use Rattle.ep_defs.specs.declared.event.EventDef.{EventDef}
 use Rattle.ep_defs.specs.declared.session.TraceInfo.{TraceInfo}
@@ -23,15 +24,6 @@ use Rattle.nt_write.specs.Writable.{framed}
 use Rattle.ep_stream.specs.Rundown.{AreUsed, last_definitions}
 use Rattle.ep_stream.specs.Telling.{IsTelling, Tells}
 
-pub some-none : {A X : Type 0} {a : A} → Some a ≡ None → X
-some-none {a = a} e = absurd (clash a e)
-  where
-    clash : {A : Type 0} (a : A) → Some a ≡ None → ⊥
-    clash a e = cc
-
-pub one-value : {A : Type 0} {a b : A} → Some a ≡ Some b → a ≡ b
-one-value e = cc
-
 -- ---- a stream that is given up
 
 -- A call that failed before it told anything. What holds of a writer that has failed does not speak of definitions.
@@ -41,9 +33,9 @@ tells_none tells taken before defs info told entries fault writer failed part lo
       done = [];
       front = (entries, refl);
       telling = record {
-        sound = λ none. some-none (sym failed ∙ none);
+        sound = λ none. absurd (none-some fault (sym none ∙ failed));
         failed = λ other some. subst (λ (es : List Entry). TookPart tells taken before info es (sink_of writer)) (sym (append-nil told)) part;
-        spent = λ some. subst (λ (es : List Entry). FRAMED_EVENTS < framed es) (sym (append-nil told)) (long (one-value (sym failed ∙ some)));
+        spent = λ some. subst (λ (es : List Entry). FRAMED_EVENTS < framed es) (sym (append-nil told)) (long (same_Some _ _ (sym failed ∙ some)));
       };
       all = tt;
     }
@@ -109,17 +101,17 @@ tells_described tells taken before events info told rundown point result writer 
 
 -- A definition of a program is not that of the rundown.
 lacks_at : (events : List EventDef) (place : ℕ) (def : EventDef) → IsTrue (lacks_rundown events) → slice_get events place ≡ Some def → def ≢ rundown_def
-lacks_at [] place def lacks at = some-none (sym at)
+lacks_at [] place def lacks at = absurd (none-some def at)
 lacks_at (event ∷ events) zero def lacks at =
     let parts = and_parts (not (is_same_event event rundown_def)) (list_all (λ d. not (is_same_event d rundown_def)) events) lacks in
-    λ same. true≢false (sym parts.0 ∙ ap (λ (d : EventDef). not (is_same_event d rundown_def)) (one-value at ∙ same) ∙ ap not (event-itself rundown_def))
+    λ same. true≢false (sym parts.0 ∙ ap (λ (d : EventDef). not (is_same_event d rundown_def)) (same_Some _ _ at ∙ same) ∙ ap not (event-itself rundown_def))
 lacks_at (event ∷ events) (suc place) def lacks at =
     let parts = and_parts (not (is_same_event event rundown_def)) (list_all (λ d. not (is_same_event d rundown_def)) events) lacks in
     lacks_at events place def parts.1 at
 
 -- Nor is one with a number.
 lacks_number : (events : List EventDef) (number : ℕ) (def : EventDef) → IsTrue (lacks_rundown events) → definition_at events number ≡ Some def → def ≢ rundown_def
-lacks_number events zero def lacks at = some-none (sym at)
+lacks_number events zero def lacks at = absurd (none-some def at)
 lacks_number events (suc place) def lacks at = lacks_at events place def lacks at
 
 -- No definition of a program has a number above the last one.
@@ -150,7 +142,7 @@ distinct_with_rundown events distinct lacks i j def at_i at_j = by_number (eqb_t
   where
     clash : (n m : ℕ) → eqb n RUNDOWN_EVENT ≡ true → eqb m RUNDOWN_EVENT ≡ false → with_rundown (definition_at events) n ≡ Some def → with_rundown (definition_at events) m ≡ Some def → ⊥
     clash n m same other at_n at_m =
-        lacks_number events m def lacks (sym (other_at (definition_at events) m other) ∙ at_m) (one-value (sym at_n ∙ same_at (definition_at events) n same))
+        lacks_number events m def lacks (sym (other_at (definition_at events) m other) ∙ at_m) (same_Some _ _ (sym at_n ∙ same_at (definition_at events) n same))
 
     by_number : ((eqb i RUNDOWN_EVENT ≡ true) × (i ≡ RUNDOWN_EVENT)) ⊎ ((eqb i RUNDOWN_EVENT ≡ false) × (i ≢ RUNDOWN_EVENT)) → ((eqb j RUNDOWN_EVENT ≡ true) × (j ≡ RUNDOWN_EVENT)) ⊎ ((eqb j RUNDOWN_EVENT ≡ false) × (j ≢ RUNDOWN_EVENT)) → i ≡ j
     by_number (inl a) (inl b) = a.1 ∙ sym b.1
@@ -188,11 +180,11 @@ used_at events (number ∷ numbers) (def ∷ used) (suc place) are low =
 
 -- A number that stands for a definition is one of theirs.
 pub in_range : (events : List EventDef) (number : ℕ) (def : EventDef) → definition_at events number ≡ Some def → (0 < number) × (number ≤ length events)
-in_range events zero def at = some-none (sym at)
+in_range events zero def at = absurd (none-some def at)
 in_range events (suc place) def at = (omega arith, within events place at)
   where
     within : (events : List EventDef) (place : ℕ) → slice_get events place ≡ Some def → suc place ≤ length events
-    within [] place at = some-none (sym at)
+    within [] place at = absurd (none-some def at)
     within (event ∷ events) zero at = omega arith
     within (event ∷ events) (suc place) at = omega (arith, within events place at)
 
@@ -215,14 +207,14 @@ pub extends : (events : List EventDef) (numbers : List ℕ) (used : List EventDe
 extends events numbers used few lacks are = record { same = λ n def at. kept n def at (eqb_tells n RUNDOWN_EVENT); new = λ n def none at within. unused n def none at within (eqb_tells n RUNDOWN_EVENT) }
   where
     kept : (n : ℕ) (def : EventDef) → definition_at events n ≡ Some def → ((eqb n RUNDOWN_EVENT ≡ true) × (n ≡ RUNDOWN_EVENT)) ⊎ ((eqb n RUNDOWN_EVENT ≡ false) × (n ≢ RUNDOWN_EVENT)) → with_rundown (definition_at events) n ≡ Some def
-    kept n def at (inl same) = some-none (sym at ∙ none_above events n (omega (arith, few, same.1)))
+    kept n def at (inl same) = absurd (none-some def (sym (none_above events n (omega (arith, few, same.1))) ∙ at))
     kept n def at (inr other) = other_at (definition_at events) n other.0 ∙ at
 
     unused : (n : ℕ) (def : EventDef) → definition_at events n ≡ None → with_rundown (definition_at events) n ≡ Some def → Contains used def → ((eqb n RUNDOWN_EVENT ≡ true) × (n ≡ RUNDOWN_EVENT)) ⊎ ((eqb n RUNDOWN_EVENT ≡ false) × (n ≢ RUNDOWN_EVENT)) → ⊥
     unused n def none at within (inl same) =
         let u = used_number events numbers used within.0 def are within.1 within.2 in
-        lacks_number events u.0 def lacks u.1 (one-value (sym at ∙ same_at (definition_at events) n same.0))
-    unused n def none at within (inr other) = some-none (sym at ∙ other_at (definition_at events) n other.0 ∙ none)
+        lacks_number events u.0 def lacks u.1 (same_Some _ _ (sym at ∙ same_at (definition_at events) n same.0))
+    unused n def none at within (inr other) = none-some def (sym none ∙ sym (other_at (definition_at events) n other.0) ∙ at)
 
 -- Where all numbers that were used stand for definitions, they do beside the rundown's.
 pub are-used : (events : List EventDef) (numbers told_numbers : List ℕ) (used : List EventDef) → numbers ≡ told_numbers
@@ -239,10 +231,10 @@ are-used events numbers told_numbers used same named distinct lacks =
 
 -- The descriptions with that of the next definition.
 pub next_described : (stamp id : ℕ) (used : List EventDef) (place : ℕ) (def : EventDef) → slice_get used place ≡ Some def → describing_from stamp id (take (place + 1) used) ≡ describing_from stamp id (take place used) ++ Event (describing stamp (id + place) def) ∷ []
-next_described stamp id [] place def at = some-none (sym at)
+next_described stamp id [] place def at = absurd (none-some def at)
 next_described stamp id (first ∷ used) zero def at =
     let same : id ≡ id + 0 = omega arith in
-    ap (λ (d : EventDef). Event (describing stamp id d) ∷ []) (one-value at) ∙ ap (λ (n : ℕ). Event (describing stamp n def) ∷ []) same
+    ap (λ (d : EventDef). Event (describing stamp id d) ∷ []) (same_Some _ _ at) ∙ ap (λ (n : ℕ). Event (describing stamp n def) ∷ []) same
 next_described stamp id (first ∷ used) (suc place) def at =
     let e : suc place + 1 ≡ suc (place + 1) = omega arith in
     let same : id + 1 + place ≡ id + suc place = omega arith in
@@ -253,11 +245,11 @@ next_described stamp id (first ∷ used) (suc place) def at =
 
 -- The descriptions about that of one definition.
 pub split_described : (stamp id : ℕ) (used : List EventDef) (place : ℕ) (def : EventDef) → slice_get used place ≡ Some def → (after : List Entry) × (describing_from stamp id used ≡ describing_from stamp id (take place used) ++ (Event (describing stamp (id + place) def) ∷ [] ++ after))
-split_described stamp id [] place def at = some-none (sym at)
+split_described stamp id [] place def at = absurd (none-some def at)
 split_described stamp id (first ∷ used) zero def at =
     let same : id ≡ id + 0 = omega arith in (
       describing_from stamp (id + 1) used,
-      ap (λ (d : EventDef). Event (describing stamp id d) ∷ describing_from stamp (id + 1) used) (one-value at)
+      ap (λ (d : EventDef). Event (describing stamp id d) ∷ describing_from stamp (id + 1) used) (same_Some _ _ at)
           ∙ ap (λ (n : ℕ). Event (describing stamp n def) ∷ describing_from stamp (id + 1) used) same,
     )
 split_described stamp id (first ∷ used) (suc place) def at =

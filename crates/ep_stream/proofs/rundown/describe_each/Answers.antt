@@ -9,7 +9,7 @@ use Rattle.nt_write.specs.declared.fault.Fault.{Fault}
 use Rattle.nt_write.specs.declared.fault.Fault.TheVariants.{WriteFault}
 use Rattle.ep_stream.specs.Telling.{IsTelling, Tells}
 use Rattle.ep_stream.proofs.Telling.{definition_is, told_after, tells_after, tells_all, err_is, ok_is_no_fault}
-use Rattle.ep_stream.proofs.Describing.{one-value, used_at, used_count, in_range, next_described, split_described}
+use Rattle.ep_stream.proofs.Describing.{used_at, used_count, in_range, next_described, split_described}
 use Rattle.ep_stream.proofs.rundown.describe_each.Goals as goal
 use Rattle.ep_stream.proofs.rundown.describe_each.Goals.{then-number-gt0+then-number-events+in_ok-describe_one, else-number-gt0, else-number-gt0-via-then-number-gt0+else-number-events, else-number-gt0-via-else-number-gt0}
 
@@ -17,7 +17,7 @@ use Rattle.ep_stream.proofs.rundown.describe_each.Goals.{then-number-gt0+then-nu
 found_at : (events : List EventDef) (numbers : List ℕ) (used : List EventDef) (place : ℕ) (def : EventDef) → map (definition_at events) numbers ≡ map Some used → place < length numbers → definition_at events (slice_index numbers place) ≡ Some def → slice_get used place ≡ Some def
 found_at events numbers used place def are low at =
     let u = used_at events numbers used place are low in
-    u.found ∙ ap (λ (d : EventDef). Some d) (one-value (sym u.numbered ∙ at))
+    u.found ∙ ap (λ (d : EventDef). Some d) (same_Some _ _ (sym u.numbered ∙ at))
 
 -- A number that was used is that of a definition.
 used_in_range : (events : List EventDef) (numbers : List ℕ) (used : List EventDef) (place : ℕ) → map (definition_at events) numbers ≡ map Some used → place < length numbers → (slice_index numbers place ≤ 0) ⊎ (length events < slice_index numbers place) → ⊥
