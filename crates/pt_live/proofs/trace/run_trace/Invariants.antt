@@ -32,4 +32,13 @@ ghosts-run_named-P-TraceRun g a =
 -- one session, in one life of each row
 abbrev pub ghosts-run_named-P-Run : goal.ghosts-run_named-P-Run
 ghosts-run_named-P-Run g a =
-    record { setting = setting_of (ghosts-run_named-P-TraceRun g a).run }
+    record {
+      setting = setting_of (record {
+        info = a.info.now;
+        config = a.grant.now.config;
+        loan = a.lent.output.ghost_name;
+        tells = g.O.Sink.tells_taken a.lent.output.now;
+        before = g.O.Sink.taken a.lent.output.now;
+        faults = g.O.Sink.write_faults a.lent.output.now;
+      });
+    }
