@@ -1,5 +1,5 @@
 -- What the command `trace` comes to by how its session ended.
-use Rattle.std.proofs.Common.{◌≡◌, ◌≢◌, ◌⊎◌, List, refl, inl, inr, arith}
+use Rattle.std.proofs.Common.{◌≡◌, ◌≢◌, List, refl, inl, inr, arith}
 use Rattle.ep_defs.specs.declared.session.Config.{Config}
 use Rattle.ep_defs.specs.declared.session.Marks.{Marks}
 use Rattle.ep_defs.specs.Session.{standard_info_of}
@@ -13,11 +13,6 @@ use Rattle.pt_live.specs.Trace.{AreWhole, HasMarks, Traced}
 use Rattle.pt_asked.specs.declared.words.Asked.{Asked}
 use Rattle.pt_cli.specs.Traced.{IsEndOf, TracesTo}
 
--- Neither of two things that don't hold.
-neither : {A B X : Type 0} → (A → ⊥) → (B → ⊥) → A ⊎ B → X
-neither no none (inl is) = absurd (no is)
-neither no none (inr is) = absurd (none is)
-
 -- The session had each thread whole where its output took a beginning of a stream.
 whole-marks : (plan : Plan) (config : Config) (fate : Fate) (marks : List Marks) → fate ≢ fates.LinkFault → HasMarks plan config fate marks → AreWhole plan config marks
 whole-marks plan config fate marks sound (inl whole) = whole
@@ -28,12 +23,18 @@ pub traces-to : {O : Type 0} (sink : Sink O) (asked : Asked) (old new : O) (run 
 traces-to sink asked old new run fates.ProgramEnd end fate_is is traced =
     record {
       done = λ _. traced.whole fate_is;
-      part = neither (λ other. cc) (λ other. cc);
+      part = λ either. elim either [
+        | inl other ↦ absurd (cc)
+        | inr other ↦ absurd (cc)
+      ];
       memory = λ other. absurd (cc);
       spent = traced.spent;
       written = λ _. traced.rows;
       whole = λ _. whole-marks asked.plan asked.config run.fate run.marks (λ failed. cc) traced.marks;
-      whole_or_none = neither (λ other. cc) (λ other. cc);
+      whole_or_none = λ either. elim either [
+        | inl other ↦ absurd (cc)
+        | inr other ↦ absurd (cc)
+      ];
       too_long = λ other. absurd (cc);
       short = λ few other. cc;
       write_fault = λ other. absurd (cc);
@@ -47,7 +48,10 @@ traces-to sink asked old new run fates.LinkFault end fate_is is traced =
       memory = λ other. absurd (cc);
       spent = traced.spent;
       written = λ _. traced.rows;
-      whole = neither (λ other. cc) (λ other. cc);
+      whole = λ either. elim either [
+        | inl other ↦ absurd (cc)
+        | inr other ↦ absurd (cc)
+      ];
       whole_or_none = λ _. elim traced.marks [
         | inl whole ↦ inl whole
         | inr none ↦ inr none.1
@@ -55,7 +59,10 @@ traces-to sink asked old new run fates.LinkFault end fate_is is traced =
       too_long = λ other. absurd (cc);
       short = λ few other. cc;
       write_fault = λ _. traced.link_fault fate_is;
-      all_written = neither (λ other. cc) (λ other. cc);
+      all_written = λ either. elim either [
+        | inl other ↦ absurd (cc)
+        | inr other ↦ absurd (cc)
+      ];
       ends = inr (inl is);
     }
 traces-to sink asked old new run fates.TooLong end fate_is is traced =
@@ -67,7 +74,10 @@ traces-to sink asked old new run fates.TooLong end fate_is is traced =
       spent = traced.spent;
       written = λ _. traced.rows;
       whole = λ _. whole-marks asked.plan asked.config run.fate run.marks (λ failed. cc) traced.marks;
-      whole_or_none = neither (λ other. cc) (λ other. cc);
+      whole_or_none = λ either. elim either [
+        | inl other ↦ absurd (cc)
+        | inr other ↦ absurd (cc)
+      ];
       too_long = λ _. long;
       short = λ few _. omega (arith, few, long.taken, long.admitted, long.written);
       write_fault = λ other. absurd (cc);
@@ -77,11 +87,17 @@ traces-to sink asked old new run fates.TooLong end fate_is is traced =
 traces-to sink asked old new run fates.OutOfMemory end fate_is is traced =
     record {
       done = λ other. absurd (cc);
-      part = neither (λ other. cc) (λ other. cc);
+      part = λ either. elim either [
+        | inl other ↦ absurd (cc)
+        | inr other ↦ absurd (cc)
+      ];
       memory = λ _ tells. inl (traced.part (rw fate_is refl) tells);
       spent = traced.spent;
       written = λ other. absurd (other is);
-      whole = neither (λ other. cc) (λ other. cc);
+      whole = λ either. elim either [
+        | inl other ↦ absurd (cc)
+        | inr other ↦ absurd (cc)
+      ];
       whole_or_none = λ _. elim traced.marks [
         | inl whole ↦ inl whole
         | inr none ↦ inr none.1
@@ -89,7 +105,10 @@ traces-to sink asked old new run fates.OutOfMemory end fate_is is traced =
       too_long = λ other. absurd (cc);
       short = λ few other. cc;
       write_fault = λ other. absurd (cc);
-      all_written = neither (λ other. cc) (λ other. cc);
+      all_written = λ either. elim either [
+        | inl other ↦ absurd (cc)
+        | inr other ↦ absurd (cc)
+      ];
       ends = inr (inr (inl is));
     }
 traces-to sink asked old new run (fates.Requested conn) end fate_is is traced = absurd is
