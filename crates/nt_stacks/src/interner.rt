@@ -59,6 +59,7 @@ impl Interner {
 
     /// The id of the stack with these bytes, which is 0 for no bytes. A stack that was not there since the last clear
     /// gets the next id. Out of memory, it changes nothing.
+    #[inline(never)]
     pub fn id_of(&mut self, alloc: Global, bytes: &[u8]) -> Result<Interned, AllocError>
         requires { length self.old < MOST_STACKS }
         ensures ok { OnOk result (self.new ≡ with_stack self.old bytes.now) }
