@@ -1,5 +1,5 @@
 -- An event whose definition and whose stack have ids: it brings nothing new but its blob.
-use Rattle.std.proofs.Common.{◌≡◌, ◌≢◌, ℕ, ◌<◌, false, List, refl, ap, sym, ◌∙◌, arith}
+use Rattle.std.proofs.Common.{◌≡◌, ◌≢◌, ℕ, ◌<◌, Bool, false, List, Option, None, Some, refl, ap, sym, ◌∙◌, arith}
 use Rattle.std.proofs.lemmas.Bool.{ne_eqb}
 use Rattle.ep_defs.specs.declared.event.EventDef.{EventDef}
 use Rattle.ep_defs.specs.Event.{is_same_event}
@@ -7,17 +7,29 @@ use Rattle.ep_defs.specs.Entry.{EventEntry}
 use Rattle.nt_head.specs.declared.head.HeadState.{HeadState}
 use Rattle.nt_stacks.specs.declared.interner.Interned.{Interned}
 use Rattle.nt_stacks.specs.Stacks.{with_stack}
-use Rattle.nt_write.specs.Layout.{Layout, id_in, with_member, event_draft, with_event}
+use Rattle.nt_write.specs.declared.writer.EventOut.{EventOut}
+use Rattle.nt_write.specs.declared.writer.TraceWriter.{TraceWriter}
+use Rattle.nt_write.specs.Adding.{IsReady}
+use Rattle.nt_write.specs.Layout.{Layout, id_in, with_member, event_draft, needs_flush, with_event}
 use Rattle.nt_write.specs.Arriving.{IsInterned, with_definition, with_new_stack, with_draft}
-use Rattle.nt_write.proofs.Defining.{event-is, stack-known}
+use Rattle.nt_write.specs.Writer.{entry_of}
+use Rattle.nt_write.specs.Writing.{arrival_for, id_at, ids_of, lacks_room}
+use Rattle.nt_write.proofs.Defining.{event-is, needs-is, stack-known}
 
 -- A stack that is not new, by its id alone.
 pub interned-known : (stacks : List (List ℕ)) (frames : List ℕ) (stack : Interned) → IsInterned stacks frames stack → stack.is_new ≡ false → IsInterned stacks frames (record { id = stack.id; is_new = false })
 interned-known stacks frames stack h known = record { id = h.id; is_new = sym known ∙ h.is_new }
 
 -- A definition with an id is none that is new.
-pub has-id : (definitions : List EventDef) (def : EventDef) (id : ℕ) → 0 < id → id ≡ id_in is_same_event def definitions → id_in is_same_event def definitions ≢ 0
+has-id : (definitions : List EventDef) (def : EventDef) (id : ℕ) → 0 < id → id ≡ id_in is_same_event def definitions → id_in is_same_event def definitions ≢ 0
 has-id definitions def id given is = λ none. omega (arith, given, is, none)
+
+-- What arrives of the event lacks room exactly where the event needs a flush.
+pub known-needs : {S : Type 0} (tells : S → Bool) (taken : S → List ℕ) (start : List ℕ) (defs : ℕ → Option EventDef) (layout : Layout) (def : EventDef) (out : EventOut) (id stack : ℕ) (writer : TraceWriter S)
+    → IsReady tells taken start defs layout out.frames.now (record { id = stack; is_new = false }) writer → defs out.event ≡ Some def → (0 < id) × (id ≡ id_at (ids_of writer) out.event)
+    → lacks_room layout (arrival_for out None (record { id = stack; is_new = false })) ≡ needs_flush layout (entry_of def out)
+known-needs tells taken start defs layout def out id stack writer h at given =
+    needs-is layout def out None (record { id = stack; is_new = false }) (has-id layout.definitions def id given.0 (given.1 ∙ h.kept.ids.id_is out.event def at)) h.interned
 
 -- It stays among the definitions once.
 member-known : (definitions : List EventDef) (def : EventDef) → id_in is_same_event def definitions ≢ 0 → with_member is_same_event definitions def ≡ definitions

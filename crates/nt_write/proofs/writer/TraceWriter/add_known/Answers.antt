@@ -1,4 +1,4 @@
-use Rattle.std.proofs.Common.{ℕ, Bool, false, List, None, ap, sym, ◌∙◌, subst}
+use Rattle.std.proofs.Common.{ℕ, Bool, false, List, ap, sym, ◌∙◌, subst}
 use Rattle.nt_object.specs.Stream.{blocks_bytes}
 use Rattle.nt_stacks.specs.declared.interner.Interned.{Interned}
 use Rattle.nt_stacks.specs.Stacks.{with_stack}
@@ -10,17 +10,15 @@ use Rattle.nt_write.specs.Writer.{entry_of}
 use Rattle.nt_write.proofs.Answered.{on_err}
 use Rattle.nt_write.proofs.Prefixes.{some-all}
 use Rattle.nt_write.proofs.Flushing.{flushed_if-stacks}
-use Rattle.nt_write.proofs.Defining.{needs-is, interned-after}
+use Rattle.nt_write.proofs.Defining.{interned-after}
 use Rattle.nt_write.proofs.Entries.{kept-roomy}
-use Rattle.nt_write.proofs.Known.{event-known, has-id}
+use Rattle.nt_write.proofs.Known.{event-known, known-needs}
 use Rattle.nt_write.proofs.writer.TraceWriter.add_known.Goals as goal
 
 pub returns-in_err-make_room-clause-part : goal.returns-in_err-make_room-clause-part
 returns-in_err-make_room-clause-part g c def start defs layout h distinct at =
     let out = c.args.out.now in
-    let stack : Interned = record { id = c.args.stack; is_new = false } in
-    let is = c.requires.given.1 ∙ h.kept.ids.id_is out.event def at in
-    let needs = needs-is layout def out None stack (has-id layout.definitions def c.args.id c.requires.given.0 is) h.interned in
+    let needs = known-needs g.S.Sink.tells_taken g.S.Sink.taken start defs layout def out c.args.id c.args.stack c.args.self.now h at c.requires.given in
     on_err c.from_residual.result
     (subst (λ (full : Bool). TookSome g.S.Sink.tells_taken g.S.Sink.taken start (blocks_bytes (flushed_if full layout).blocks) c.make_room.new.self.sink) needs
     (c.in_err-make_room.ensures.part start layout h.kept.output h.kept.pending))
@@ -31,9 +29,7 @@ returns-in_err-add_event-clause-part g c def start defs layout h distinct at =
     let taken = g.S.Sink.taken in
     let out = c.args.out.now in
     let event = entry_of def out in
-    let stack : Interned = record { id = c.args.stack; is_new = false } in
-    let is = c.requires.given.1 ∙ h.kept.ids.id_is out.event def at in
-    let needs = needs-is layout def out None stack (has-id layout.definitions def c.args.id c.requires.given.0 is) h.interned in
+    let needs = known-needs tells taken start defs layout def out c.args.id c.args.stack c.args.self.now h at c.requires.given in
     let kept = kept-roomy tells taken start defs layout event c.args.self.now c.make_room.new.self c.make_room.new.pending _ h.kept needs (c.in_ok-make_room.ensures.ok start layout h.kept.output h.kept.pending h.kept.flushes) in
     on_err c.from_residual-in_err-add_event.result
     (some-all tells taken start (blocks_bytes (roomy layout event).blocks) c.make_room.new.self.sink kept.output.took)
@@ -45,8 +41,7 @@ returns-clause-ok g c def start defs layout h distinct at =
     let out = c.args.out.now in
     let event = entry_of def out in
     let stack : Interned = record { id = c.args.stack; is_new = false } in
-    let is = c.requires.given.1 ∙ h.kept.ids.id_is out.event def at in
-    let needs = needs-is layout def out None stack (has-id layout.definitions def c.args.id c.requires.given.0 is) h.interned in
+    let needs = known-needs tells taken start defs layout def out c.args.id c.args.stack c.args.self.now h at c.requires.given in
     let full = needs_flush layout event in
     let room = roomy layout event in
     let kept = kept-roomy tells taken start defs layout event c.args.self.now c.make_room.new.self c.make_room.new.pending _ h.kept needs (c.in_ok-make_room.ensures.ok start layout h.kept.output h.kept.pending h.kept.flushes) in
