@@ -59,6 +59,7 @@ impl Interner {
 
     /// The id of the stack with these bytes, which is 0 for no bytes. A stack that was not there since the last clear
     /// gets the next id. Out of memory, it changes nothing.
+    // Out of line: inside what calls it, it takes the C library two instructions more an event.
     #[inline(never)]
     pub fn id_of(&mut self, alloc: Global, bytes: &[u8]) -> Result<Interned, AllocError>
         requires { length self.old < MOST_STACKS }
