@@ -11,4 +11,5 @@ pub mod Vectors
 -- what private fields stand for, and what private functions make of them
 pub mod Arriving
 pub mod Writing
+pub mod Flushing
 pub mod Adding

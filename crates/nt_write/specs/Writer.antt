@@ -5,6 +5,7 @@ use Rattle.ep_defs.specs.declared.event.EventDef.{EventDef}
 use Rattle.ep_defs.specs.declared.session.TraceInfo.{TraceInfo}
 use Rattle.ep_defs.specs.Session.{is_info}
 use Rattle.ep_defs.specs.Entry.{EventEntry, PointEntry, Entry}
+use Rattle.pt_io.specs.declared.sink.Sink.{Ghosts as Sink}
 use Rattle.pt_io.specs.Faults.{HasRisen}
 use Rattle.pt_io.specs.Taken.{IsPrefix}
 use Rattle.nt_object.specs.Stream.{stream_start}
@@ -62,6 +63,13 @@ pub record IsWriting {S : Type 0} (tells : S → Bool) (taken : S → List ℕ) 
   pub info_fits : IsTrue (is_info info)
   pub can_tell : AllByRecursion CanTell entries
   pub stacks_fit : StacksFit empty_layout entries
+
+-- Whatever the writer stands for, this holds: of what its sink had taken when it began, its definitions, what its stream
+-- says of the session, and its entries.
+abbrev pub IfWriting : {S : Type 0} → Sink S → TraceWriter S → (List ℕ → (ℕ → Option EventDef) → TraceInfo → List Entry → Type 0) → Type 0
+IfWriting sink writer Holds =
+    (before : List ℕ) (defs : ℕ → Option EventDef) (info : TraceInfo) (entries : List Entry)
+    → IsWriting sink.tells_taken sink.taken before defs info entries writer → Holds before defs info entries
 
 -- What the sink took begins the stream of these entries.
 abbrev pub TookPart : {S : Type 0} → (S → Bool) → (S → List ℕ) → List ℕ → TraceInfo → List Entry → S → Type 0

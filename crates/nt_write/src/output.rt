@@ -30,9 +30,10 @@ impl<S: Sink> Output<S> {
     ghost use Rattle.nt_blocks.specs.Bodies.{stack_body};
     ghost use Rattle.nt_blocks.specs.Drafts.{Draft, blob_body};
     ghost use Rattle.nt_blocks.specs.Making.{IsMaking};
-    ghost use Rattle.nt_write.specs.Layout.{Layout, with_block, with_block_of, flushed};
-    ghost use Rattle.nt_write.specs.Arriving.{CanFlush, flushed_if};
-    ghost use Rattle.nt_write.specs.Writing.{HasWritten, TookAll, TookSome, IsCounted, output_sink, IsPending, IsEmptied, IsSmall, HasRoom, KeepsStacks, lacks_room};
+    ghost use Rattle.nt_write.specs.Layout.{with_block, with_block_of, flushed};
+    ghost use Rattle.nt_write.specs.Arriving.{flushed_if};
+    ghost use Rattle.nt_write.specs.Flushing.{Writes, WritesPart, Flushes, FlushesPart};
+    ghost use Rattle.nt_write.specs.Writing.{HasWritten, TookAll, TookSome, IsCounted, output_sink, IsEmptied, IsSmall, HasRoom, KeepsStacks, lacks_room};
 
     /// After the 102 bytes of a stream's start, which the sink has taken.
     pub fn new(alloc: Global, sink: S) -> Output<S>
@@ -49,12 +50,8 @@ impl<S: Sink> Output<S> {
     /// Writes a block in one write.
     pub fn write_block(&mut self, kind: BlockKind, body: &[u8]) -> Result<(), Fault>
         requires { length body.now < 2 ^ 31 }
-        ensures ok { (start : List ℕ) (blocks : List Block)
-            → HasWritten S.tells_taken S.taken start blocks self.old
-            → OnOk result (HasWritten S.tells_taken S.taken start (with_block kind body.now blocks) self.new) }
-        ensures part { (start : List ℕ) (blocks : List Block)
-            → HasWritten S.tells_taken S.taken start blocks self.old
-            → OnErr result (TookSome S.tells_taken S.taken start (blocks_bytes (with_block kind body.now blocks)) (output_sink self.new)) }
+        ensures ok { Writes S.Sink (λ blocks. with_block kind body.now blocks) self.old self.new result }
+        ensures part { WritesPart S.Sink (λ blocks. with_block kind body.now blocks) self.old self.new result }
         ensures counted { IsCounted S.write_faults (output_sink self.old) (output_sink self.new) result }
         ensures other_side { S.read_side (output_sink self.new) ≡ S.read_side (output_sink self.old) }
     {
@@ -68,14 +65,14 @@ impl<S: Sink> Output<S> {
 
     // Writes the block, unless it has no blobs, and forgets the blobs.
     fn write_blobs(&mut self, alloc: Global, block: &mut BlobBlock) -> Result<(), Fault>
-        ensures ok { (start : List ℕ) (blocks : List Block) (drafts : List Draft)
-            → HasWritten S.tells_taken S.taken start blocks self.old → IsMaking drafts block.old
-            → OnOk result (HasWritten S.tells_taken S.taken start (with_block_of block.old.kind drafts (blob_body drafts) blocks) self.new) }
+        ensures ok { (drafts : List Draft) → IsMaking drafts block.old
+            → Writes S.Sink (λ blocks. with_block_of block.old.kind drafts (blob_body drafts) blocks)
+            self.old self.new result }
         ensures empty { OnOk result (IsMaking [] block.new) }
         ensures kind { block.new.kind ≡ block.old.kind }
-        ensures part { (start : List ℕ) (blocks : List Block) (drafts : List Draft)
-            → HasWritten S.tells_taken S.taken start blocks self.old → IsMaking drafts block.old
-            → OnErr result (TookSome S.tells_taken S.taken start (blocks_bytes (with_block_of block.old.kind drafts (blob_body drafts) blocks)) (output_sink self.new)) }
+        ensures part { (drafts : List Draft) → IsMaking drafts block.old
+            → WritesPart S.Sink (λ blocks. with_block_of block.old.kind drafts (blob_body drafts) blocks)
+            self.old self.new result }
         ensures counted { IsCounted S.write_faults (output_sink self.old) (output_sink self.new) result }
         ensures other_side { S.read_side (output_sink self.new) ≡ S.read_side (output_sink self.old) }
     {
@@ -86,12 +83,12 @@ impl<S: Sink> Output<S> {
 
     // Writes the block, unless it has no blobs.
     fn write_body(&mut self, alloc: Global, block: &BlobBlock) -> Result<(), Fault>
-        ensures ok { (start : List ℕ) (blocks : List Block) (drafts : List Draft)
-            → HasWritten S.tells_taken S.taken start blocks self.old → IsMaking drafts block.now
-            → OnOk result (HasWritten S.tells_taken S.taken start (with_block_of block.now.kind drafts (blob_body drafts) blocks) self.new) }
-        ensures part { (start : List ℕ) (blocks : List Block) (drafts : List Draft)
-            → HasWritten S.tells_taken S.taken start blocks self.old → IsMaking drafts block.now
-            → OnErr result (TookSome S.tells_taken S.taken start (blocks_bytes (with_block_of block.now.kind drafts (blob_body drafts) blocks)) (output_sink self.new)) }
+        ensures ok { (drafts : List Draft) → IsMaking drafts block.now
+            → Writes S.Sink (λ blocks. with_block_of block.now.kind drafts (blob_body drafts) blocks)
+            self.old self.new result }
+        ensures part { (drafts : List Draft) → IsMaking drafts block.now
+            → WritesPart S.Sink (λ blocks. with_block_of block.now.kind drafts (blob_body drafts) blocks)
+            self.old self.new result }
         ensures counted { IsCounted S.write_faults (output_sink self.old) (output_sink self.new) result }
         ensures other_side { S.read_side (output_sink self.new) ≡ S.read_side (output_sink self.old) }
     {
@@ -104,14 +101,14 @@ impl<S: Sink> Output<S> {
 
     // Writes the new stacks, if there are any.
     fn write_stacks(&mut self, alloc: Global, stacks: &mut Stacks) -> Result<(), Fault>
-        ensures ok { (start : List ℕ) (blocks : List Block)
-            → HasWritten S.tells_taken S.taken start blocks self.old
-            → OnOk result (HasWritten S.tells_taken S.taken start (with_block_of block.Stack stacks.old.fresh (stack_body stacks.old.first stacks.old.fresh) blocks) self.new) }
+        ensures ok { Writes S.Sink
+            (λ blocks. with_block_of block.Stack stacks.old.fresh (stack_body stacks.old.first stacks.old.fresh) blocks)
+            self.old self.new result }
         ensures settled { OnOk result (stacks.new
             ≡ record stacks.old { first = stacks.old.first + length stacks.old.fresh; fresh = [] }) }
-        ensures part { (start : List ℕ) (blocks : List Block)
-            → HasWritten S.tells_taken S.taken start blocks self.old
-            → OnErr result (TookSome S.tells_taken S.taken start (blocks_bytes (with_block_of block.Stack stacks.old.fresh (stack_body stacks.old.first stacks.old.fresh) blocks)) (output_sink self.new)) }
+        ensures part { WritesPart S.Sink
+            (λ blocks. with_block_of block.Stack stacks.old.fresh (stack_body stacks.old.first stacks.old.fresh) blocks)
+            self.old self.new result }
         ensures counted { IsCounted S.write_faults (output_sink self.old) (output_sink self.new) result }
         ensures other_side { S.read_side (output_sink self.new) ≡ S.read_side (output_sink self.old) }
     {
@@ -126,15 +123,8 @@ impl<S: Sink> Output<S> {
 
     /// Writes what is pending: the new definitions, the new stacks, and then the events.
     pub fn flush(&mut self, alloc: Global, pending: &mut Pending) -> Result<(), Fault>
-        ensures ok { (start : List ℕ) (layout : Layout)
-            → HasWritten S.tells_taken S.taken start layout.blocks self.old
-            → IsPending layout pending.old → CanFlush layout
-            → OnOk result (HasWritten S.tells_taken S.taken start (flushed layout).blocks self.new
-            × IsPending (flushed layout) pending.new) }
-        ensures part { (start : List ℕ) (layout : Layout)
-            → HasWritten S.tells_taken S.taken start layout.blocks self.old
-            → IsPending layout pending.old
-            → OnErr result (TookSome S.tells_taken S.taken start (blocks_bytes (flushed layout).blocks) (output_sink self.new)) }
+        ensures ok { Flushes S.Sink (λ layout. flushed layout) self.old pending.old self.new pending.new result }
+        ensures part { FlushesPart S.Sink (λ layout. flushed layout) self.old pending.old self.new result }
         ensures empty { OnOk result (IsEmptied pending.new) }
         ensures keeps { OnOk result (KeepsStacks pending.old pending.new) }
         ensures counted { IsCounted S.write_faults (output_sink self.old) (output_sink self.new) result }
@@ -153,15 +143,10 @@ impl<S: Sink> Output<S> {
         arrival: &Arrival,
     ) -> Result<(), Fault>
         requires { IsSmall arrival.now }
-        ensures ok { (start : List ℕ) (layout : Layout)
-            → HasWritten S.tells_taken S.taken start layout.blocks self.old
-            → IsPending layout pending.old → CanFlush layout
-            → OnOk result (HasWritten S.tells_taken S.taken start (flushed_if (lacks_room layout arrival.now) layout).blocks self.new
-            × IsPending (flushed_if (lacks_room layout arrival.now) layout) pending.new) }
-        ensures part { (start : List ℕ) (layout : Layout)
-            → HasWritten S.tells_taken S.taken start layout.blocks self.old
-            → IsPending layout pending.old
-            → OnErr result (TookSome S.tells_taken S.taken start (blocks_bytes (flushed_if (lacks_room layout arrival.now) layout).blocks) (output_sink self.new)) }
+        ensures ok { Flushes S.Sink (λ layout. flushed_if (lacks_room layout arrival.now) layout)
+            self.old pending.old self.new pending.new result }
+        ensures part { FlushesPart S.Sink (λ layout. flushed_if (lacks_room layout arrival.now) layout)
+            self.old pending.old self.new result }
         ensures room { OnOk result (HasRoom arrival.now pending.new) }
         ensures keeps { OnOk result (KeepsStacks pending.old pending.new) }
         ensures counted { IsCounted S.write_faults (output_sink self.old) (output_sink self.new) result }

@@ -7,7 +7,7 @@ ghost use Rattle.ep_defs.specs.declared.event.EventDef.{EventDef};
 ghost use Rattle.ep_defs.specs.declared.session.TraceInfo.{TraceInfo};
 ghost use Rattle.ep_defs.specs.Definitions.{AreDistinct};
 ghost use Rattle.ep_defs.specs.Event.{is_valid_event, is_same_event};
-ghost use Rattle.ep_defs.specs.Entry.{Entry, Event, Point};
+ghost use Rattle.ep_defs.specs.Entry.{Event, Point};
 ghost use Rattle.pt_io.specs.Faults.{HasRisen};
 ghost use Rattle.nt_object.specs.Stream.{stream_start};
 ghost use Rattle.nt_blocks.specs.declared.limits.TheConstants.{POINT_THREADS};
@@ -62,14 +62,14 @@ pub struct TraceWriter<S: Sink> {
 
 impl<S: Sink> TraceWriter<S> {
     ghost use Rattle.nt_object.specs.Stream.{blocks_bytes};
-    ghost use Rattle.nt_write.specs.Layout.{Layout, id_in, flushed, with_event, with_point};
+    ghost use Rattle.nt_write.specs.Layout.{id_in, flushed, with_event, with_point};
     ghost use Rattle.nt_write.specs.Value.{framed_with};
-    ghost use Rattle.nt_write.specs.Adding.{IsReady, Adds, AddsPart};
+    ghost use Rattle.nt_write.specs.Adding.{IsReady, Adds, AddsPart, IfAt, IfDefining};
     ghost use Rattle.nt_write.specs.Arriving.{HasRoomFor, IsInterned, with_definition};
     ghost use Rattle.nt_write.specs.Writing.{IsAt, IsKept, HasRoom, ids_of, pending_of};
-    ghost use Rattle.nt_write.specs.Writer.{fault_of, sink_of, Extends, IsWriting, StaysFailed, TellsWriteFault, TookPart, TookStream};
+    ghost use Rattle.nt_write.specs.Writer.{fault_of, sink_of, Extends, IfWriting, IsWriting, StaysFailed, TellsWriteFault, TookPart, TookStream};
     ghost use Rattle.ep_rundown.specs.Rundown.{used};
-    ghost use Rattle.nt_write.specs.Sinks.{with_sink};
+    ghost use Rattle.nt_write.specs.Sinks.{with_sink, HasTakenSame};
 
     /// Writes the stream's start, 102 bytes in one write. The sink comes back where that fails.
     pub fn begin(alloc: Global, sink: S, info: &TraceInfo) -> Result<TraceWriter<S>, (S, Fault)>
@@ -113,25 +113,20 @@ impl<S: Sink> TraceWriter<S> {
         requires whole { length out.now.frames.now % FRAME_BYTES ≡ 0 }
         requires payload { length out.now.payload.now ≤ PAYLOAD_BYTES }
 
-        ensures ok { (before : List ℕ) (defs : ℕ → Option EventDef) (info : TraceInfo) (entries : List Entry)
-            → IsWriting S.tells_taken S.taken before defs info entries self.old
-            → AreDistinct defs → defs out.now.event ≡ Some def.now
-            → OnOk result (IsWriting S.tells_taken S.taken before defs info (entries
-            ++ Event (entry_of def.now out.now) ∷ []) self.new) }
-        ensures part { (before : List ℕ) (defs : ℕ → Option EventDef) (info : TraceInfo)
-            (entries : List Entry)
-            → IsWriting S.tells_taken S.taken before defs info entries self.old
-            → AreDistinct defs → defs out.now.event ≡ Some def.now
-            → OnErr result (TookPart S.tells_taken S.taken before info (entries
-            ++ Event (entry_of def.now out.now) ∷ []) (sink_of self.new)) }
+        ensures ok { IfWriting S.Sink self.old (λ before defs info entries.
+            AreDistinct defs → defs out.now.event ≡ Some def.now
+            → OnOk result (IsWriting S.tells_taken S.taken before defs info
+            (entries ++ Event (entry_of def.now out.now) ∷ []) self.new)) }
+        ensures part { IfWriting S.Sink self.old (λ before defs info entries.
+            AreDistinct defs → defs out.now.event ≡ Some def.now
+            → OnErr result (TookPart S.tells_taken S.taken before info
+            (entries ++ Event (entry_of def.now out.now) ∷ []) (sink_of self.new))) }
         ensures fails { IfErr result (λ fault. fault_of self.new ≡ Some fault) }
         ensures sound { OnOk result (fault_of self.new ≡ None) }
         ensures stays { StaysFailed self.old self.new result }
         ensures write_fault { TellsWriteFault S.write_faults self.old self.new result }
-        ensures too_long { (before : List ℕ) (defs : ℕ → Option EventDef) (info : TraceInfo)
-            (entries : List Entry)
-            → IsWriting S.tells_taken S.taken before defs info entries self.old
-            → (result ≡ Err TooLong) ↔ ((0 < length out.now.frames.now) × (framed entries ≡ FRAMED_EVENTS)) }
+        ensures too_long { IfWriting S.Sink self.old (λ before defs info entries.
+            (result ≡ Err TooLong) ↔ ((0 < length out.now.frames.now) × (framed entries ≡ FRAMED_EVENTS))) }
         ensures wrote { result ≢ Err WriteFault
             → S.write_faults (sink_of self.new) ≡ S.write_faults (sink_of self.old) }
         ensures later { S.write_faults (sink_of self.old) ≤ S.write_faults (sink_of self.new) }
@@ -150,15 +145,12 @@ impl<S: Sink> TraceWriter<S> {
     pub fn point(&mut self, alloc: Global, stamp: u64, threads: &[(u64, u32)]) -> Result<(), Fault>
         requires { length threads.now ≤ POINT_THREADS }
 
-        ensures ok { (before : List ℕ) (defs : ℕ → Option EventDef) (info : TraceInfo) (entries : List Entry)
-            → IsWriting S.tells_taken S.taken before defs info entries self.old
-            → OnOk result (IsWriting S.tells_taken S.taken before defs info (entries
-            ++ Point (point_of stamp threads.now) ∷ []) self.new) }
-        ensures part { (before : List ℕ) (defs : ℕ → Option EventDef) (info : TraceInfo)
-            (entries : List Entry)
-            → IsWriting S.tells_taken S.taken before defs info entries self.old
-            → OnErr result (TookPart S.tells_taken S.taken before info (entries
-            ++ Point (point_of stamp threads.now) ∷ []) (sink_of self.new)) }
+        ensures ok { IfWriting S.Sink self.old (λ before defs info entries.
+            OnOk result (IsWriting S.tells_taken S.taken before defs info
+            (entries ++ Point (point_of stamp threads.now) ∷ []) self.new)) }
+        ensures part { IfWriting S.Sink self.old (λ before defs info entries.
+            OnErr result (TookPart S.tells_taken S.taken before info
+            (entries ++ Point (point_of stamp threads.now) ∷ []) (sink_of self.new))) }
         ensures fails { IfErr result (λ fault. fault_of self.new ≡ Some fault) }
         ensures sound { OnOk result (fault_of self.new ≡ None) }
         ensures stays { StaysFailed self.old self.new result }
@@ -180,13 +172,10 @@ impl<S: Sink> TraceWriter<S> {
 
     /// Flushes, writes the end of the stream, and gives the sink back.
     pub fn end(self, alloc: Global) -> (S, Result<(), Fault>)
-        ensures ok { (before : List ℕ) (defs : ℕ → Option EventDef) (info : TraceInfo) (entries : List Entry)
-            → IsWriting S.tells_taken S.taken before defs info entries self
-            → OnOk result.1 (TookStream S.tells_taken S.taken before info entries result.0) }
-        ensures part { (before : List ℕ) (defs : ℕ → Option EventDef) (info : TraceInfo)
-            (entries : List Entry)
-            → IsWriting S.tells_taken S.taken before defs info entries self
-            → OnErr result.1 (TookPart S.tells_taken S.taken before info entries result.0) }
+        ensures ok { IfWriting S.Sink self (λ before defs info entries.
+            OnOk result.1 (TookStream S.tells_taken S.taken before info entries result.0)) }
+        ensures part { IfWriting S.Sink self (λ before defs info entries.
+            OnErr result.1 (TookPart S.tells_taken S.taken before info entries result.0)) }
         ensures stays { (fault : _) → fault_of self ≡ Some fault
             → (result.1 ≡ Err fault) × (result.0 ≡ sink_of self) }
         ensures write_fault { result.1 ≡ Err WriteFault → (fault_of self ≡ Some WriteFault)
@@ -215,16 +204,11 @@ impl<S: Sink> TraceWriter<S> {
     pub fn replace_sink(&mut self, sink: S) -> S
         ensures given { result ≡ sink_of self.old }
         ensures placed { self.new ≡ with_sink self.old sink }
-        ensures goes_on { (before : List ℕ) (defs : ℕ → Option EventDef) (info : TraceInfo)
-            (entries : List Entry) (other : S)
-            → IsWriting S.tells_taken S.taken before defs info entries self.old
-            → S.tells_taken other ≡ S.tells_taken (sink_of self.old)
-            → S.taken other ≡ S.taken (sink_of self.old)
-            → IsWriting S.tells_taken S.taken before defs info entries (with_sink self.old other) }
-        ensures part { (before : List ℕ) (defs : ℕ → Option EventDef) (info : TraceInfo)
-            (entries : List Entry)
-            → IsWriting S.tells_taken S.taken before defs info entries self.old
-            → TookPart S.tells_taken S.taken before info entries result }
+        ensures goes_on { (other : S) → HasTakenSame S.Sink (sink_of self.old) other
+            → IfWriting S.Sink self.old (λ before defs info entries.
+            IsWriting S.tells_taken S.taken before defs info entries (with_sink self.old other)) }
+        ensures part { IfWriting S.Sink self.old (λ before defs info entries.
+            TookPart S.tells_taken S.taken before info entries result) }
     {
         self.output.replace_sink(sink)
     }
@@ -232,15 +216,10 @@ impl<S: Sink> TraceWriter<S> {
     /// The numbers of the definitions that its events named so far, in the order of their metadata ids, which are 1, 2,
     /// 3, ..
     pub fn used(&self) -> &[u32]
-        ensures named { (before : List ℕ) (defs : ℕ → Option EventDef) (info : TraceInfo)
-            (entries : List Entry)
-            → IsWriting S.tells_taken S.taken before defs info entries self.now
-            → map defs result.now ≡ map Some (used entries) }
-        ensures goes_on { (before : List ℕ) (defs more : ℕ → Option EventDef) (info : TraceInfo)
-            (entries : List Entry)
-            → IsWriting S.tells_taken S.taken before defs info entries self.now
-            → Extends (used entries) defs more
-            → IsWriting S.tells_taken S.taken before more info entries self.now }
+        ensures named { IfWriting S.Sink self.now (λ before defs info entries.
+            map defs result.now ≡ map Some (used entries)) }
+        ensures goes_on { (more : ℕ → Option EventDef) → IfWriting S.Sink self.now (λ before defs info entries.
+            Extends (used entries) defs more → IsWriting S.tells_taken S.taken before more info entries self.now) }
         ensures few { length result.now ≤ LAST_EVENT + 1 }
     {
         self.ids.numbers()
@@ -252,10 +231,8 @@ impl<S: Sink> TraceWriter<S> {
         requires { fault_of self.old ≡ None }
         ensures fault { fault_of self.new ≡ Some OutOfMemory }
         ensures sink { sink_of self.new ≡ sink_of self.old }
-        ensures part { (before : List ℕ) (defs : ℕ → Option EventDef) (info : TraceInfo)
-            (entries : List Entry)
-            → IsWriting S.tells_taken S.taken before defs info entries self.old
-            → TookPart S.tells_taken S.taken before info entries (sink_of self.new) }
+        ensures part { IfWriting S.Sink self.old (λ before defs info entries.
+            TookPart S.tells_taken S.taken before info entries (sink_of self.new)) }
     {
         self.fault = Some(Fault::OutOfMemory);
     }
@@ -389,11 +366,9 @@ impl<S: Sink> TraceWriter<S> {
             → id_at (ids_of self.old) out.now.event ≡ 0 }
         requires given { meta.now ≡ None → 0 < id_at (ids_of self.old) out.now.event }
 
-        ensures ok { (start : List ℕ) (defs : ℕ → Option EventDef) (layout : Layout) (def : EventDef)
-            → IsKept S.tells_taken S.taken start defs layout self.old → AreDistinct defs
-            → defs out.now.event ≡ Some def
-            → IsNew layout.definitions def meta.now → IsInterned layout.stacks out.now.frames.now stack.now
-            → OnOk result (IsKept S.tells_taken S.taken start defs (with_event layout (entry_of def out.now)) self.new) }
+        ensures ok { IfDefining S.Sink out.now.event meta.now self.old (λ start defs layout def.
+            IsInterned layout.stacks out.now.frames.now stack.now → OnOk result (IsKept S.tells_taken S.taken
+            start defs (with_event layout (entry_of def out.now)) self.new)) }
         ensures known { OnOk result ((pending_of self.new).stacks.known ≡ (pending_of self.old).stacks.known) }
         ensures framed { OnOk result ((pending_of self.new).stacks.framed ≡ (pending_of self.old).stacks.framed) }
         ensures sink { sink_of self.new ≡ sink_of self.old }
@@ -415,14 +390,10 @@ impl<S: Sink> TraceWriter<S> {
         requires given { meta.now ≡ None → 0 < id_at (ids_of self.old) event }
 
         ensures positive { IfOk result (λ id. 0 < id) }
-        ensures id { (start : List ℕ) (defs : ℕ → Option EventDef) (layout : Layout) (def : EventDef)
-            → IsKept S.tells_taken S.taken start defs layout self.old → AreDistinct defs
-            → defs event ≡ Some def → IsNew layout.definitions def meta.now
-            → IfOk result (λ id. id ≡ id_in is_same_event def (with_definition layout def).definitions) }
-        ensures ok { (start : List ℕ) (defs : ℕ → Option EventDef) (layout : Layout) (def : EventDef)
-            → IsKept S.tells_taken S.taken start defs layout self.old → AreDistinct defs
-            → defs event ≡ Some def → IsNew layout.definitions def meta.now
-            → OnOk result (IsKept S.tells_taken S.taken start defs (with_definition layout def) self.new) }
+        ensures id { IfDefining S.Sink event meta.now self.old (λ start defs layout def.
+            IfOk result (λ id. id ≡ id_in is_same_event def (with_definition layout def).definitions)) }
+        ensures ok { IfDefining S.Sink event meta.now self.old (λ start defs layout def.
+            OnOk result (IsKept S.tells_taken S.taken start defs (with_definition layout def) self.new)) }
         ensures events { (pending_of self.new).events ≡ (pending_of self.old).events }
         ensures stacks { (pending_of self.new).stacks ≡ (pending_of self.old).stacks }
         ensures sink { sink_of self.new ≡ sink_of self.old }
@@ -444,13 +415,12 @@ impl<S: Sink> TraceWriter<S> {
     ) -> Result<(), Fault>
         requires { length threads.now ≤ POINT_THREADS }
 
-        ensures ok { (start : List ℕ) (defs : ℕ → Option EventDef) (layout : Layout)
-            → IsAt S.tells_taken S.taken start defs layout self.old
-            → OnOk result (IsAt S.tells_taken S.taken start defs (with_point layout (point_of stamp threads.now)) self.new) }
+        ensures ok { IfAt S.Sink self.old (λ start defs layout.
+            OnOk result (IsAt S.tells_taken S.taken start defs (with_point layout (point_of stamp threads.now)) self.new)) }
         ensures framed { OnOk result ((pending_of self.new).stacks.framed ≡ 0) }
-        ensures part { (start : List ℕ) (defs : ℕ → Option EventDef) (layout : Layout)
-            → IsAt S.tells_taken S.taken start defs layout self.old
-            → OnErr result (TookSome S.tells_taken S.taken start (blocks_bytes (with_point layout (point_of stamp threads.now)).blocks) (sink_of self.new)) }
+        ensures part { IfAt S.Sink self.old (λ start defs layout.
+            OnErr result (TookSome S.tells_taken S.taken start
+            (blocks_bytes (with_point layout (point_of stamp threads.now)).blocks) (sink_of self.new))) }
         ensures counted { IsCounted S.write_faults (sink_of self.old) (sink_of self.new) result }
         ensures other_side { S.read_side (sink_of self.new) ≡ S.read_side (sink_of self.old) }
     {
@@ -463,14 +433,12 @@ impl<S: Sink> TraceWriter<S> {
     }
 
     fn finish(&mut self, alloc: Global) -> Result<(), Fault>
-        ensures ok { (start : List ℕ) (defs : ℕ → Option EventDef) (layout : Layout)
-            → IsAt S.tells_taken S.taken start defs layout self.old
-            → OnOk result (TookAll S.tells_taken S.taken start (blocks_bytes (flushed layout).blocks
-            ++ 1 ∷ []) (sink_of self.new)) }
-        ensures part { (start : List ℕ) (defs : ℕ → Option EventDef) (layout : Layout)
-            → IsAt S.tells_taken S.taken start defs layout self.old
-            → OnErr result (TookSome S.tells_taken S.taken start (blocks_bytes (flushed layout).blocks
-            ++ 1 ∷ []) (sink_of self.new)) }
+        ensures ok { IfAt S.Sink self.old (λ start defs layout.
+            OnOk result (TookAll S.tells_taken S.taken start
+            (blocks_bytes (flushed layout).blocks ++ 1 ∷ []) (sink_of self.new))) }
+        ensures part { IfAt S.Sink self.old (λ start defs layout.
+            OnErr result (TookSome S.tells_taken S.taken start
+            (blocks_bytes (flushed layout).blocks ++ 1 ∷ []) (sink_of self.new))) }
         ensures counted { IsCounted S.write_faults (sink_of self.old) (sink_of self.new) result }
         ensures other_side { S.read_side (sink_of self.new) ≡ S.read_side (sink_of self.old) }
     {

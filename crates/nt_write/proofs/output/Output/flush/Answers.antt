@@ -13,13 +13,13 @@ returns-in_err-write_blobs-clause-part g c start layout h p =
     let T : List Block → Type 0 = λ blocks. TookSome g.S.Sink.tells_taken g.S.Sink.taken start (blocks_bytes blocks) c.write_blobs.new.self.sink in
     on_err c.from_residual.result
     (some-longer g.S.Sink.tells_taken g.S.Sink.taken start (blocks_bytes (with_metas layout)) (blocks_bytes (flushed layout).blocks) c.write_blobs.new.self.sink (metas-extend layout)
-    (subst T (metas-written layout c.args.pending.now.metadata.kind c.args.pending.now.of_metadata) (c.in_err-write_blobs.ensures.part start layout.blocks (new_metas layout) h p.metadata)))
+    (subst T (metas-written layout c.args.pending.now.metadata.kind c.args.pending.now.of_metadata) (c.in_err-write_blobs.ensures.part (new_metas layout) p.metadata start layout.blocks h)))
 
 pub returns-in_err-write_stacks-clause-part : goal.returns-in_err-write_stacks-clause-part
 returns-in_err-write_stacks-clause-part g c start layout h p =
     let W : List Block → Type 0 = λ blocks. HasWritten g.S.Sink.tells_taken g.S.Sink.taken start blocks c.write_blobs.new.self in
     let T : List Block → Type 0 = λ blocks. TookSome g.S.Sink.tells_taken g.S.Sink.taken start (blocks_bytes blocks) c.write_stacks.new.self.sink in
-    let first = subst W (metas-written layout c.args.pending.now.metadata.kind c.args.pending.now.of_metadata) (c.in_ok-write_blobs.ensures.ok start layout.blocks (new_metas layout) h p.metadata) in
+    let first = subst W (metas-written layout c.args.pending.now.metadata.kind c.args.pending.now.of_metadata) (c.in_ok-write_blobs.ensures.ok (new_metas layout) p.metadata start layout.blocks h) in
     on_err c.from_residual-in_err-write_stacks.result
     (some-longer g.S.Sink.tells_taken g.S.Sink.taken start (blocks_bytes (with_stacks layout)) (blocks_bytes (flushed layout).blocks) c.write_stacks.new.self.sink (stacks-extend layout)
     (subst T (stacks-written layout c.args.pending.now p) (c.in_err-write_stacks.ensures.part start (with_metas layout) first)))
@@ -30,11 +30,11 @@ returns-clause-ok g c start layout h p can =
     let W : List Block → Type 0 = λ blocks. HasWritten g.S.Sink.tells_taken g.S.Sink.taken start blocks c.write_blobs.new.self in
     let V : List Block → Type 0 = λ blocks. HasWritten g.S.Sink.tells_taken g.S.Sink.taken start blocks c.write_stacks.new.self in
     let U : List Block → Type 0 = λ blocks. HasWritten g.S.Sink.tells_taken g.S.Sink.taken start blocks c.write_blobs-2.new.self in
-    let first = subst W (metas-written layout old.metadata.kind old.of_metadata) (c.in_ok-write_blobs.ensures.ok start layout.blocks (new_metas layout) h p.metadata) in
+    let first = subst W (metas-written layout old.metadata.kind old.of_metadata) (c.in_ok-write_blobs.ensures.ok (new_metas layout) p.metadata start layout.blocks h) in
     let second = subst V (stacks-written layout old p) (c.in_ok-write_stacks.ensures.ok start (with_metas layout) first) in
     on_ok-both c.write_blobs-2.result
     (λ written events. (subst U (events-written layout old.events.kind old.of_events) written, flush-pending layout old _ p can c.in_ok-write_blobs.ensures.empty events c.in_ok-write_stacks.ensures.settled))
-    (c.write_blobs-2.ensures.ok start (with_stacks layout) layout.events second p.events)
+    (c.write_blobs-2.ensures.ok layout.events p.events start (with_stacks layout) second)
     c.write_blobs-2.ensures.empty
 
 pub returns-clause-part : goal.returns-clause-part
@@ -43,9 +43,9 @@ returns-clause-part g c start layout h p =
     let W : List Block → Type 0 = λ blocks. HasWritten g.S.Sink.tells_taken g.S.Sink.taken start blocks c.write_blobs.new.self in
     let V : List Block → Type 0 = λ blocks. HasWritten g.S.Sink.tells_taken g.S.Sink.taken start blocks c.write_stacks.new.self in
     let T : List Block → Type 0 = λ blocks. TookSome g.S.Sink.tells_taken g.S.Sink.taken start (blocks_bytes blocks) c.write_blobs-2.new.self.sink in
-    let first = subst W (metas-written layout old.metadata.kind old.of_metadata) (c.in_ok-write_blobs.ensures.ok start layout.blocks (new_metas layout) h p.metadata) in
+    let first = subst W (metas-written layout old.metadata.kind old.of_metadata) (c.in_ok-write_blobs.ensures.ok (new_metas layout) p.metadata start layout.blocks h) in
     let second = subst V (stacks-written layout old p) (c.in_ok-write_stacks.ensures.ok start (with_metas layout) first) in
-    on_err-then c.write_blobs-2.result (λ took. subst T (events-written layout old.events.kind old.of_events) took) (c.write_blobs-2.ensures.part start (with_stacks layout) layout.events second p.events)
+    on_err-then c.write_blobs-2.result (λ took. subst T (events-written layout old.events.kind old.of_events) took) (c.write_blobs-2.ensures.part layout.events p.events start (with_stacks layout) second)
 
 pub returns-clause-empty : goal.returns-clause-empty
 returns-clause-empty g c =

@@ -9,5 +9,5 @@ returns-clause-named g c before defs info entries h =
     ∙ ap (λ (definitions : List EventDef). map Some definitions) (definitions-used entries)
 
 pub returns-clause-goes_on : goal.returns-clause-goes_on
-returns-clause-goes_on g c before defs more info entries h extends =
+returns-clause-goes_on g c more before defs info entries h extends =
     writing-of-more g.S.Sink.tells_taken g.S.Sink.taken before defs more info entries c.args.self.now h extends
