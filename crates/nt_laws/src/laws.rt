@@ -8,10 +8,8 @@ ghost use Rattle.nt_blocks.specs.Verdict.{Good, verdict};
 ghost use Rattle.nt_write.specs.Trace.{IsTrace};
 ghost use Rattle.nt_write.specs.Canonical.{IsCanonical};
 ghost use Rattle.ep_model.specs.Faithful.{Share, AreFaithful};
-ghost use Rattle.ep_rundown.specs.Rundown.{with_section};
 ghost use Rattle.ep_told.specs.Told.{AreOfProgram};
-ghost use Rattle.nt_laws.specs.Bare.{bare};
-ghost use Rattle.nt_laws.specs.Faithful.{Faithful};
+ghost use Rattle.nt_laws.specs.Faithful.{Faithful, TellsShares};
 ghost use Rattle.nt_laws.specs.Reading.{IsBegun, IsBegunAs, IsReadAs, IsReadUpTo};
 ghost use Rattle.pt_io.specs.Taken.{IsPrefix};
 
@@ -79,8 +77,7 @@ pub fn a_faithful_stream_is_found()
 pub fn a_stream_with_a_rundown_is_faithful()
     ensures { (rundown : Bool) (info : TraceInfo) (shares : List Share) (entries : List Entry)
         (bytes : List ℕ) → AreFaithful shares entries → AreOfProgram entries
-        → (canonical : IsCanonical info (with_section rundown entries) bytes)
-        → Faithful shares (bare rundown canonical.items) }
+        → TellsShares rundown info shares entries bytes }
 {
     a_faithful_stream_is_found();
 }
