@@ -1,6 +1,8 @@
 -- The fields of a header, one after another.
-use Rattle.std.proofs.Common.{◌≡◌, ℕ, ◌+◌, ◌-◌, ◌%◌, ◌^◌, Bool, true, false, eqb, nat_eq, is_some, List, [], ◌∷◌, ◌++◌, refl, ap, sym, ◌∙◌, append_assoc}
+use Rattle.std.proofs.Common.{◌≡◌, ℕ, ◌+◌, ◌-◌, ◌%◌, ◌^◌, Bool, true, false, eqb, nat_eq, is_some, List, [], ◌∷◌, ◌++◌, length, refl, ap, sym, ◌∙◌, append_assoc}
 use Rattle.std.proofs.lemmas.List.{append-nil}
+use Rattle.std.proofs.Math.ListN.{set}
+use Rattle.std.proofs.Math.Seq.{set-append_seam}
 use Rattle.std.specs.Bool.{then_some}
 use Rattle.std.specs.List.{concat}
 use Rattle.std.specs.Prelude.{not, ◌||◌}
@@ -22,6 +24,10 @@ is_some-then_some false value = refl
 pub nine_put : (old o1 o2 o3 o4 o5 o6 o7 o8 p1 p2 p3 p4 p5 p6 p7 p8 : List ℕ) (b : ℕ) → o1 ≡ old ++ b ∷ [] → o2 ≡ o1 ++ p1 → o3 ≡ o2 ++ p2 → o4 ≡ o3 ++ p3 → o5 ≡ o4 ++ p4 → o6 ≡ o5 ++ p5 → o7 ≡ o6 ++ p6 → o8 ≡ o7 ++ p7 → o8 ++ p8 ≡ old ++ concat ((b ∷ []) ∷ p1 ∷ p2 ∷ p3 ∷ p4 ∷ p5 ∷ p6 ∷ p7 ∷ p8 ∷ [])
 nine_put old o1 o2 o3 o4 o5 o6 o7 o8 p1 p2 p3 p4 p5 p6 p7 p8 b e1 e2 e3 e4 e5 e6 e7 e8 =
     rw (e8, e7, e6, e5, e4, e3, e2, e1) (simp (append_assoc, append-nil))
+
+-- A byte that is put in the place of the one behind the old bytes.
+pub set_behind : (old rest whole : List ℕ) (b c place : ℕ) → whole ≡ old ++ b ∷ rest → place ≡ length old → set whole place c ≡ old ++ c ∷ rest
+set_behind old rest whole b c place put at = rw (put, at) (set-append_seam old b rest c)
 
 -- A byte and a piece that are put in turn, which are these bytes.
 pub two_put : (old o1 new piece whole : List ℕ) (b : ℕ) {c : ℕ} → o1 ≡ old ++ b ∷ [] → new ≡ o1 ++ piece → b ≡ c → whole ≡ c ∷ piece → new ≡ old ++ whole

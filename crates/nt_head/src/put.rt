@@ -1,10 +1,11 @@
 //! Writing a header.
-ghost use Rattle.std.specs.Prelude.{◌≡◌, ◌+◌, ◌-◌, ◌%◌, ◌^◌, ◌≤◌, ◌++◌, length, nat_eq, IsTrue, IsOk, IfOk, OnOk, OnErr, vec_len, vec_capacity};
+ghost use Rattle.std.specs.Prelude.{◌≡◌, ◌+◌, ◌-◌, ◌%◌, ◌^◌, ◌≤◌, ◌++◌, length, nat_eq, is_some, IsTrue, IsOk, IfOk, OnOk, OnErr, vec_len, vec_capacity};
 ghost use Rattle.std.specs.Int.{w32, w64};
 ghost use Rattle.std.specs.Bool.{then_some};
 ghost use Rattle.std.specs.Cmp.Lexicographic.{pointwise};
 ghost use Rattle.pt_num.specs.Numbers.{short_var};
-ghost use Rattle.nt_head.specs.Fewest.{has_sequence, head_bytes, if_there, keeps_fields, sequence_bytes, sequence_of, KeepsSequence};
+ghost use Rattle.nt_head.specs.Fewest.{has_sequence, head_bytes, if_new, if_there, keeps_fields, sequence_bytes, sequence_of, KeepsSequence};
+ghost use Rattle.nt_head.specs.declared.flags.TheConstants.{SEQUENCE};
 ghost use Rattle.nt_head.specs.Head.{IsHead};
 ghost use Rattle.nt_head.specs.Head.{flag as worth_of};
 
@@ -13,6 +14,7 @@ use crate::head::{HeadState, state_fits};
 use crate::limits::{HEAD_BYTES, ID_BYTES};
 use pt_num::{push_var32, push_var64};
 use std::alloc::AllocError;
+use std::mem;
 
 /// Appends the header that says `now` after `previous`, with the fewest fields and each number in its shortest form,
 /// at most 88 bytes, and answers how many.
@@ -107,31 +109,33 @@ fn push_fields(out: &mut Vec<u8>, previous: &HeadState, now: &HeadState)
     ensures len { vec_len out.new ≤ vec_len out.old + HEAD_BYTES }
     ensures capacity { vec_capacity out.new ≡ vec_capacity out.old }
 {
-    let metadata = previous.metadata != now.metadata;
-    let sequence = has_sequence(previous, now);
-    let thread = previous.thread != now.thread;
-    let stack = previous.stack != now.stack;
-    let activity = !is_same_id(&previous.activity, &now.activity);
-    let related = !is_same_id(&previous.related, &now.related);
-    let size = previous.size != now.size;
-    out.push_reserved(
-        flag(METADATA, metadata)
-            + flag(SEQUENCE, sequence)
-            + flag(THREAD, thread)
-            + flag(STACK, stack)
-            + flag(ACTIVITY, activity)
-            + flag(RELATED, related)
-            + flag(SORTED, now.sorted)
-            + flag(SIZE, size),
-    );
-    push_new32(out, metadata, now.metadata);
-    push_sequence(out, sequence, previous, now);
-    push_new64(out, thread, now.thread);
-    push_new32(out, stack, now.stack);
+    // The list is taken out of its place meanwhile, so that no byte that is put can be one of the list's own.
+    let nothing = Vec::new(*out.allocator());
+    let mut taken = mem::replace(out, nothing);
+    push_in_turn(&mut taken, previous, now);
+    *out = taken;
+}
+
+// The same: each field is compared and put in turn, and the flag byte is set when all of them are known.
+#[inline(always)]
+fn push_in_turn(out: &mut Vec<u8>, previous: &HeadState, now: &HeadState)
+    requires { vec_len out.old + HEAD_BYTES ≤ vec_capacity out.old }
+    ensures items { out.new.items ≡ out.old.items ++ head_bytes previous.now now.now }
+    ensures len { vec_len out.new ≤ vec_len out.old + HEAD_BYTES }
+    ensures capacity { vec_capacity out.new ≡ vec_capacity out.old }
+{
+    let place = out.len();
+    out.push_reserved(0);
+    let mut flags = push_new32(out, METADATA, previous.metadata, now.metadata);
+    flags += push_sequence(out, previous, now);
+    flags += push_new64(out, THREAD, previous.thread, now.thread);
+    flags += push_new32(out, STACK, previous.stack, now.stack);
     push_stamp(out, previous, now);
-    push_new_id(out, activity, &now.activity);
-    push_new_id(out, related, &now.related);
-    push_new32(out, size, now.size);
+    flags += push_new_id(out, ACTIVITY, &previous.activity, &now.activity);
+    flags += push_new_id(out, RELATED, &previous.related, &now.related);
+    flags += flag(SORTED, now.sorted);
+    flags += push_new32(out, SIZE, previous.size, now.size);
+    out[place] = flags;
 }
 
 // Whether the blob says what the blob before it says, but for the stamp and the next number.
@@ -173,28 +177,37 @@ fn flag(worth: u8, set: bool) -> u8
     if set { worth } else { 0 }
 }
 
+// Appends a field where its value is new, and answers what its flag, which is worth this much, adds to the flag byte.
 #[inline(always)]
-fn push_new32(out: &mut Vec<u8>, there: bool, value: u32)
+fn push_new32(out: &mut Vec<u8>, worth: u8, previous: u32, now: u32) -> u8
     requires { vec_len out.old + 5 ≤ vec_capacity out.old }
-    ensures items { out.new.items ≡ out.old.items ++ if_there (short_var w32) (then_some there value) }
+    ensures items { out.new.items ≡ out.old.items ++ if_there (short_var w32) (if_new nat_eq previous now) }
     ensures len { vec_len out.new ≤ vec_len out.old + 5 }
     ensures capacity { vec_capacity out.new ≡ vec_capacity out.old }
+    ensures flag { result ≡ worth_of worth (is_some (if_new nat_eq previous now)) }
+    ensures bound { result ≤ worth }
 {
-    if there {
-        push_var32(out, value);
+    if previous == now {
+        return 0;
     }
+    push_var32(out, now);
+    worth
 }
 
 #[inline(always)]
-fn push_new64(out: &mut Vec<u8>, there: bool, value: u64)
+fn push_new64(out: &mut Vec<u8>, worth: u8, previous: u64, now: u64) -> u8
     requires { vec_len out.old + 10 ≤ vec_capacity out.old }
-    ensures items { out.new.items ≡ out.old.items ++ if_there (short_var w64) (then_some there value) }
+    ensures items { out.new.items ≡ out.old.items ++ if_there (short_var w64) (if_new nat_eq previous now) }
     ensures len { vec_len out.new ≤ vec_len out.old + 10 }
     ensures capacity { vec_capacity out.new ≡ vec_capacity out.old }
+    ensures flag { result ≡ worth_of worth (is_some (if_new nat_eq previous now)) }
+    ensures bound { result ≤ worth }
 {
-    if there {
-        push_var64(out, value);
+    if previous == now {
+        return 0;
     }
+    push_var64(out, now);
+    worth
 }
 
 // The stamp's increment.
@@ -210,31 +223,53 @@ fn push_stamp(out: &mut Vec<u8>, previous: &HeadState, now: &HeadState)
 }
 
 #[inline(always)]
-fn push_new_id(out: &mut Vec<u8>, there: bool, id: &[u8; 16])
+fn push_new_id(out: &mut Vec<u8>, worth: u8, previous: &[u8; 16], now: &[u8; 16]) -> u8
     requires { vec_len out.old + ID_BYTES ≤ vec_capacity out.old }
-    ensures items { out.new.items ≡ out.old.items ++ if_there (λ id. id) (then_some there id.now) }
+    ensures items { out.new.items ≡ out.old.items ++ if_there (λ id. id) (if_new (pointwise nat_eq) previous.now now.now) }
     ensures len { vec_len out.new ≤ vec_len out.old + ID_BYTES }
     ensures capacity { vec_capacity out.new ≡ vec_capacity out.old }
+    ensures flag { result ≡ worth_of worth (is_some (if_new (pointwise nat_eq) previous.now now.now)) }
+    ensures bound { result ≤ worth }
 {
-    if there {
-        for byte in id {
-            out.push_reserved(*byte);
-        }
+    if is_same_id(previous, now) {
+        return 0;
     }
+    push_id(out, now);
+    worth
 }
 
 #[inline(always)]
-fn push_sequence(out: &mut Vec<u8>, there: bool, previous: &HeadState, now: &HeadState)
-    requires { vec_len out.old + 20 ≤ vec_capacity out.old }
-    ensures items { out.new.items
-        ≡ out.old.items ++ if_there sequence_bytes (then_some there (sequence_of previous.now now.now)) }
-    ensures len { vec_len out.new ≤ vec_len out.old + 20 }
+fn push_id(out: &mut Vec<u8>, id: &[u8; 16])
+    requires { vec_len out.old + ID_BYTES ≤ vec_capacity out.old }
+    ensures items { out.new.items ≡ out.old.items ++ id.now }
+    ensures len { vec_len out.new ≡ vec_len out.old + ID_BYTES }
     ensures capacity { vec_capacity out.new ≡ vec_capacity out.old }
 {
-    if there {
-        let increment = now.number.wrapping_sub(previous.number).wrapping_sub(1);
-        push_var32(out, increment);
-        push_var64(out, now.capture);
-        push_var32(out, now.processor);
+    // A copy, so that it is read in one piece and put in one.
+    let id = *id;
+    for byte in &id {
+        out.push_reserved(*byte);
     }
+}
+
+// The number, the capture thread and the processor, where one of them has to be said.
+#[inline(always)]
+fn push_sequence(out: &mut Vec<u8>, previous: &HeadState, now: &HeadState) -> u8
+    requires { vec_len out.old + 20 ≤ vec_capacity out.old }
+    ensures items { out.new.items
+        ≡ out.old.items ++ if_there sequence_bytes (then_some (has_sequence previous.now now.now) (sequence_of previous.now now.now)) }
+    ensures len { vec_len out.new ≤ vec_len out.old + 20 }
+    ensures capacity { vec_capacity out.new ≡ vec_capacity out.old }
+    ensures flag { result
+        ≡ worth_of SEQUENCE (is_some (then_some (has_sequence previous.now now.now) (sequence_of previous.now now.now))) }
+    ensures bound { result ≤ SEQUENCE }
+{
+    if !has_sequence(previous, now) {
+        return 0;
+    }
+    let increment = now.number.wrapping_sub(previous.number).wrapping_sub(1);
+    push_var32(out, increment);
+    push_var64(out, now.capture);
+    push_var32(out, now.processor);
+    SEQUENCE
 }

@@ -1,6 +1,6 @@
 -- So far the bytes before this one are put.
 use Rattle.std.proofs.Common.{◌≡◌, ◌+◌, ◌++◌, take, vec_len, vec_capacity}
-use Rattle.nt_head.proofs.put.push_new_id.Given as goal
+use Rattle.nt_head.proofs.put.push_id.Given as goal
 
 abbrev pub invariant-loop-byte : goal.invariant-loop-byte
 invariant-loop-byte l = record {
