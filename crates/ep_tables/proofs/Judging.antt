@@ -76,14 +76,14 @@ pub came_found : (past : Past) (told : ToldRows) (thread : ℕ) (given : Option 
 came_found past told thread None follows = sym follows
 came_found past told thread (Some row) follows = sym follows.0
 
--- ---- the kinds that come first
+-- ---- the kinds that a step passes first
 
--- The event is one of those that threads write, or none.
+-- The tables lack an event exactly where the definitions do.
 pub lacks_found : (events : List EventDef) (past : Past) (tables : Tables) (event : ℕ) (lacks : Bool) → TablesFollow events past tables
     → lacks ≡ is_none (definition_at tables.events.items event) → lacks ≡ is_none (definition_at events event)
 lacks_found events past tables event lacks h is = is ∙ ap (λ (list : List EventDef). is_none (definition_at list event)) h.events_are
 
--- The thread is there and in no write, and the event is one that it can write.
+-- A begin whose thread is there and in no write, and whose event is one of the definitions.
 pub pass_known : (events : List EventDef) (past : Past) (tables : Tables) (thread row event : ℕ) (writes lacks : Bool) (o p : Option Kind) → TablesFollow events past tables
     → row_of tables thread ≡ Some row → true ≡ is_there thread past → writes ≡ ((told_of tables.rows).row row).in_write → writes ≡ false
     → lacks ≡ is_none (definition_at tables.events.items event) → lacks ≡ false → p ≡ o
@@ -93,7 +93,7 @@ pass_known events past tables thread row event writes lacks o p h own there in_w
     (pass _ _ _ _ (sym (writes_found events past tables thread row writes h (sym own) in_write_is) ∙ quiet)
     (pass _ _ _ _ (sym (lacks_found events past tables event lacks h lacks_is) ∙ known) later))
 
--- The thread is there and in a write, and the session is present.
+-- A show whose thread is there and in a write, and whose session is present.
 pub pass_writing : (events : List EventDef) (past : Past) (tables : Tables) (session thread place row : ℕ) (writes : Bool) (o p : Option Kind) → TablesFollow events past tables
     → row_of tables thread ≡ Some row → true ≡ is_there thread past → Some place ≡ position (λ (q : Present). q.number == session) tables.present.items
     → writes ≡ ((told_of tables.rows).row row).in_write → not writes ≡ false → p ≡ o
@@ -103,7 +103,7 @@ pass_writing events past tables session thread place row writes o p h own there 
     (pass _ _ _ _ (ap not (sym (present_found events past tables session (Some place) h found)))
     (pass _ _ _ _ (sym (ap not (writes_found events past tables thread row writes h (sym own) in_write_is)) ∙ writing) later))
 
--- The session is present, and the thread came.
+-- A session that is present, and a thread that came.
 pub pass_came : (events : List EventDef) (past : Past) (tables : Tables) (session thread place : ℕ) (came : Bool) (o p : Option Kind) → TablesFollow events past tables
     → Some place ≡ position (λ (q : Present). q.number == session) tables.present.items → came ≡ is_some (get nat_cmp tables.threads thread) → came ≡ true → p ≡ o
     → p ≡ (if not (is_present session past) then Some NoSession else (if not (was_there thread past) then Some NoThread else o))
