@@ -7,7 +7,7 @@ use Rattle.ep_defs.specs.declared.event.EventDef.{EventDef}
 use Rattle.ep_defs.specs.declared.session.Write.{Write}
 use Rattle.ep_defs.specs.Entry.{EventEntry, PointEntry, Entry, Event, Point}
 use Rattle.ep_defs.specs.Gaps.{Sighting, Known, sightings, gaps}
-use Rattle.ep_model.specs.Chunks.{refused}
+use Rattle.ep_model.specs.Chunks.{refused, written}
 use Rattle.ep_model.specs.Entries.{has_stacks, stack_of}
 use Rattle.ep_model.specs.History.{Past, admitted, opened}
 
@@ -106,3 +106,8 @@ share_of definitions session past thread =
 -- The session's shares of the threads on which it was opened.
 abbrev pub shares_of : List EventDef → ℕ → Past → List Share
 shares_of definitions session past = map (λ t. share_of definitions session past t) (opened session past)
+
+-- Each write of the thread that the session admits was written or refused: the two make up their number.
+abbrev pub AreWrittenOrRefused : List EventDef → ℕ → ℕ → Past → Type 0
+AreWrittenOrRefused definitions session thread past =
+    written session thread past + length (refused session thread past) ≡ length (admitted definitions session thread past)

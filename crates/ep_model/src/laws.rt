@@ -4,11 +4,11 @@ ghost use Rattle.ep_defs.specs.declared.limits.TheConstants.{SCHEDULE_WRITES, SE
 ghost use Rattle.ep_defs.specs.declared.event.EventDef.{EventDef};
 ghost use Rattle.ep_model.specs.declared.step.Step.{Step};
 ghost use Rattle.ep_model.specs.Budget.{needs_chunk};
-ghost use Rattle.ep_model.specs.Chunks.{turns, needs_chunk_after, held, in_hand, is_refused, chunks_of, shown_size, refused, written};
+ghost use Rattle.ep_model.specs.Chunks.{turns, needs_chunk_after, held, in_hand, is_refused, chunks_of, shown_size, refused};
 ghost use Rattle.ep_model.specs.Entries.{entries};
-ghost use Rattle.ep_model.specs.Faithful.{AreFaithful, shares_of};
+ghost use Rattle.ep_model.specs.Faithful.{AreFaithful, AreWrittenOrRefused, shares_of};
 ghost use Rattle.ep_model.specs.Fold.{budget_of, lacks_chunk};
-ghost use Rattle.ep_model.specs.History.{Past, admitted, is_finished, opened};
+ghost use Rattle.ep_model.specs.History.{Past, is_finished, opened};
 ghost use Rattle.ep_model.specs.Lawful.{IsLawful, first_unlawful, begins, was_opened};
 ghost use Rattle.ep_model.specs.Only.{only};
 
@@ -34,8 +34,7 @@ pub fn finished_sessions_are_faithful()
     ensures counted { (definitions : List EventDef) (session thread : ℕ) (past : Past)
         → IsLawful definitions past → is_finished session past ≡ true
         → was_opened session thread past ≡ true
-        → written session thread past + length (refused session thread past)
-        ≡ length (admitted definitions session thread past) }
+        → AreWrittenOrRefused definitions session thread past }
 {}
 
 /// A list of steps is lawful exactly where none of its steps is the first that can't be made.
