@@ -1,5 +1,5 @@
 -- What a call of C finds in its handle and leaves there, and what it answers.
-use Rattle.std.specs.Prelude.{◌≡◌, ℕ, true, List, Result, Ok, Err}
+use Rattle.std.specs.Prelude.{◌≡◌, ℕ, ◌⊎◌, true, List, Result, Ok, Err}
 use Rattle.ep_defs.specs.declared.session.TraceInfo.{TraceInfo}
 use Rattle.ep_defs.specs.Entry.{Entry}
 use Rattle.pt_io.specs.Taken.{IsPrefix}
@@ -29,6 +29,10 @@ pub record Records (info : TraceInfo) (entries : List Entry) (pulled : List ℕ)
 pub record WasCut (info : TraceInfo) (entries : List Entry) (pulled : List ℕ) (handle : Handle) : Type 0 where
   pub live : handle.live ≡ true
   pub cut : IsCut info entries pulled (recorder_in handle)
+
+-- One of these: of the stream of these entries, whole so far or cut amid the last of them, these bytes were pulled.
+abbrev pub HasPulled : TraceInfo → List Entry → List ℕ → Handle → Type 0
+HasPulled info entries pulled handle = Records info entries pulled handle ⊎ WasCut info entries pulled handle
 
 -- The bytes begin the canonical stream of the entries.
 abbrev pub Begins : TraceInfo → List Entry → List ℕ → Type 0

@@ -11,7 +11,7 @@ ghost use Rattle.tp_c.specs.declared.refusal.Refusal.{Refusal};
 ghost use Rattle.tp_c.specs.Codes.{code_of};
 ghost use Rattle.tp_c.specs.Shapes.{info_of, definition_of};
 ghost use Rattle.tp_c.specs.Recording.{HasTaken, HasCut, definitions_of, threads_of, outgoing_of, call_refused, define_refused, event_refused};
-ghost use Rattle.tp_c.specs.Answering.{recorder_in, answer_of, IsSame, Records, WasCut, Begins};
+ghost use Rattle.tp_c.specs.Answering.{recorder_in, answer_of, IsSame, Records, WasCut, HasPulled, Begins};
 
 use crate::codes::{CUT, LIVE, MORE, NOT_LIVE, OK, OUT_OF_MEMORY};
 use crate::handle::Handle;
@@ -199,12 +199,11 @@ pub extern "C" fn tp_c_end(
         → Records info entries pulled handle.old → result ≡ OK
         → IsCanonical info entries (pulled ++ take count.new out.new) }
     ensures broken { (info : TraceInfo) (entries : List Entry) (pulled : List ℕ)
-        → Records info entries pulled handle.old ⊎ WasCut info entries pulled handle.old → result ≡ CUT
+        → HasPulled info entries pulled handle.old → result ≡ CUT
         → Begins info entries (pulled ++ take count.new out.new) }
     ensures goes_on { (info : TraceInfo) (entries : List Entry) (pulled : List ℕ)
         → Records info entries pulled handle.old → result ≡ MORE
-        → Records info entries (pulled ++ take count.new out.new) handle.new
-        ⊎ WasCut info entries (pulled ++ take count.new out.new) handle.new }
+        → HasPulled info entries (pulled ++ take count.new out.new) handle.new }
     ensures cut { (info : TraceInfo) (entries : List Entry) (pulled : List ℕ)
         → WasCut info entries pulled handle.old → (result ≢ OK) × (result ≡ MORE
         → WasCut info entries (pulled ++ take count.new out.new) handle.new) }

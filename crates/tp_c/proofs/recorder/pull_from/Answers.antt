@@ -14,7 +14,7 @@ returns-clause-goes_on c info entries definitions h =
     let count = c.pull-count.result in
     subst (λ (w : TraceWriter Outgoing). IsWriting tells all_of [] table info entries w)
     (sym (pulled-writer old c.replace_sink-outlet.new.self c.replace_sink.new.self _ c.replace_sink-outlet.result c.pull-count.new.self count c.replace_sink-outlet.ensures.placed c.replace_sink-outlet.ensures.given c.pull-count.ensures.after c.replace_sink.ensures.placed))
-    (c.replace_sink-outlet.ensures.goes_on [] table info entries (after_pull count (sink_of old)) (h table distinct has) refl (all-after count (sink_of old)))
+    (c.replace_sink-outlet.ensures.goes_on (after_pull count (sink_of old)) (refl, all-after count (sink_of old)) [] table info entries (h table distinct has))
 
 pub returns-clause-begun : goal.returns-clause-begun
 returns-clause-begun c info entries definitions distinct h =
