@@ -8,8 +8,8 @@ use Rattle.ep_plan.specs.declared.cursor.Cursor.{Cursor}
 use Rattle.ep_plan.specs.declared.line.LineFault.{LineFault}
 use Rattle.ep_plan.specs.declared.line.LineFault.TheVariants.{Bad as BadLine}
 use Rattle.ep_plan.specs.declared.line.LineKind.{LineKind}
-use Rattle.ep_plan.specs.Lines.{Part, Form, Bad, bad_at, first_bad, spelling_fault, unless}
-use Rattle.ep_plan.specs.Words.{space, parts_behind}
+use Rattle.ep_plan.specs.Lines.{Part, Form, Bad, bad_at, first_bad, number_of, number_parts, spelling_fault, unless}
+use Rattle.ep_plan.specs.Words.{space, hex_in, parts_behind}
 
 -- The words that are left.
 unfoldable pub left : Cursor → List (List ℕ)
@@ -80,6 +80,12 @@ IsBadAt words bad line column kind = (line ≡ words.line) × (bad ≡ Some (bad
 -- The next word was taken as this part, and spells this value.
 abbrev pub TakesPart : {T : Type 0} → Part → (List ℕ → Option T) → Cursor → Cursor → T → Type 0
 TakesPart part spell old new value = (word : List ℕ) × Took part old new word × (spell word ≡ Some value)
+
+-- The next four words were taken as the numbers of a definition, and spell these: its id, version, level and keywords.
+abbrev pub TakesNumbers : Cursor → Cursor → ℕ × ℕ × ℕ × ℕ → Type 0
+TakesNumbers old new read =
+    (i : List ℕ) × (v : List ℕ) × (l : List ℕ) × (k : List ℕ) × TookAll number_parts old new (i ∷ v ∷ l ∷ k ∷ [])
+    × (number_of i ≡ Some read.0) × (number_of v ≡ Some read.1) × (number_of l ≡ Some read.2) × (hex_in k ≡ Some read.3)
 
 -- What is read from a word is what it spells as this part, and a word that spells nothing is a fault of this kind.
 pub record Reads {T : Type 0} (part : Part) (spell : List ℕ → Option T) (kind : LineKind) (Gives : Bor (List ℕ) → Result (Option T) AllocError → Type 0) : Type 0 where

@@ -1,5 +1,5 @@
 -- What a line of a schedule means, and what is wrong with it.
-use Rattle.std.specs.Prelude.{◌≡◌, ℕ, zero, suc, ◌+◌, ◌-◌, ◌^◌, Bool, true, false, ◌&&◌, ◌||◌, ◌⊎◌, List, [], ◌∷◌, length, codes, find, Option, Some, None, option_map, option_and_then, nat_lt, nat_le, ◌==◌, if◌then◌else◌}
+use Rattle.std.specs.Prelude.{◌≡◌, ℕ, zero, suc, ◌+◌, ◌-◌, ◌^◌, ◌≤◌, Bool, true, false, ◌&&◌, ◌||◌, ◌⊎◌, List, [], ◌∷◌, length, codes, find, Option, Some, None, option_map, option_and_then, nat_lt, nat_le, ◌==◌, if◌then◌else◌, IsTrue}
 use Rattle.std.specs.List.{list_any}
 use Rattle.std.specs.Option.{option_or}
 use Rattle.ep_defs.specs.declared.event.EventDef.{EventDef}
@@ -238,6 +238,11 @@ is_there events def = is_same_event def rundown_def || list_any (λ other. is_sa
 abbrev pub definition_fault : List EventDef → EventDef → Option LineKind
 definition_fault events def =
     if is_valid_event def then (if is_there events def then Some kind.Same else None) else Some kind.Fields
+
+-- A definition is the next one under this number, valid, and none that is there already.
+abbrev pub IsNextDefinition : List EventDef → ℕ → EventDef → Type 0
+IsNextDefinition events index def =
+    (index ≡ length events + 1) × (index ≤ EVENTS) × IsTrue (is_valid_event def) × (is_there events def ≡ false)
 
 -- What is wrong with the definition after the number of an event.
 unfoldable pub definition_bad : List EventDef → List (List ℕ) → Option Bad

@@ -4,8 +4,8 @@ ghost use Rattle.std.specs.List.{list_any};
 ghost use Rattle.ep_defs.specs.Event.{is_same_event};
 ghost use Rattle.ep_rundown.specs.Rundown.{rundown_def as rundown_value};
 ghost use Rattle.ep_plan.specs.Lines.{Name, Fields as FieldsPart, definition_parts, number_parts, number_of, definition_of, definition_fault, event_bad};
-ghost use Rattle.ep_plan.specs.Words.{hex_in, event_name_in, fields_in};
-ghost use Rattle.ep_plan.specs.Cursor.{left, bad_left, BeginsAt, IfBad, IsBadAt, IsBadAmong, TookAll};
+ghost use Rattle.ep_plan.specs.Words.{event_name_in, fields_in};
+ghost use Rattle.ep_plan.specs.Cursor.{left, bad_left, BeginsAt, IfBad, IsBadAt, IsBadAmong, TakesNumbers};
 
 use crate::cursor::Cursor;
 use crate::line::{LineFault, LineKind};
@@ -62,10 +62,7 @@ fn read_definition(alloc: Global, words: &mut Cursor) -> Result<EventDef, LineFa
 
 // The id, version, level and keywords of a definition.
 fn read_numbers(words: &mut Cursor) -> Result<(u32, u32, u32, u64), LineFault>
-    ensures took { IfOk result (λ read. (i : List ℕ) × (v : List ℕ) × (l : List ℕ) × (k : List ℕ)
-        × TookAll number_parts words.old words.new (i ∷ v ∷ l ∷ k ∷ [])
-        × (number_of i ≡ Some read.0) × (number_of v ≡ Some read.1) × (number_of l ≡ Some read.2)
-        × (hex_in k ≡ Some read.3)) }
+    ensures took { IfOk result (λ read. TakesNumbers words.old words.new read) }
     ensures bad { IfBad result (IsBadAmong number_parts words.old) }
 {
     let id = words.number()?;

@@ -1,13 +1,11 @@
 //! Reading a line.
-ghost use Rattle.std.specs.Prelude.{◌≡◌, ◌≤◌, ◌+◌, ℕ, false, List, length, Some, None, Err, IsTrue, IfOk, IfErr};
+ghost use Rattle.std.specs.Prelude.{◌≡◌, ℕ, false, List, Some, None, Err, IfOk, IfErr};
 ghost use Rattle.ep_defs.specs.declared.event.EventDef.{EventDef};
-ghost use Rattle.ep_defs.specs.declared.limits.TheConstants.{EVENTS};
-ghost use Rattle.ep_defs.specs.Event.{is_valid_event};
 ghost use Rattle.ep_plan.specs.declared.line.Line.{Line};
 ghost use Rattle.ep_plan.specs.declared.line.Line.TheVariants.{Event};
 ghost use Rattle.ep_plan.specs.declared.line.LineKind.{LineKind};
 ghost use Rattle.ep_plan.specs.declared.line.LineFault.TheVariants.{Bad as BadLine, OutOfMemory};
-ghost use Rattle.ep_plan.specs.Lines.{kind_name, is_there, bad_of, is_blank, IsLine};
+ghost use Rattle.ep_plan.specs.Lines.{kind_name, bad_of, is_blank, IsLine, IsNextDefinition};
 
 use crate::cursor::Cursor;
 use crate::event::read_event;
@@ -127,7 +125,5 @@ pub fn a_line_means_one_thing()
         → IsLine events stepped text a → IsLine events stepped text b → a ≡ b }
     ensures event { (events : List EventDef) (stepped : _) (text : List ℕ) (index : ℕ)
         (def : EventDef) → IsLine events stepped text (Event index def)
-        → (stepped ≡ false) × (index ≡ length events + 1) × (index ≤ EVENTS)
-        × IsTrue (is_valid_event def)
-        × (is_there events def ≡ false) }
+        → (stepped ≡ false) × IsNextDefinition events index def }
 {}
