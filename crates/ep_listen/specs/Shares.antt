@@ -111,3 +111,16 @@ pub record IsPartOf (records : List Record) (old new : Bool) (done : List HeardE
   pub others : List HeardEvent
   pub front : done ++ others ≡ heard_in records
   pub all : new ≡ false → (old ≡ false) × (done ≡ heard_in records)
+
+-- ---- what comes of it
+
+-- Behind all that was heard before, what a listener hands over of these records is heard too, with these accounts after it.
+abbrev pub AddToHeard : (ℕ → List Write) → (ℕ → Account) → (ℕ → Account) → List Record → Type 0
+AddToHeard admitted before after records =
+    (old new : Bool) (heard done : List HeardEvent)
+    → AreHeard admitted before old heard → IsPartOf records old new done → AreHeard admitted after new (heard ++ done)
+
+-- Where all numbers of a thread were used, and so many of them were not taken, what was heard of it is its share.
+abbrev pub IsShareAtEnd : List Write → Account → ℕ → Bool → List HeardEvent → Type 0
+IsShareAtEnd admitted account refused failed heard =
+    account.last ≤ length admitted → account.taken + refused ≡ length admitted → IsShareOf admitted refused failed heard

@@ -1,9 +1,9 @@
 //! Laws: what was heard of a program's threads.
-ghost use Rattle.std.specs.Prelude.{◌≡◌, ℕ, ◌+◌, ◌≤◌, Bool, false, List, [], ◌++◌, length};
+ghost use Rattle.std.specs.Prelude.{ℕ, Bool, false, List, [], length};
 ghost use Rattle.ep_defs.specs.declared.session.Write.{Write};
 ghost use Rattle.ep_chunk.specs.Record.{Record};
 ghost use Rattle.ep_listen.specs.Heard.{HeardEvent};
-ghost use Rattle.ep_listen.specs.Shares.{Account, AreHeard, AreNext, IsHeardOf, IsPartOf, IsShareOf, heard_by, no_account, with_taken};
+ghost use Rattle.ep_listen.specs.Shares.{Account, AddToHeard, AreHeard, AreNext, IsHeardOf, IsShareAtEnd, heard_by, no_account, with_taken};
 
 /// Before anything was taken nothing is heard.
 pub fn nothing_is_heard_at_first()
@@ -12,11 +12,9 @@ pub fn nothing_is_heard_at_first()
 
 /// What a batch of a thread's next records adds to what was heard, also where the listener fails at it or has failed.
 pub fn a_batch_is_heard()
-    ensures { (admitted : ℕ → List Write) (accounts : ℕ → Account) (thread last : ℕ) (records : List Record)
-        (old new : Bool) (heard done : List HeardEvent) → AreHeard admitted accounts old heard
-        → AreNext (admitted thread) thread (accounts thread).last last records
-        → IsPartOf records old new done
-        → AreHeard admitted (with_taken accounts thread (length records) last) new (heard ++ done) }
+    ensures { (admitted : ℕ → List Write) (before : ℕ → Account) (thread last : ℕ) (records : List Record)
+        → AreNext (admitted thread) thread (before thread).last last records
+        → AddToHeard admitted before (with_taken before thread (length records) last) records }
 {}
 
 /// What was heard of a thread of which all numbers were used is what the session admits of its writes, without those that
@@ -24,7 +22,5 @@ pub fn a_batch_is_heard()
 pub fn all_is_heard_but_what_is_missing()
     ensures { (admitted : List Write) (account : Account) (refused : ℕ) (failed : Bool) (thread : ℕ) (heard : List HeardEvent)
         → IsHeardOf admitted account failed thread heard
-        → account.last ≤ length admitted
-        → account.taken + refused ≡ length admitted
-        → IsShareOf admitted refused failed (heard_by thread heard) }
+        → IsShareAtEnd admitted account refused failed (heard_by thread heard) }
 {}

@@ -22,7 +22,7 @@ use Rattle.ep_stream.specs.Rows.{IsBatch, IsMarked, hand_after}
 use Rattle.ep_stream.proofs.Taking.{hand_back, hand_gone}
 use Rattle.ep_listen.specs.Heard.{HeardEvent}
 use Rattle.ep_listen.specs.Listening.{Hears, callback_of, has_failed, marks_in, room_of}
-use Rattle.ep_listen.specs.Shares.{Account, AreHeard, AreNext, IsPartOf, with_taken}
+use Rattle.ep_listen.specs.Shares.{Account, AddToHeard, AreNext, with_taken}
 use Rattle.ep_listen.specs.declared.listener.Listener.{Listener}
 use Rattle.ep_live.proofs.Pushing.{each-push}
 use Rattle.ep_live.specs.RowSet.{LiveRowsState}
@@ -32,9 +32,8 @@ use Rattle.pt_listen.proofs.Halves.{hand-past, its-moved, other-hand}
 -- The law on batches.
 abbrev pub ABatchIsHeard : Type 0
 ABatchIsHeard =
-    (admitted : ℕ → List Write) (accounts : ℕ → Account) (thread last : ℕ) (records : List Record) (old new : Bool) (heard done : List HeardEvent)
-    → AreHeard admitted accounts old heard → AreNext (admitted thread) thread (accounts thread).last last records → IsPartOf records old new done
-    → AreHeard admitted (with_taken accounts thread (length records) last) new (heard ++ done)
+    (admitted : ℕ → List Write) (before : ℕ → Account) (thread last : ℕ) (records : List Record)
+    → AreNext (admitted thread) thread (before thread).last last records → AddToHeard admitted before (with_taken before thread (length records) last) records
 
 -- ---- accounts
 
@@ -69,7 +68,7 @@ heard-more has_heard count admitted at_first accounts old new row last records r
     record {
       heard = was.heard ++ hears.done;
       told = λ before first. subst (has_heard (callback_of new)) (append_assoc before was.heard hears.done) (hears.heard (before ++ was.heard) (was.told before first));
-      are = law admitted accounts row last records (has_failed old) (has_failed new) was.heard hears.done was.are next (record { others = hears.others; front = hears.front; all = hears.all });
+      are = law admitted accounts row last records next (has_failed old) (has_failed new) was.heard hears.done was.are (record { others = hears.others; front = hears.front; all = hears.all });
       others = λ thread outside. taken-other accounts row (length records) last thread (λ same. outside (subst (λ (t : ℕ). (0 < t) × (t ≤ count)) (sym same) (some, within))) ∙ was.others thread outside;
     }
 
