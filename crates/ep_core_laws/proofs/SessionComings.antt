@@ -105,8 +105,8 @@ accepted_now through pool_accepts rest_accepts events info past session config o
     subst All (sym m.sessions) (
       stands_now events info (s ∷ past) after session now.slot now m.number refl stands,
       all_others (Before events info past old) Now session now.slot old.present.items unknown unheld
-          (λ p number slot b. through events info past s before after p h.lawful (eqb_turn p.number session number) b.1.id
-          (kept_slot now.slot pool before after m.rows p.slot (eqb-false p.slot now.slot slot)) b.0)
+          (λ p number slot b. through s before after p (eqb_turn p.number session number) b.1.id
+          (kept_slot now.slot pool before after m.rows p.slot (eqb-false p.slot now.slot slot)) events info past h.lawful b.0)
           (all_before events info s past old h),
     )
 

@@ -107,7 +107,7 @@ all_stand through events info s past old new h off keeps slots pools =
     let Now = SessionStands events info (s ∷ past) (told_of new.rows) in
     sessions_stay old new Now keeps
     (All-each (Before events info past old) Now old.present.items
-    (λ p b. through events info past s (told_of old.rows) (told_of new.rows) p h.lawful (off p.number) b.1.id (record { slots = λ r. slots r p.slot; pool = pools p.slot }) b.0)
+    (λ p b. through s (told_of old.rows) (told_of new.rows) p (off p.number) b.1.id (record { slots = λ r. slots r p.slot; pool = pools p.slot }) events info past h.lawful b.0)
     (all_before events info s past old h))
 
 -- A session apart from the one that the step is for stands.
@@ -117,7 +117,7 @@ pub other_stands : Through → (events : List EventDef) (info : TraceInfo) (s : 
     → (p : Present) → Apart number_of (λ (q : Present). q.slot) was p → Before events info past old p → SessionStands events info (s ∷ past) (told_of new.rows) p
 other_stands through events info s past old new session was h number off keeps p apart b =
     let other : (session == p.number) ≡ false = ne_eqb session p.number (λ same. eqb-false p.number was.number apart.numbers (sym same ∙ sym number)) in
-    through events info past s (told_of old.rows) (told_of new.rows) p h.lawful (off p.number other) b.1.id (keeps p.slot (eqb-false p.slot was.slot apart.slots)) b.0
+    through s (told_of old.rows) (told_of new.rows) p (off p.number other) b.1.id (keeps p.slot (eqb-false p.slot was.slot apart.slots)) events info past h.lawful b.0
 
 -- One session changes and stands.
 pub one_stands : Through → (events : List EventDef) (info : TraceInfo) (s : Step) (past : Past) (old new : Tables) (session : ℕ) (Changes : Present → Present → ToldRows → ToldRows → Type 0)

@@ -22,7 +22,7 @@ use Rattle.ep_core_laws.specs.Changes.{changes_slot, changes_pool}
 use Rattle.ep_core_laws.specs.Kept.{SlotFollows, PoolFollows}
 use Rattle.ep_stream_laws.specs.Kept.{RestFollows}
 use Rattle.ep_stream_laws.specs.Makers.{is_made_by}
-use Rattle.ep_core_laws.specs.Stands.{SessionStands, is_for, KeepsSlot}
+use Rattle.ep_core_laws.specs.Stands.{is_for, KeepsSlot, StandsOn}
 
 -- ---- what is known of the steps below
 
@@ -40,9 +40,8 @@ EntriesStay = (events : List EventDef) (session : ℕ) (past : Past) (s : Step) 
 
 abbrev pub Through : Type 0
 Through =
-    (events : List EventDef) (info : TraceInfo) (past : Past) (s : Step) (old new : ToldRows) (p : Present)
-    → IsLawful events (s ∷ past) → is_for p.number s ≡ false → (rest_of p.session).seat.id ≡ p.number → KeepsSlot p.slot old new
-    → SessionStands events info past old p → SessionStands events info (s ∷ past) new p
+    (s : Step) (old new : ToldRows) (p : Present)
+    → is_for p.number s ≡ false → (rest_of p.session).seat.id ≡ p.number → KeepsSlot p.slot old new → StandsOn s old new p
 
 -- ---- steps that are not for a session
 
@@ -75,7 +74,7 @@ telling_as events info told more p same telling =
     subst (λ (es : List Entry). IsTelling (λ (s : SinkState). true) (λ (s : SinkState). s.taken) [] (definition_at events) info es (writer_of p.session)) same telling
 
 pub stands_through : SlotStays → PoolStays → RestStays → EntriesStay → Through
-stands_through slot_stays pool_stays rest_stays entries_stay events info past s old new p lawful off id keeps h =
+stands_through slot_stays pool_stays rest_stays entries_stay s old new p off id keeps events info past lawful h =
     let Made : ℕ → Type 0 = λ n. is_made_by n s ≡ false in
     let made = made_off p.number s off in
     record {

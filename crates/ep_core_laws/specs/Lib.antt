@@ -4,3 +4,4 @@ pub mod Given
 pub mod Rests
 pub mod Stands
 pub mod Works
+pub mod Ends

@@ -29,7 +29,11 @@ pub record AreAtRest (events : List EventDef) (past : Past) (tables : Tables) : 
   pub rows : (r : ℕ) → IsRow THREADS r → RowAtRest events configs (writes_on past (told_of tables.rows) r) ((told_of tables.rows).row r)
   pub slots : (r s : ℕ) → IsRow THREADS r → (slot : SlotState) → (told_of tables.rows).slot r s ≡ Some slot → SlotAtRest events (configs s) (writes_on past (told_of tables.rows) r) slot
 
+-- The write is kept in the list of begun writes at the row's place.
+abbrev pub IsKeptAt : ℕ → Write → List (Option Write) → Type 0
+IsKeptAt row write begun = slice_get begun (row - 1) ≡ Some (Some write)
+
 -- The write that a row is in is kept in the list at the row's place, and is the last one that its thread began.
 pub record AreBegun (past : Past) (told : ToldRows) (begun : List (Option Write)) : Type 0 where
   pub kept : (r : ℕ) → IsRow THREADS r → (told.row r).in_write ≡ true
-      → (write : Write) × (slice_get begun (r - 1) ≡ Some (Some write)) × IsLast (told.row r).thread past (told.row r).stamp write
+      → (write : Write) × IsKeptAt r write begun × IsLast (told.row r).thread past (told.row r).stamp write

@@ -49,6 +49,12 @@ pub record KeepsSlot (slot : ℕ) (old new : ToldRows) : Type 0 where
   pub slots : (r : ℕ) → new.slot r slot ≡ old.slot r slot
   pub pool : new.pool slot ≡ old.pool slot
 
+-- Through a step that can be made next a session stands on, if it stood before.
+abbrev pub StandsOn : Step → ToldRows → ToldRows → Present → Type 0
+StandsOn made old new present =
+    (events : List EventDef) (info : TraceInfo) (past : Past)
+    → IsLawful events (made ∷ past) → SessionStands events info past old present → SessionStands events info (made ∷ past) new present
+
 -- The step can be made next, and the tables have of the sessions, threads and rows what the steps so far say.
 pub record StandBefore (events : List EventDef) (info : TraceInfo) (next : Step) (past : Past) (tables : Tables) : Type 0 where
   pub lawful : IsLawful events (next ∷ past)

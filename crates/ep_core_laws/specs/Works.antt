@@ -30,3 +30,22 @@ pub record Works (events : List EventDef) (info : TraceInfo) (past : Past) (tabl
 pub record WorksBefore (events : List EventDef) (info : TraceInfo) (next : Step) (past : Past) (tables : Tables) (begun : List (Option Write)) : Type 0 where
   pub lawful : IsLawful events (next ∷ past)
   pub works : Works events info past tables begun
+
+-- Some lawful steps led here, and the step can be made behind them.
+pub record CanGoOn (next : Step) (tables : Tables) (begun : List (Option Write)) : Type 0 where
+  pub events : List EventDef
+  pub info : TraceInfo
+  pub past : Past
+  pub before : WorksBefore events info next past tables begun
+
+-- ---- steps
+
+-- Through the step a machine works on, whatever the steps before were: with the old tables and writes it can make the step
+-- next, and with the new ones it works.
+abbrev pub WorksOnWith : TraceInfo → Step → Tables → List (Option Write) → Tables → List (Option Write) → Type 0
+WorksOnWith info made old begun new after =
+    (events : List EventDef) (past : Past) → WorksBefore events info made past old begun → Works events info (made ∷ past) new after
+
+-- The same, with whatever a stream says of the machine that was traced.
+abbrev pub WorksOn : Step → Tables → List (Option Write) → Tables → List (Option Write) → Type 0
+WorksOn made old begun new after = (info : TraceInfo) → WorksOnWith info made old begun new after

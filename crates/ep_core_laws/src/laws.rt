@@ -6,24 +6,23 @@ ghost use Rattle.ep_defs.specs.declared.session.Config.{Config};
 ghost use Rattle.ep_defs.specs.declared.session.TraceInfo.{TraceInfo};
 ghost use Rattle.ep_defs.specs.declared.session.Write.{Write};
 ghost use Rattle.pt_io.specs.Memory.{SinkState};
-ghost use Rattle.nt_write.specs.Canonical.{IsCanonical};
 ghost use Rattle.ep_model.specs.declared.step.Step.{Step};
 ghost use Rattle.ep_model.specs.declared.step.Step.TheVariants.{Accept, Enter, Leave, Open, Begin, Show, End, Steal, Give, Point, Close, Finish};
 ghost use Rattle.ep_model.specs.History.{Past};
-ghost use Rattle.ep_model.specs.Lawful.{IsLawful};
 ghost use Rattle.ep_model.specs.Marks.{marks_of};
-ghost use Rattle.ep_told.specs.Told.{told_entries};
 ghost use Rattle.ep_stream.specs.Steps.{ToldRows};
 ghost use Rattle.ep_stream.specs.Session.{rest_of};
 ghost use Rattle.ep_stream.specs.declared.session.SessionEnd.{SessionEnd};
-ghost use Rattle.ep_stream.specs.declared.session.Fate.TheVariants.{ProgramEnd, TooLong};
+ghost use Rattle.ep_stream.specs.declared.session.Fate.TheVariants.{TooLong};
 ghost use Rattle.ep_tables.specs.declared.tables.Present.{Present};
 ghost use Rattle.ep_tables.specs.declared.tables.Tables.{Tables};
 ghost use Rattle.ep_tables.specs.Tables.{row_of};
 ghost use Rattle.ep_tables.specs.Tied.{AreTied};
 ghost use Rattle.ep_tables.specs.Made.{MakesAccept, MakesEnter, MakesLeave, MakesOpen, MakesBegin, MakesShow, MakesEnd, MakesSteal, MakesGive, MakesPoint, MakesClose, MakesFinish, CanTake, HasId, HasNumber, RunsOut, PointRunsOut, EndsAs, IsStart};
-ghost use Rattle.ep_core_laws.specs.Stands.{SessionStands, is_for, KeepsSlot};
-ghost use Rattle.ep_core_laws.specs.Works.{Works, WorksBefore};
+ghost use Rattle.ep_core_laws.specs.Ends.{EndsNext, LeavesStream};
+ghost use Rattle.ep_core_laws.specs.Rests.{IsKeptAt};
+ghost use Rattle.ep_core_laws.specs.Stands.{is_for, KeepsSlot, StandsOn};
+ghost use Rattle.ep_core_laws.specs.Works.{CanGoOn, Works, WorksOn, WorksOnWith};
 
 use ep_model::laws::{a_budget_can_be_counted, lawful_lists_are_limited};
 use ep_stream_laws::{
@@ -47,44 +46,34 @@ pub fn a_machine_follows_its_start()
 
 /// The thread that comes has made no write and takes a row on which nothing is open.
 pub fn a_machine_follows_an_enter()
-    ensures { (events : List EventDef) (info : TraceInfo) (past : Past) (thread : ℕ) (old new : Tables)
-        (begun : List (Option Write))
-        → WorksBefore events info (Enter thread) past old begun
-        → MakesEnter thread old new → AreTied new → Works events info (Enter thread ∷ past) new begun }
+    ensures { (thread : ℕ) (old new : Tables) (begun : List (Option Write))
+        → MakesEnter thread old new → AreTied new → WorksOn (Enter thread) old begun new begun }
 {
     a_session_stands_through_other_steps();
 }
 
 /// A thread that leaves keeps its writes.
 pub fn a_machine_follows_a_leave()
-    ensures { (events : List EventDef) (info : TraceInfo) (past : Past) (thread : ℕ) (old new : Tables)
-        (begun : List (Option Write))
-        → WorksBefore events info (Leave thread) past old begun
-        → MakesLeave thread old new → AreTied new → Works events info (Leave thread ∷ past) new begun }
+    ensures { (thread : ℕ) (old new : Tables) (begun : List (Option Write))
+        → MakesLeave thread old new → AreTied new → WorksOn (Leave thread) old begun new begun }
 {
     a_session_stands_through_other_steps();
 }
 
 /// The write is one more of its thread, and is put in the list at the row's place.
 pub fn a_machine_follows_a_begin()
-    ensures { (events : List EventDef) (info : TraceInfo) (past : Past) (thread stamp : ℕ)
-        (write : Write) (old new : Tables) (begun : List (Option Write))
-        → WorksBefore events info (Begin thread stamp write) past old begun
+    ensures { (thread stamp : ℕ) (write : Write) (old new : Tables) (begun : List (Option Write))
         → (makes : MakesBegin thread stamp write old new) → AreTied new
-        → Works events info (Begin thread stamp write ∷ past) new
-        (slice_set begun (makes.own.row - 1) (Some write)) }
+        → WorksOn (Begin thread stamp write) old begun new (slice_set begun (makes.own.row - 1) (Some write)) }
 {
     a_session_stands_through_other_steps();
 }
 
 /// The write that is shown is the last of its thread, and gets the next number of the session's.
 pub fn a_machine_follows_a_show()
-    ensures { (events : List EventDef) (info : TraceInfo) (past : Past) (thread session : ℕ)
-        (write : Write) (old new : Tables) (begun : List (Option Write))
-        → WorksBefore events info (Show thread session) past old begun
+    ensures { (thread session : ℕ) (write : Write) (old new : Tables) (begun : List (Option Write))
         → (makes : MakesShow thread session write old new) → AreTied new
-        → slice_get begun (makes.row - 1) ≡ Some (Some write)
-        → Works events info (Show thread session ∷ past) new begun }
+        → IsKeptAt makes.row write begun → WorksOn (Show thread session) old begun new begun }
 {
     a_budget_can_be_counted();
     other_steps_change_nothing_kept();
@@ -93,10 +82,8 @@ pub fn a_machine_follows_a_show()
 
 /// A write that ended stays the last of its thread, which is in no write then.
 pub fn a_machine_follows_an_end()
-    ensures { (events : List EventDef) (info : TraceInfo) (past : Past) (thread : ℕ) (old new : Tables)
-        (begun : List (Option Write))
-        → WorksBefore events info (End thread) past old begun
-        → MakesEnd thread old new → AreTied new → Works events info (End thread ∷ past) new begun }
+    ensures { (thread : ℕ) (old new : Tables) (begun : List (Option Write))
+        → MakesEnd thread old new → AreTied new → WorksOn (End thread) old begun new begun }
 {
     a_session_stands_through_other_steps();
 }
@@ -105,11 +92,8 @@ pub fn a_machine_follows_an_end()
 
 /// A session that was just opened on a row has no records, and the row knows its configuration.
 pub fn a_machine_follows_an_open()
-    ensures { (events : List EventDef) (info : TraceInfo) (past : Past) (session thread : ℕ)
-        (old new : Tables) (begun : List (Option Write))
-        → WorksBefore events info (Open session thread) past old begun
-        → MakesOpen session thread old new → AreTied new
-        → Works events info (Open session thread ∷ past) new begun }
+    ensures { (session thread : ℕ) (old new : Tables) (begun : List (Option Write))
+        → MakesOpen session thread old new → AreTied new → WorksOn (Open session thread) old begun new begun }
 {
     an_opened_thread_is_named();
     a_session_stands_through_other_steps();
@@ -117,11 +101,8 @@ pub fn a_machine_follows_an_open()
 
 /// A steal leaves no records, and tells all that were pending.
 pub fn a_machine_follows_a_steal()
-    ensures { (events : List EventDef) (info : TraceInfo) (past : Past) (session thread : ℕ)
-        (old new : Tables) (begun : List (Option Write))
-        → WorksBefore events info (Steal session thread) past old begun
-        → MakesSteal session thread old new → AreTied new
-        → Works events info (Steal session thread ∷ past) new begun }
+    ensures { (session thread : ℕ) (old new : Tables) (begun : List (Option Write))
+        → MakesSteal session thread old new → AreTied new → WorksOn (Steal session thread) old begun new begun }
 {
     what_is_stolen_is_told();
     entries_are_what_was_told();
@@ -130,10 +111,8 @@ pub fn a_machine_follows_a_steal()
 
 /// Chunks that are given back leave rows and slots.
 pub fn a_machine_follows_a_give()
-    ensures { (events : List EventDef) (info : TraceInfo) (past : Past) (session : ℕ) (old new : Tables)
-        (begun : List (Option Write))
-        → WorksBefore events info (Give session) past old begun
-        → MakesGive session old new → AreTied new → Works events info (Give session ∷ past) new begun }
+    ensures { (session : ℕ) (old new : Tables) (begun : List (Option Write))
+        → MakesGive session old new → AreTied new → WorksOn (Give session) old begun new begun }
 {
     a_budget_can_be_counted();
     what_is_given_back_is_not_in_hand();
@@ -142,11 +121,8 @@ pub fn a_machine_follows_a_give()
 
 /// So does a point, which the session's stream tells.
 pub fn a_machine_follows_a_point()
-    ensures { (events : List EventDef) (info : TraceInfo) (past : Past) (session stamp : ℕ)
-        (old new : Tables) (begun : List (Option Write))
-        → WorksBefore events info (Point session stamp) past old begun
-        → MakesPoint session stamp old new → AreTied new
-        → Works events info (Point session stamp ∷ past) new begun }
+    ensures { (session stamp : ℕ) (old new : Tables) (begun : List (Option Write))
+        → MakesPoint session stamp old new → AreTied new → WorksOn (Point session stamp) old begun new begun }
 {
     a_point_forgets_closed_threads();
     entries_are_what_was_told();
@@ -155,11 +131,8 @@ pub fn a_machine_follows_a_point()
 
 /// A session that was closed on a row has no slot there, and marks what it had of the thread.
 pub fn a_machine_follows_a_close()
-    ensures { (events : List EventDef) (info : TraceInfo) (past : Past) (session thread : ℕ)
-        (old new : Tables) (begun : List (Option Write))
-        → WorksBefore events info (Close session thread) past old begun
-        → MakesClose session thread old new → AreTied new
-        → Works events info (Close session thread ∷ past) new begun }
+    ensures { (session thread : ℕ) (old new : Tables) (begun : List (Option Write))
+        → MakesClose session thread old new → AreTied new → WorksOn (Close session thread) old begun new begun }
 {
     a_closed_thread_is_marked();
     entries_are_what_was_told();
@@ -170,11 +143,9 @@ pub fn a_machine_follows_a_close()
 
 /// The session that comes is open on no row, and no other has its slot.
 pub fn a_machine_follows_an_accept()
-    ensures { (events : List EventDef) (info : TraceInfo) (past : Past) (session : ℕ)
-        (config : Config) (old new : Tables) (begun : List (Option Write))
-        → WorksBefore events info (Accept session config) past old begun
+    ensures { (info : TraceInfo) (session : ℕ) (config : Config) (old new : Tables) (begun : List (Option Write))
         → MakesAccept session config info old new → AreTied new
-        → Works events info (Accept session config ∷ past) new begun }
+        → WorksOnWith info (Accept session config) old begun new begun }
 {
     a_new_session_keeps_nothing();
     a_session_stands_through_other_steps();
@@ -182,11 +153,8 @@ pub fn a_machine_follows_an_accept()
 
 /// The sessions that stay keep what they have.
 pub fn a_machine_follows_a_finish()
-    ensures { (events : List EventDef) (info : TraceInfo) (past : Past) (session stamp : ℕ)
-        (old new : Tables) (begun : List (Option Write))
-        → WorksBefore events info (Finish session stamp) past old begun
-        → MakesFinish session old new → AreTied new
-        → Works events info (Finish session stamp ∷ past) new begun }
+    ensures { (session stamp : ℕ) (old new : Tables) (begun : List (Option Write))
+        → MakesFinish session old new → AreTied new → WorksOn (Finish session stamp) old begun new begun }
 {
     a_session_stands_through_other_steps();
 }
@@ -195,16 +163,11 @@ pub fn a_machine_follows_a_finish()
 /// the one stream of its entries, with the section of a rundown where it was asked for one (`stream`).
 pub fn a_session_ends_with_its_entries()
     ensures marks { (events : List EventDef) (info : TraceInfo) (past : Past) (session stamp : ℕ)
-        (tables : Tables) (begun : List (Option Write)) (end : SessionEnd SinkState)
-        → WorksBefore events info (Finish session stamp) past tables begun
-        → EndsAs session stamp tables end
+        (end : SessionEnd SinkState) → EndsNext events info past session stamp end
         → end.marks ≡ marks_of session (Finish session stamp ∷ past) }
     ensures stream { (events : List EventDef) (info : TraceInfo) (past : Past) (session stamp : ℕ)
-        (tables : Tables) (begun : List (Option Write)) (end : SessionEnd SinkState)
-        → WorksBefore events info (Finish session stamp) past tables begun
-        → EndsAs session stamp tables end
-        → end.fate ≡ ProgramEnd
-        → IsCanonical info (told_entries events session (Finish session stamp ∷ past)) end.sink.taken }
+        (end : SessionEnd SinkState) → EndsNext events info past session stamp end
+        → LeavesStream events info session (Finish session stamp ∷ past) end }
 {
     the_last_marks_are_all();
     a_finished_session_tells_its_last_entries();
@@ -214,30 +177,25 @@ pub fn a_session_ends_with_its_entries()
 
 /// The table has an id for a session that can be accepted.
 pub fn a_session_that_comes_has_an_id()
-    ensures { (events : List EventDef) (info : TraceInfo) (past : Past) (session : ℕ)
-        (config : Config) (tables : Tables) (begun : List (Option Write))
-        → session < 2 ^ 32 → WorksBefore events info (Accept session config) past tables begun
-        → HasId tables }
+    ensures { (session : ℕ) (config : Config) (tables : Tables) (begun : List (Option Write))
+        → session < 2 ^ 32 → CanGoOn (Accept session config) tables begun → HasId tables }
 {}
 
 /// A write that can begin has a number left.
 pub fn a_write_that_begins_has_a_number()
-    ensures { (events : List EventDef) (info : TraceInfo) (past : Past) (thread stamp row : ℕ)
-        (write : Write) (tables : Tables) (begun : List (Option Write))
-        → WorksBefore events info (Begin thread stamp write) past tables begun
+    ensures { (thread stamp row : ℕ) (write : Write) (tables : Tables) (begun : List (Option Write))
+        → CanGoOn (Begin thread stamp write) tables begun
         → row_of tables thread ≡ Some row → HasNumber tables row }
 {}
 
 /// A write that can be shown was kept where it began (`kept`), and the session can take it (`taken`).
 pub fn a_due_write_can_be_taken()
-    ensures kept { (events : List EventDef) (info : TraceInfo) (past : Past)
-        (thread session row : ℕ) (tables : Tables) (begun : List (Option Write))
-        → WorksBefore events info (Show thread session) past tables begun
+    ensures kept { (thread session row : ℕ) (tables : Tables) (begun : List (Option Write))
+        → CanGoOn (Show thread session) tables begun
         → row_of tables thread ≡ Some row → slice_get begun (row - 1) ≢ Some None }
-    ensures taken { (events : List EventDef) (info : TraceInfo) (past : Past)
-        (thread session row : ℕ) (write : Write) (tables : Tables) (begun : List (Option Write))
-        → WorksBefore events info (Show thread session) past tables begun
-        → row_of tables thread ≡ Some row → slice_get begun (row - 1) ≡ Some (Some write)
+    ensures taken { (thread session row : ℕ) (write : Write) (tables : Tables) (begun : List (Option Write))
+        → CanGoOn (Show thread session) tables begun
+        → row_of tables thread ≡ Some row → IsKeptAt row write begun
         → CanTake thread session write tables }
 {
     lawful_lists_are_limited();
@@ -246,21 +204,14 @@ pub fn a_due_write_can_be_taken()
 
 /// No session runs out of stack ids: it has told no more events than writes were begun, and there are as many ids.
 pub fn stack_ids_suffice()
-    ensures steal { (events : List EventDef) (info : TraceInfo) (past : Past) (session thread : ℕ)
-        (tables : Tables) (begun : List (Option Write))
-        → WorksBefore events info (Steal session thread) past tables begun
-        → RunsOut session thread tables → ⊥ }
-    ensures close { (events : List EventDef) (info : TraceInfo) (past : Past) (session thread : ℕ)
-        (tables : Tables) (begun : List (Option Write))
-        → WorksBefore events info (Close session thread) past tables begun
-        → RunsOut session thread tables → ⊥ }
-    ensures point { (events : List EventDef) (info : TraceInfo) (past : Past) (session stamp : ℕ)
-        (tables : Tables) (begun : List (Option Write))
-        → WorksBefore events info (Point session stamp) past tables begun
-        → PointRunsOut session stamp tables → ⊥ }
-    ensures end { (events : List EventDef) (info : TraceInfo) (past : Past) (session stamp : ℕ)
-        (tables : Tables) (begun : List (Option Write)) (end : SessionEnd SinkState)
-        → WorksBefore events info (Finish session stamp) past tables begun
+    ensures steal { (session thread : ℕ) (tables : Tables) (begun : List (Option Write))
+        → CanGoOn (Steal session thread) tables begun → RunsOut session thread tables → ⊥ }
+    ensures close { (session thread : ℕ) (tables : Tables) (begun : List (Option Write))
+        → CanGoOn (Close session thread) tables begun → RunsOut session thread tables → ⊥ }
+    ensures point { (session stamp : ℕ) (tables : Tables) (begun : List (Option Write))
+        → CanGoOn (Point session stamp) tables begun → PointRunsOut session stamp tables → ⊥ }
+    ensures end { (session stamp : ℕ) (tables : Tables) (begun : List (Option Write)) (end : SessionEnd SinkState)
+        → CanGoOn (Finish session stamp) tables begun
         → EndsAs session stamp tables end → end.fate ≢ TooLong }
 {
     lawful_lists_are_limited();
@@ -270,11 +221,9 @@ pub fn stack_ids_suffice()
 
 // A session stands through a step that is not for it, if what is in its slot stays.
 fn a_session_stands_through_other_steps()
-    ensures { (events : List EventDef) (info : TraceInfo) (past : Past) (step : Step)
-        (old new : ToldRows) (present : Present)
-        → IsLawful events (step ∷ past) → is_for present.number step ≡ false
-        → (rest_of present.session).seat.id ≡ present.number → KeepsSlot present.slot old new
-        → SessionStands events info past old present → SessionStands events info (step ∷ past) new present }
+    ensures { (step : Step) (old new : ToldRows) (present : Present)
+        → is_for present.number step ≡ false → (rest_of present.session).seat.id ≡ present.number
+        → KeepsSlot present.slot old new → StandsOn step old new present }
 {
     other_steps_change_nothing_kept();
 }

@@ -9,7 +9,7 @@ use Rattle.ep_core_laws.proofs.Steps.{stands, rows_rest, ids_stay}
 use Rattle.ep_core_laws.proofs.laws.a_machine_follows_a_begin.Goals as goal
 
 pub returns : goal.returns
-returns c events info past thread stamp write old new begun before makes tied =
+returns c thread stamp write old new begun makes tied info events past before =
     let works = before.works in
     record {
       lawful = before.lawful;

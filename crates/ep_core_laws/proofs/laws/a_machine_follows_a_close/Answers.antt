@@ -13,7 +13,7 @@ use Rattle.ep_core_laws.proofs.Steps.{stands, ids_stay}
 use Rattle.ep_core_laws.proofs.laws.a_machine_follows_a_close.Goals as goal
 
 pub returns : goal.returns
-returns c events info past session thread old new begun before makes tied =
+returns c session thread old new begun makes tied info events past before =
     let works = before.works in
     record {
       lawful = before.lawful;

@@ -6,7 +6,7 @@ use Rattle.ep_core_laws.proofs.Steps.{stands, ids_freed}
 use Rattle.ep_core_laws.proofs.laws.a_machine_follows_a_finish.Goals as goal
 
 pub returns : goal.returns
-returns c events info past session stamp old new begun before makes tied =
+returns c session stamp old new begun makes tied info events past before =
     let works = before.works in
     record {
       lawful = before.lawful;

@@ -13,7 +13,7 @@ use Rattle.ep_core_laws.proofs.Steps.{stands, ids_stay}
 use Rattle.ep_core_laws.proofs.laws.a_machine_follows_a_give.Goals as goal
 
 pub returns : goal.returns
-returns c events info past session old new begun before makes tied =
+returns c session old new begun makes tied info events past before =
     let works = before.works in
     let counted = c.a_budget_can_be_counted.ensures in
     let back = given makes.was.slot (rest_of makes.was.session).in_hand (told_of old.rows) (told_of new.rows) makes.changes.told in

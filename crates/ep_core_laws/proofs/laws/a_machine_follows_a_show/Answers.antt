@@ -12,7 +12,7 @@ use Rattle.ep_core_laws.proofs.Steps.{stands, ids_stay}
 use Rattle.ep_core_laws.proofs.laws.a_machine_follows_a_show.Goals as goal
 
 pub returns : goal.returns
-returns c events info past thread session write old new begun before makes tied kept =
+returns c thread session write old new begun makes tied kept info events past before =
     let works = before.works in
     let counted = c.a_budget_can_be_counted.ensures in
     let last = last_shown events past thread session makes.row write old begun works.follow before.lawful works.begun_are makes.own kept in

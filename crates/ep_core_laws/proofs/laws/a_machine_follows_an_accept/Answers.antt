@@ -7,7 +7,7 @@ use Rattle.ep_core_laws.proofs.Steps.{stands, ids_rise}
 use Rattle.ep_core_laws.proofs.laws.a_machine_follows_an_accept.Goals as goal
 
 pub returns : goal.returns
-returns c events info past session config old new begun before makes tied =
+returns c info session config old new begun makes tied events past before =
     let works = before.works in
     record {
       lawful = before.lawful;

@@ -5,6 +5,6 @@ use Rattle.ep_core_laws.proofs.laws.a_session_ends_with_its_entries.Goals as goa
 pub returns : goal.returns
 returns c =
     record {
-      marks = λ events info past session stamp tables begun end before. ends_marks c.the_last_marks_are_all.ensures events info past session stamp tables end (stands before);
-      stream = λ events info past session stamp tables begun end before. ends_stream c.a_finished_session_tells_its_last_entries.ensures events info past session stamp tables end (stands before);
+      marks = λ events info past session stamp end next. ends_marks c.the_last_marks_are_all.ensures events info past session stamp next.tables end (stands next.before) next.ended;
+      stream = λ events info past session stamp end next. ends_stream c.a_finished_session_tells_its_last_entries.ensures events info past session stamp next.tables end (stands next.before) next.ended;
     }

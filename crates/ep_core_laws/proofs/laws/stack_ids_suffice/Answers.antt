@@ -7,8 +7,8 @@ pub returns : goal.returns
 returns c =
     let limited = c.lawful_lists_are_limited.ensures.begins in
     record {
-      steal = λ events info past session thread tables begun before. takes_enough limited events info (step.Steal session thread) past session thread tables (stands before);
-      close = λ events info past session thread tables begun before. takes_enough limited events info (step.Close session thread) past session thread tables (stands before);
-      point = λ events info past session stamp tables begun before. points_enough limited events info (step.Point session stamp) past session stamp tables (stands before);
-      end = λ events info past session stamp tables begun end before. ends_enough limited events info (step.Finish session stamp) past session stamp tables end (stands before);
+      steal = λ session thread tables begun goes. takes_enough limited goes.events goes.info (step.Steal session thread) goes.past session thread tables (stands goes.before);
+      close = λ session thread tables begun goes. takes_enough limited goes.events goes.info (step.Close session thread) goes.past session thread tables (stands goes.before);
+      point = λ session stamp tables begun goes. points_enough limited goes.events goes.info (step.Point session stamp) goes.past session stamp tables (stands goes.before);
+      end = λ session stamp tables begun end goes. ends_enough limited goes.events goes.info (step.Finish session stamp) goes.past session stamp tables end (stands goes.before);
     }
