@@ -1,19 +1,20 @@
 -- What the parts of the machine stand for before and after a step.
-use Rattle.std.proofs.Common.{◌≡◌, ◌<◌, ◌-◌, ℕ, List, length, Some, Result, Ok, Err, OnOk, refl, ap, ◌∙◌, subst, arith}
+use Rattle.std.proofs.Common.{◌≡◌, ◌<◌, ◌-◌, ℕ, List, length, Option, Some, Result, Ok, Err, OnOk, refl, ap, ◌∙◌, subst, arith}
 use Rattle.std.specs.Prelude.{slice_get, slice_index_or}
 use Rattle.std.proofs.lemmas.Option.{slice_get_read}
 use Rattle.std.proofs.Math.Logic.{∥∥₁_elim}
 use Rattle.std.proofs.Math.Bridge.{le_prop}
 use Rattle.ep_defs.specs.declared.limits.TheConstants.{THREADS}
+use Rattle.ep_defs.specs.declared.session.Write.{Write}
 use Rattle.nt_write.specs.declared.fault.Fault.{Fault}
 use Rattle.nt_write.specs.declared.fault.Fault.TheVariants.{WriteFault, TooLong, OutOfMemory}
 use Rattle.ep_model.specs.declared.step.Step.{Step}
 use Rattle.ep_stream.specs.Fates.{fate_after}
 use Rattle.ep_stream.specs.Rows.{IsRow}
 use Rattle.ep_stream.specs.declared.session.Fate.TheVariants.{ProgramEnd, Requested}
+use Rattle.ep_tables.specs.declared.tables.Tables.{Tables}
 use Rattle.ep_tables.specs.Tied.{AreTied}
-use Rattle.ep_core.specs.declared.work.Work.{Work}
-use Rattle.ep_core.specs.state.Works.{CanGoOn}
+use Rattle.ep_core_laws.specs.Works.{CanGoOn}
 use Rattle.ep_core.proofs.Once.{AreTied-prop}
 
 -- What follows where a call answered no error.
@@ -35,11 +36,11 @@ not_requested (Err OutOfMemory) conn is = cc
 
 -- ---- what is known of the tables, whichever steps led here
 
-pub tied_once : {step : Step} {work : Work} → ∥ CanGoOn step work ∥₁ → AreTied work.tables
-tied_once {work = work} goes = ∥∥₁_elim goes (AreTied-prop work.tables) (λ goes. goes.before.works.tied)
+pub tied_once : {step : Step} {tables : Tables} {begun : List (Option Write)} → ∥ CanGoOn step tables begun ∥₁ → AreTied tables
+tied_once {tables = tables} goes = ∥∥₁_elim goes (AreTied-prop tables) (λ goes. goes.before.works.tied)
 
 -- A row has its place in the list.
-pub place_within : {step : Step} {work : Work} (row : ℕ) → ∥ CanGoOn step work ∥₁ → IsRow THREADS row → row - 1 < length work.begun.items
+pub place_within : {step : Step} {tables : Tables} {begun : List (Option Write)} (row : ℕ) → ∥ CanGoOn step tables begun ∥₁ → IsRow THREADS row → row - 1 < length begun
 place_within row goes is_row = ∥∥₁_elim goes le_prop (λ goes. let count = goes.before.works.begun_count in let first = is_row.0 in let last = is_row.1 in omega (arith, count, first, last))
 
 -- What is read at a place of a list is there.

@@ -8,10 +8,8 @@ ghost use Rattle.ep_defs.specs.Event.{is_valid_event};
 ghost use Rattle.ep_defs.specs.Definitions.{AreDistinct, definition_at};
 ghost use Rattle.ep_defs.specs.declared.limits.TheConstants.{EVENTS};
 ghost use Rattle.ep_rundown.specs.Rundown.{lacks_rundown};
-ghost use Rattle.ep_tables.specs.Judged.{step_of};
 ghost use Rattle.ep_tables.specs.declared.judged.Judged.TheVariants.{Finish};
-ghost use Rattle.ep_model.specs.declared.step.Step.TheVariants.{Finish as FinishStep};
-ghost use Rattle.ep_core.specs.state.Works.{CanWork, IsNext, Makes, MakesWith, EndedFollow, Standing};
+ghost use Rattle.ep_core.specs.state.Works.{IsNext, Makes, MakesWith, EndedFollowOn, EndedFollowOnWith, Standing};
 
 use crate::ended::Ended;
 use crate::work::Work;
@@ -127,9 +125,10 @@ impl Machine {
             → Follows events info past self.old
             → OnOk result ((first_unlawful events (length past + 1) past steps.items ≡ None) × Follows events info (reverse steps.items ++ past) self.new) }
         ensures unlawful { (events : List EventDef) (info : TraceInfo) (past : Past) (why : Unlawful) → Follows events info past self.old
+            → result ≡ Err (Refused why) → first_unlawful events (length past + 1) past steps.items ≡ Some why }
+        ensures until { (events : List EventDef) (info : TraceInfo) (past : Past) (why : Unlawful) → Follows events info past self.old
             → result ≡ Err (Refused why)
-            → (first_unlawful events (length past + 1) past steps.items ≡ Some why)
-            × Follows events info (reverse (take (why.step - length past - 1) steps.items) ++ past) self.new }
+            → Follows events info (reverse (take (why.step - length past - 1) steps.items) ++ past) self.new }
         ensures failed { result ≡ Err OutOfMemory → has_failed self.new ≡ true }
         ensures stays { has_failed self.old ≡ true → (result ≡ Err OutOfMemory)
             × (self.new ≡ self.old) }
@@ -200,10 +199,7 @@ fn make(
 ) -> Result<(), AllocError>
     requires { IsNext judged work.old }
     ensures works { OnOk result (MakesWith info.now judged work.old work.new) }
-    ensures ended { (events : List EventDef) (past : Past)
-        → CanWork events info.now (step_of judged) past work.old
-        → EndedFollow events info.now past ended.old
-        → OnOk result (EndedFollow events info.now (step_of judged ∷ past) ended.new) }
+    ensures ended { OnOk result (EndedFollowOnWith info.now judged work.old ended.old ended.new) }
 {
     a_finished_session_stays();
     match judged {
@@ -234,10 +230,7 @@ fn finish(
 ) -> Result<(), AllocError>
     requires { IsNext (Finish of stamp) work.old }
     ensures works { OnOk result (Makes (Finish of stamp) work.old work.new) }
-    ensures ended { (events : List EventDef) (info : TraceInfo) (past : Past)
-        → CanWork events info (FinishStep of.session stamp) past work.old
-        → EndedFollow events info past ended.old
-        → OnOk result (EndedFollow events info (FinishStep of.session stamp ∷ past) ended.new) }
+    ensures ended { OnOk result (EndedFollowOn (Finish of stamp) work.old ended.old ended.new) }
 {
     a_finished_session_stays();
     let left = work.finish(alloc, of, stamp)?;

@@ -12,7 +12,7 @@ use Rattle.ep_model.specs.Marks.{marks_of}
 use Rattle.ep_told.specs.Told.{told_entries}
 use Rattle.ep_tables.specs.declared.judged.Judged.{Judged}
 use Rattle.ep_tables.specs.Judged.{IsReady, step_of}
-use Rattle.ep_core_laws.specs.Works.{Works, WorksBefore}
+use Rattle.ep_core_laws.specs.Works.{Works, WorksBefore, CanGoOn, WorksOnWith}
 use Rattle.ep_core.specs.declared.ended.Ended.{Ended}
 use Rattle.ep_core.specs.declared.work.Work.{Work}
 
@@ -24,22 +24,15 @@ HasWorked events info past work = Works events info past work.tables work.begun.
 abbrev pub CanWork : List EventDef → TraceInfo → Step → Past → Work → Type 0
 CanWork events info next past work = WorksBefore events info next past work.tables work.begun.items
 
--- Some lawful steps led here, and the step can be made behind them.
-pub record CanGoOn (next : Step) (work : Work) : Type 0 where
-  pub events : List EventDef
-  pub info : TraceInfo
-  pub past : Past
-  pub before : CanWork events info next past work
-
 -- The step can be made next, with what was found.
 pub record IsNext (judged : Judged) (work : Work) : Type 0 where
   pub ready : IsReady work.tables judged
-  pub goes : ∥ CanGoOn (step_of judged) work ∥₁
+  pub goes : ∥ CanGoOn (step_of judged) work.tables work.begun.items ∥₁
 
 -- The step was made, whatever the steps before were.
 abbrev pub MakesWith : TraceInfo → Judged → Work → Work → Type 0
 MakesWith info judged old new =
-    (events : List EventDef) (past : Past) → CanWork events info (step_of judged) past old → HasWorked events info (step_of judged ∷ past) new
+    WorksOnWith info (step_of judged) old.tables old.begun.items new.tables new.begun.items
 
 -- The same, with whatever a stream says of the machine that was traced.
 abbrev pub Makes : Judged → Work → Work → Type 0
@@ -65,6 +58,16 @@ EndedAt events info session past (Some ended) = EndedFollows events info session
 -- What is left of each session.
 abbrev pub EndedFollow : List EventDef → TraceInfo → Past → BTreeMap ℕ Ended → Type 0
 EndedFollow events info past ended = (session : ℕ) → EndedAt events info session past (get nat_cmp ended session)
+
+-- Where the step was made, it is known again what is left of each session, whatever the steps before were.
+abbrev pub EndedFollowOnWith : TraceInfo → Judged → Work → BTreeMap ℕ Ended → BTreeMap ℕ Ended → Type 0
+EndedFollowOnWith info judged work old new =
+    (events : List EventDef) (past : Past) → CanWork events info (step_of judged) past work
+    → EndedFollow events info past old → EndedFollow events info (step_of judged ∷ past) new
+
+-- The same, with whatever a stream says of the machine that was traced.
+abbrev pub EndedFollowOn : Judged → Work → BTreeMap ℕ Ended → BTreeMap ℕ Ended → Type 0
+EndedFollowOn judged work old new = (info : TraceInfo) → EndedFollowOnWith info judged work old new
 
 -- Some lawful steps led to this.
 pub record Standing (info : TraceInfo) (work : Work) : Type 0 where

@@ -3,7 +3,7 @@ use Rattle.ep_core.proofs.Ending.{ended_after, told_stays}
 use Rattle.ep_core.proofs.machine.finish.Goals as goal
 
 pub returns-clause-ended : goal.returns-clause-ended
-returns-clause-ended c events info past before follow other =
+returns-clause-ended c info events past before follow other =
     let law = c.a_finished_session_stays.ensures in
     let session = c.args.of.session in
     let stamp = c.args.stamp in

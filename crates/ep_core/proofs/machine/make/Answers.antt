@@ -1,7 +1,6 @@
-use Rattle.std.proofs.Common.{◌∷◌, sym, subst}
+use Rattle.std.proofs.Common.{sym, subst}
 use Rattle.ep_tables.specs.declared.judged.Judged.{Judged}
-use Rattle.ep_tables.specs.Judged.{step_of}
-use Rattle.ep_core.specs.state.Works.{CanWork, MakesWith, EndedFollow}
+use Rattle.ep_core.specs.state.Works.{MakesWith, EndedFollowOnWith}
 use Rattle.ep_core.proofs.machine.make.Goals as goal
 
 pub returns-in-Leave-clause-works : goal.returns-in-Leave-clause-works
@@ -60,7 +59,6 @@ returns-in_ok-finish-in-Finish-clause-works c =
     subst Makes (sym c.in-Finish.is) (c.in_ok-finish-in-Finish.ensures.works c.args.info.now)
 
 pub returns-in_ok-finish-in-Finish-clause-ended : goal.returns-in_ok-finish-in-Finish-clause-ended
-returns-in_ok-finish-in-Finish-clause-ended c events past =
-    let info = c.args.info.now in
-    let Keeps : Judged → Type 0 = λ j. CanWork events info (step_of j) past c.args.work.now → EndedFollow events info past c.args.ended.now → EndedFollow events info (step_of j ∷ past) c.finish.new.ended in
-    subst Keeps (sym c.in-Finish.is) (c.in_ok-finish-in-Finish.ensures.ended events info past)
+returns-in_ok-finish-in-Finish-clause-ended c =
+    let Keeps : Judged → Type 0 = λ j. EndedFollowOnWith c.args.info.now j c.args.work.now c.args.ended.now c.finish.new.ended in
+    subst Keeps (sym c.in-Finish.is) (c.in_ok-finish-in-Finish.ensures.ended c.args.info.now)

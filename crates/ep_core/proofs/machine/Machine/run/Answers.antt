@@ -37,8 +37,16 @@ returns-in_err-step-clause-unlawful c events info past why follows is =
     let left = c.loop-step.invariant.left ∙ ap (λ xs. c.loop-step.yielded ++ xs) c.in-Some.ensures.steps.0 in
     let fault = err_from_is_err_and c.from_residual.result c.from_residual.ensures.1 in
     let same : c.step.result ≡ Err (Refused why) = c.in_err-step.was ∙ sym (fault.1 ∙ ap Err fault.2) ∙ is in
-    ran_refused c.args.self.now c.loop-step.self c.step.new.self c.loop-step.yielded c.in-Some.step (into_iter_items c.next.new.self) c.args.steps.items events info past why c.loop-step.invariant.ran left follows
-    (λ h. c.step.ensures.unlawful events info _ why h same) (c.step.ensures.unchanged why same)
+    (ran_refused c.args.self.now c.loop-step.self c.step.new.self c.loop-step.yielded c.in-Some.step (into_iter_items c.next.new.self) c.args.steps.items events info past why c.loop-step.invariant.ran left follows
+    (λ h. c.step.ensures.unlawful events info _ why h same) (c.step.ensures.unchanged why same)).0
+
+pub returns-in_err-step-clause-until : goal.returns-in_err-step-clause-until
+returns-in_err-step-clause-until c events info past why follows is =
+    let left = c.loop-step.invariant.left ∙ ap (λ xs. c.loop-step.yielded ++ xs) c.in-Some.ensures.steps.0 in
+    let fault = err_from_is_err_and c.from_residual.result c.from_residual.ensures.1 in
+    let same : c.step.result ≡ Err (Refused why) = c.in_err-step.was ∙ sym (fault.1 ∙ ap Err fault.2) ∙ is in
+    (ran_refused c.args.self.now c.loop-step.self c.step.new.self c.loop-step.yielded c.in-Some.step (into_iter_items c.next.new.self) c.args.steps.items events info past why c.loop-step.invariant.ran left follows
+    (λ h. c.step.ensures.unlawful events info _ why h same) (c.step.ensures.unchanged why same)).1
 
 pub returns-clause-made : goal.returns-clause-made
 returns-clause-made c events info past follows =

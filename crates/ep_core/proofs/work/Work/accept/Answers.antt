@@ -9,7 +9,7 @@ accept-requires-clause-tied c = tied_once c.requires.goes
 pub accept-requires-clause-few : goal.accept-requires-clause-few
 accept-requires-clause-few c =
     ∥∥₁_elim c.requires.goes le_prop (λ goes.
-    c.a_session_that_comes_has_an_id.ensures goes.events goes.info goes.past c.args.session c.args.config c.args.self.now.tables c.args.self.now.begun.items c.ranges.session.fits goes.before)
+    c.a_session_that_comes_has_an_id.ensures c.args.session c.args.config c.args.self.now.tables c.args.self.now.begun.items c.ranges.session.fits goes)
 
 pub in_memory-requires : goal.in_memory-requires
 in_memory-requires c is = c.accept.ensures.not_long is
@@ -17,4 +17,4 @@ in_memory-requires c is = c.accept.ensures.not_long is
 pub returns : goal.returns
 returns c =
     ok_made c.accept.result c.in_memory.result c.in_memory.ensures c.accept.ensures.made c.accept.ensures.tied
-    (λ made tied events past before. c.a_machine_follows_an_accept.ensures events c.args.info.now past c.args.session c.args.config c.args.self.now.tables _ c.args.self.now.begun.items before made tied)
+    (λ made tied. c.a_machine_follows_an_accept.ensures c.args.info.now c.args.session c.args.config c.args.self.now.tables _ c.args.self.now.begun.items made tied)

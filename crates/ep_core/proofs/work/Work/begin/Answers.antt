@@ -13,7 +13,7 @@ begin-requires-clause-tied c = tied_once c.requires.goes
 pub begin-requires-clause-few : goal.begin-requires-clause-few
 begin-requires-clause-few c =
     ∥∥₁_elim c.requires.goes le_prop (λ goes.
-    c.a_write_that_begins_has_a_number.ensures goes.events goes.info goes.past c.args.on.thread c.args.stamp c.args.on.row c.args.write c.args.self.now.tables c.args.self.now.begun.items goes.before c.requires.ready.there.own)
+    c.a_write_that_begins_has_a_number.ensures c.args.on.thread c.args.stamp c.args.on.row c.args.write c.args.self.now.tables c.args.self.now.begun.items goes c.requires.ready.there.own)
 
 pub index_mut-requires : goal.index_mut-requires
 index_mut-requires c =
@@ -27,4 +27,4 @@ returns c info events past before =
     let begun = c.args.self.now.begun.items in
     let At : ℕ → Type 0 = λ r. Works events info (step.Begin c.args.on.thread c.args.stamp c.args.write ∷ past) c.begin.new.self (set begun (r - 1) (Some c.args.write)) in
     subst At (same_Some made.own.row c.args.on.row (sym made.own.own ∙ c.requires.ready.there.own))
-    (c.a_machine_follows_a_begin.ensures events info past c.args.on.thread c.args.stamp c.args.write c.args.self.now.tables c.begin.new.self begun before made c.begin.ensures.tied)
+    (c.a_machine_follows_a_begin.ensures c.args.on.thread c.args.stamp c.args.write c.args.self.now.tables c.begin.new.self begun made c.begin.ensures.tied info events past before)

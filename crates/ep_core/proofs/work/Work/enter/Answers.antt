@@ -7,4 +7,4 @@ enter-requires-clause-tied c = tied_once c.requires.goes
 pub returns : goal.returns
 returns c =
     ok_both c.enter.result c.enter.ensures.made c.enter.ensures.tied
-    (λ made tied info events past before. c.a_machine_follows_an_enter.ensures events info past c.args.on.thread c.args.self.now.tables _ c.args.self.now.begun.items before made tied)
+    (λ made tied. c.a_machine_follows_an_enter.ensures c.args.on.thread c.args.self.now.tables _ c.args.self.now.begun.items made tied)

@@ -5,5 +5,5 @@ pub give-requires-clause-tied : goal.give-requires-clause-tied
 give-requires-clause-tied c = tied_once c.requires.goes
 
 pub returns : goal.returns
-returns c info events past before =
-    c.a_machine_follows_a_give.ensures events info past c.args.of.session c.args.self.now.tables _ c.args.self.now.begun.items before c.give.ensures.made c.give.ensures.tied
+returns c =
+    c.a_machine_follows_a_give.ensures c.args.of.session c.args.self.now.tables _ c.args.self.now.begun.items c.give.ensures.made c.give.ensures.tied

@@ -5,5 +5,5 @@ pub leave-requires-clause-tied : goal.leave-requires-clause-tied
 leave-requires-clause-tied c = tied_once c.requires.goes
 
 pub returns : goal.returns
-returns c info events past before =
-    c.a_machine_follows_a_leave.ensures events info past c.args.on.thread c.args.self.now.tables _ c.args.self.now.begun.items before c.leave.ensures.made c.leave.ensures.tied
+returns c =
+    c.a_machine_follows_a_leave.ensures c.args.on.thread c.args.self.now.tables _ c.args.self.now.begun.items c.leave.ensures.made c.leave.ensures.tied

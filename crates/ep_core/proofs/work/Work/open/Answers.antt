@@ -7,4 +7,4 @@ open-requires-clause-tied c = tied_once c.requires.goes
 pub returns : goal.returns
 returns c =
     ok_both c.open.result c.open.ensures.made c.open.ensures.tied
-    (λ made tied info events past before. c.a_machine_follows_an_open.ensures events info past c.args.both.of.session c.args.both.on.thread c.args.self.now.tables _ c.args.self.now.begun.items before made tied)
+    (λ made tied. c.a_machine_follows_an_open.ensures c.args.both.of.session c.args.both.on.thread c.args.self.now.tables _ c.args.self.now.begun.items made tied)

@@ -8,9 +8,9 @@ point-requires-clause-tied c = tied_once c.requires.goes
 pub in_memory-requires : goal.in_memory-requires
 in_memory-requires c is =
     ∥∥₁_elim c.requires.goes (hlevel) (λ goes.
-    c.stack_ids_suffice.ensures.point goes.events goes.info goes.past c.args.of.session c.args.stamp c.args.self.now.tables c.args.self.now.begun.items goes.before (c.point.ensures.long is))
+    c.stack_ids_suffice.ensures.point c.args.of.session c.args.stamp c.args.self.now.tables c.args.self.now.begun.items goes (c.point.ensures.long is))
 
 pub returns : goal.returns
 returns c =
     ok_made c.point.result c.in_memory.result c.in_memory.ensures c.point.ensures.made c.point.ensures.tied
-    (λ made tied info events past before. c.a_machine_follows_a_point.ensures events info past c.args.of.session c.args.stamp c.args.self.now.tables _ c.args.self.now.begun.items before made tied)
+    (λ made tied. c.a_machine_follows_a_point.ensures c.args.of.session c.args.stamp c.args.self.now.tables _ c.args.self.now.begun.items made tied)
