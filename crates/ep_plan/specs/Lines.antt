@@ -239,10 +239,11 @@ abbrev pub definition_fault : List EventDef → EventDef → Option LineKind
 definition_fault events def =
     if is_valid_event def then (if is_there events def then Some kind.Same else None) else Some kind.Fields
 
--- A definition is the next one under this number, valid, and none that is there already.
-abbrev pub IsNextDefinition : List EventDef → ℕ → EventDef → Type 0
-IsNextDefinition events index def =
-    (index ≡ length events + 1) × (index ≤ EVENTS) × IsTrue (is_valid_event def) × (is_there events def ≡ false)
+-- A definition stands before the lines of steps, is the next one under this number, valid, and none that is there already.
+abbrev pub IsNextDefinition : List EventDef → Bool → ℕ → EventDef → Type 0
+IsNextDefinition events stepped index def =
+    (stepped ≡ false) × (index ≡ length events + 1) × (index ≤ EVENTS)
+    × IsTrue (is_valid_event def) × (is_there events def ≡ false)
 
 -- What is wrong with the definition after the number of an event.
 unfoldable pub definition_bad : List EventDef → List (List ℕ) → Option Bad

@@ -1,5 +1,5 @@
 //! Reading a line.
-ghost use Rattle.std.specs.Prelude.{◌≡◌, ℕ, false, List, Some, None, Err, IfOk, IfErr};
+ghost use Rattle.std.specs.Prelude.{◌≡◌, ℕ, List, Some, None, Err, IfOk, IfErr};
 ghost use Rattle.ep_defs.specs.declared.event.EventDef.{EventDef};
 ghost use Rattle.ep_plan.specs.declared.line.Line.{Line};
 ghost use Rattle.ep_plan.specs.declared.line.Line.TheVariants.{Event};
@@ -125,5 +125,5 @@ pub fn a_line_means_one_thing()
         → IsLine events stepped text a → IsLine events stepped text b → a ≡ b }
     ensures event { (events : List EventDef) (stepped : _) (text : List ℕ) (index : ℕ)
         (def : EventDef) → IsLine events stepped text (Event index def)
-        → (stepped ≡ false) × IsNextDefinition events index def }
+        → IsNextDefinition events stepped index def }
 {}
