@@ -361,10 +361,10 @@ fn run_groups<
         move |scope|
             requires { (front.serving.desk.decider ≡ no_server) × (front.serving.stands ≡ Some 0)
                 × (D.greeting held.dock.now ≡ W.greeting) }
-            ensures { (result.0.dock.ghost_name ≡ held.entry.dock.ghost_name)
-                × IfOk result.1 (λ over. HasServed D.Dock L.read_side L.write_side W.facts W.greeting
-                wait over.exit over.conns.items held.entry.dock.now result.0.dock.now over.server)
-                × IfErr result.1 (λ _. result.0.dock.now ≡ held.entry.dock.now) }
+            ensures same { result.0.dock.ghost_name ≡ held.entry.dock.ghost_name }
+            ensures served { IfOk result.1 (λ over. HasServed D.Dock L.read_side L.write_side W.facts W.greeting
+                wait over.exit over.conns.items held.entry.dock.now result.0.dock.now over.server) }
+            ensures none { IfErr result.1 (λ _. result.0.dock.now ≡ held.entry.dock.now) }
         {
             let play = move || streaming.play_all();
             let playing = match scope.spawn(play) {
