@@ -5,9 +5,12 @@ pub mod Floats
 pub mod Entries
 pub mod Frames
 pub mod Going
+pub mod Halves
+pub mod Held
 pub mod Lines
 pub mod Members
 pub mod Nests
 pub mod Objects
+pub mod Pairs
 pub mod Steps
 pub mod Uuids

@@ -70,10 +70,6 @@ payload-of fields payload same bytes member same_fields same_payload is =
 pub then : {mid text new : List ℕ} (piece : List ℕ) → mid ≡ text → new ≡ mid ++ piece → new ≡ text ++ piece
 then piece before now = now ∙ ap (λ (xs : List ℕ). xs ++ piece) before
 
--- Two pieces more.
-pub two-put : (old first second : List ℕ) {mid new : List ℕ} → mid ≡ old ++ first → new ≡ mid ++ second → new ≡ old ++ (first ++ second)
-two-put old first second one two = then second one two ∙ append_assoc old first second
-
 -- So it is where the piece is told otherwise.
 pub then-by : {A : Type 0} {mid text new : List ℕ} (f : A → List ℕ) (x y : A) → x ≡ y → mid ≡ text → new ≡ mid ++ f x → new ≡ text ++ f y
 then-by {A} {mid} {text} {new} f x y same before now = then (f y) before (subst (λ (z : A). new ≡ mid ++ f z) same now)

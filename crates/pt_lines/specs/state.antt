@@ -1,4 +1,6 @@
 pub mod Fields
+pub mod Halves
+pub mod Held
 pub mod Nest
 pub mod Opening
 pub mod Pieces

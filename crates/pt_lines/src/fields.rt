@@ -1,16 +1,18 @@
 //! The fields of an event.
-ghost use Rattle.std.specs.Prelude.{◌≡◌, ◌+◌, ◌<◌, ◌^◌, ◌++◌, IfOk, OnOk};
+ghost use Rattle.std.specs.Prelude.{◌≡◌, ◌+◌, ◌<◌, ◌^◌, ◌++◌, Some, IfOk, OnOk};
 ghost use Rattle.ep_defs.specs.Event.{deepest_after};
+ghost use Rattle.nt_fields.specs.Kinds.{kind_of};
 ghost use Rattle.nt_fields.specs.Values.{payload_at};
 ghost use Rattle.pt_num.specs.Begins.{Keeps};
 ghost use Rattle.pt_lines.specs.Texts.{IsPayload, closes, field_name};
 ghost use Rattle.pt_lines.specs.Appends.{Appends};
-ghost use Rattle.pt_lines.specs.state.Fields.{PutsValues};
+ghost use Rattle.pt_lines.specs.state.Fields.{PutsField, PutsValues};
 ghost use Rattle.pt_lines.specs.state.Pieces.{label_text};
 
 use crate::named::NamedField;
+use crate::number::number_at;
 use crate::text::put_name;
-use crate::value::{put_hex, put_value};
+use crate::value::{put_digits, put_hex, put_value};
 use ep_defs::{FieldDef, OBJECT_CODE};
 use nt_fields::FieldKind;
 use std::alloc::{AllocError, Global};
@@ -45,16 +47,11 @@ fn put_values(
     let mut opened = 0;
     let mut bytes = payload;
     for field in fields {
-        let Some(kind) = FieldKind::of(field.code()) else {
+        let Some(used) = put_field(out, alloc, opened, field, bytes)? else {
             return Ok(false);
         };
-        let Some(taken) = kind.take(bytes) else {
-            return Ok(false);
-        };
-        put_field_name(out, opened, field)?;
-        put_value(out, alloc, &taken.value, bytes)?;
         opened = open_after(field);
-        bytes = &bytes[taken.used..];
+        bytes = &bytes[used..];
     }
     if !bytes.is_empty() {
         return Ok(false);
@@ -63,6 +60,51 @@ fn put_values(
     Ok(true)
 }
 
+// Appends a field with its value at the front of the bytes, where so many objects are open, and answers how many bytes the value
+// has, or none where none stands there.
+fn put_field(
+    out: &mut Vec<u8>,
+    alloc: Global,
+    opened: u64,
+    field: &NamedField,
+    bytes: &[u8],
+) -> Result<Option<usize>, AllocError>
+    ensures { IfOk result (λ used. PutsField opened field.now bytes.now used out.old.items out.new.items) }
+{
+    let Some(kind) = FieldKind::of(field.code()) else {
+        return Ok(None);
+    };
+    // Nearly all values are such numbers.
+    if let Some(held) = number_at(kind, bytes) {
+        put_field_name(out, opened, field)?;
+        put_digits(out, held.number)?;
+        return Ok(Some(held.used));
+    }
+    put_other(out, alloc, opened, kind, field, bytes)
+}
+
+// So it is with any value of this kind. It stands apart, so that the way of numbers is short.
+#[inline(never)]
+fn put_other(
+    out: &mut Vec<u8>,
+    alloc: Global,
+    opened: u64,
+    kind: FieldKind,
+    field: &NamedField,
+    bytes: &[u8],
+) -> Result<Option<usize>, AllocError>
+    requires { kind_of field.now.code ≡ Some kind }
+    ensures { IfOk result (λ used. PutsField opened field.now bytes.now used out.old.items out.new.items) }
+{
+    let Some(taken) = kind.take(bytes) else {
+        return Ok(None);
+    };
+    put_field_name(out, opened, field)?;
+    put_value(out, alloc, &taken.value, bytes)?;
+    Ok(Some(taken.used))
+}
+
+#[inline(always)]
 fn put_field_name(out: &mut Vec<u8>, opened: u64, field: &NamedField) -> Result<(), AllocError>
     ensures { OnOk result (out.new.items ≡ out.old.items ++ field_name opened field.now) }
 {

@@ -1,10 +1,11 @@
 //! The text of a line: of an event with the values of its fields, of a point, and of numbers that are lost.
 //!
-//! `text` puts names and texts of strangers, `value` the value of a field, `fields` the fields of an event by its definition,
-//! `place` numbers that go out in one piece, `named` a definition with what is put of it once for all of its events, and `line`
+//! `text` puts names and texts of strangers, `value` the value of a field, `number` finds the values that are plain numbers, `guid`
+//! has the text of sixteen bytes, `fields` the fields of an event by its definition, `place` numbers that go out in one piece,
+//! `named` a definition with what is put of it once for all of its events, and `line`
 //! whole lines, in the form that is asked for; `json` has the form of objects, with modules of the same tasks, and `chromium`
 //! that of trace events, over it. It stands on nt_fields, for the values of a payload, on pt_print, for the parts of
-//! a line, and on the kit's printers of numbers, floats and UUIDs. What a line tells is `specs/Line`, its text in each form
+//! a line, and on the kit's printers of numbers and floats and its text of a UUID. What a line tells is `specs/Line`, its text in each form
 //! `specs/Texts`, `specs/Json` and `specs/Chromium`, and `specs/Forms` has all: a function of the line but for floats, whose
 //! text is one that reads back as the float. What stands around the lines is `specs/Around`.
 //!
@@ -16,10 +17,12 @@
 mod chromium;
 mod fields;
 mod form;
+mod guid;
 mod json;
 mod limits;
 mod line;
 mod named;
+mod number;
 mod origin;
 mod page;
 mod place;

@@ -39,6 +39,7 @@ pub struct EventLine<'a> {
 }
 
 /// Appends the line of numbers that a thread leaves out at this stamp, where there are some.
+#[inline(always)]
 pub fn put_lost(
     out: &mut Vec<u8>,
     form: Form,
@@ -55,6 +56,8 @@ pub fn put_lost(
     put_one_lost(out, form, origin, stamp, thread, count)
 }
 
+// So it is where there are some. It stands apart, since for nearly all events there are none.
+#[inline(never)]
 fn put_one_lost(
     out: &mut Vec<u8>,
     form: Form,

@@ -32,6 +32,7 @@ pub fn place_number(text: &mut [u8], end: usize, number: u64) -> usize
 }
 
 /// Writes a word.
+#[inline(always)]
 pub fn place_word(text: &mut [u8], end: usize, word: &[u8]) -> usize
     requires within { end ≤ length text.old }
     requires room { length word.now ≤ end }
@@ -62,6 +63,7 @@ pub fn place_integer(text: &mut [u8], end: usize, number: u64) -> usize
 }
 
 /// Writes a number behind what names it.
+#[inline(always)]
 pub fn place_member(text: &mut [u8], end: usize, name: &[u8], number: u64) -> usize
     requires within { end ≤ length text.old }
     requires room { length name.now + INTEGER_BYTES ≤ end }

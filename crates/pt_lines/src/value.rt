@@ -10,10 +10,10 @@ ghost use Rattle.nt_fields.specs.Taking.{value_in, StandsIn};
 ghost use Rattle.pt_lines.specs.Texts.{IsShown, IsFloat, truth_text, digits_in, day_text, clock_text, date_text};
 ghost use Rattle.pt_lines.specs.Appends.{Appends};
 
+use crate::guid::{GUID_BYTES, place_guid};
 use crate::text::{put_text, put_unit};
 use nt_fields::Value;
 use std::alloc::{AllocError, Global};
-use uuid::Uuid;
 
 /// Appends the value whose bytes begin these.
 pub fn put_value(
@@ -35,7 +35,7 @@ pub fn put_value(
         Value::Double(bits) => put_double(out, *bits),
         Value::Decimal(long) => put_hex(out, alloc, long),
         Value::Date(numbers) => put_date(out, numbers),
-        Value::Guid(long) => put_guid(out, *long),
+        Value::Guid(long) => put_guid(out, long),
         Value::Text(count) => put_text(out, &bytes[..2 * *count]),
     }
 }
@@ -66,6 +66,7 @@ pub fn put_signed(out: &mut Vec<u8>, number: i64) -> Result<(), AllocError>
 pub const MOST_DIGITS: usize = 20;
 
 /// Appends a number.
+#[inline(always)]
 pub fn put_digits(out: &mut Vec<u8>, number: u64) -> Result<(), AllocError>
     ensures { OnOk result (out.new.items ≡ out.old.items ++ decimal number) }
 {
@@ -112,18 +113,12 @@ pub fn put_hex(out: &mut Vec<u8>, alloc: Global, bytes: &[u8]) -> Result<(), All
 }
 
 /// Appends sixteen bytes as a UUID, of which the first three parts have their low byte first.
-pub fn put_guid(out: &mut Vec<u8>, bytes: [u8; 16]) -> Result<(), AllocError>
-    ensures { OnOk result (out.new.items ≡ out.old.items ++ hyphenated_text lower (swap_fields bytes)) }
+pub fn put_guid(out: &mut Vec<u8>, bytes: &[u8; 16]) -> Result<(), AllocError>
+    ensures { OnOk result (out.new.items ≡ out.old.items ++ hyphenated_text lower (swap_fields bytes.now)) }
 {
-    // Most events belong to no activity.
-    if bytes == [0; 16] {
-        return out.extend_from_slice(b"00000000-0000-0000-0000-000000000000");
-    }
-    let mut buffer = Uuid::encode_buffer();
-    let text = Uuid::from_bytes_le(bytes)
-        .hyphenated()
-        .encode_lower(&mut buffer);
-    out.extend_from_slice(text.as_bytes())
+    let mut text = [0; GUID_BYTES];
+    let start = place_guid(&mut text, GUID_BYTES, bytes);
+    out.extend_from_slice(&text[start..])
 }
 
 /// Whether sixteen bytes are zeros, those of no activity.

@@ -1,10 +1,11 @@
 -- The objects that are open between two fields, and what putting a field does to them.
-use Rattle.std.specs.Prelude.{◌≡◌, ℕ, ◌<◌, Bool, true, false, List, [], ◌∷◌, ◌++◌, length, map, reverse, codes, Option, Result, Ok, Err}
+use Rattle.std.specs.Prelude.{◌≡◌, ℕ, ◌<◌, Bool, true, false, List, [], ◌∷◌, ◌++◌, length, map, reverse, codes, Option, Some, None, Result, Ok, Err}
 use Rattle.ep_defs.specs.declared.event.FieldDef.{FieldDef}
 use Rattle.nt_fields.specs.Values.{FieldValue, Misfit}
 use Rattle.pt_lines.specs.declared.json.nest.Nest.{Nest}
-use Rattle.pt_lines.specs.Json.{AreMembers, behind_commas, commas, inside, outside, placed}
+use Rattle.pt_lines.specs.Json.{AreMembers, IsShownBy, behind_commas, commas, inside, outside, placed}
 use Rattle.pt_lines.specs.Appends.{Appends}
+use Rattle.pt_lines.specs.state.Fields.{HasNone, HasValue}
 
 -- What stands before a member or a value, by whether it is the first.
 abbrev pub comma : Bool → List ℕ
@@ -58,3 +59,10 @@ PutsMembers fields (Ok values) true old new = Appends (AreMembers fields values)
 PutsMembers fields (Err misfit) false old new = (rest : List ℕ) × (new ≡ old ++ rest)
 PutsMembers fields (Ok values) false old new = ⊥
 PutsMembers fields (Err misfit) true old new = ⊥
+
+-- The answer is how many bytes the value of a field has at the front of the bytes. Where there is one, the field was put with it;
+-- where there is none, nothing was.
+abbrev pub PutsMember : FieldDef → List ℕ → Option ℕ → Nest → Nest → List ℕ → List ℕ → Type 0
+PutsMember field bytes (Some used) old new before now =
+    (value : FieldValue) × HasValue field bytes value used × (shown : Option (List ℕ)) × IsShownBy value shown × Adds field shown old new before now
+PutsMember field bytes None old new before now = HasNone field bytes × (new ≡ old) × (now ≡ before)

@@ -8,7 +8,7 @@ use Rattle.ep_defs.specs.Entry.{EventEntry}
 use Rattle.pt_lines.specs.declared.chromium.phase.Phase.{Phase}
 use Rattle.pt_lines.specs.declared.origin.Origin.{Origin}
 use Rattle.pt_lines.specs.Texts.{name_unit, quoted}
-use Rattle.pt_lines.specs.Json.{activity_members, behind_commas, definition_members, integer}
+use Rattle.pt_lines.specs.Json.{activity_members, behind_commas, definition_members, integer, uuid_text}
 use Rattle.pt_lines.specs.Chromium.{microseconds, nanoseconds, phase_by, phase_of, phase_text, stem_of}
 
 -- What it is in this phase of this name.
@@ -32,6 +32,10 @@ placed_text origin event = codes ",\"ts\":" ++ (microseconds (nanoseconds origin
 -- What it is in an object, and its activities, up to its stack.
 abbrev pub described_text : EventEntry → List ℕ
 described_text event = (behind_commas (definition_members event.def) ++ behind_commas (activity_members event)) ++ codes ",\"stack\":"
+
+-- Two activities behind other members, up to the stack.
+abbrev pub activities_text : List ℕ → List ℕ → List ℕ
+activities_text activity related = codes ",\"activity\":" ++ (uuid_text activity ++ (codes ",\"related\":" ++ (uuid_text related ++ codes ",\"stack\":")))
 
 -- The word and the numbers of an event in a line.
 abbrev pub numbers_text : ℕ → ℕ → ℕ → List ℕ

@@ -71,8 +71,7 @@ pub fn put_event(out: &mut Vec<u8>, alloc: Global, event: &EventLine<'_>) -> Res
     put_named(out, event)?;
     put_place(out, event)?;
     put_payload(out, alloc, event.def.fields(), event.payload)?;
-    out.push(b'}')?;
-    Ok(out.push(b'}')?)
+    out.extend_from_slice(b"}}")
 }
 
 // Appends the name, the category and the phase of an event.

@@ -4,7 +4,8 @@ ghost use Rattle.pt_lines.specs.Chromium.{phase_text};
 ghost use Rattle.pt_lines.specs.Json.{uuid_text};
 ghost use Rattle.pt_lines.specs.state.Pieces as pieces;
 
-use crate::json::value::put_uuid;
+use crate::guid::{GUID_BYTES, place_guid};
+use crate::place::place_word;
 use pt_print::put_word;
 use std::alloc::AllocError;
 
@@ -44,15 +45,23 @@ pub fn put_phase(out: &mut Vec<u8>, activity: &[u8; 16], phase: Phase) -> Result
 {
     match phase {
         Phase::Instant => put_word(out, "\"ph\":\"i\",\"s\":\"t\""),
-        Phase::Begin => put_span(out, "\"ph\":\"b\",\"id\":", activity),
-        Phase::End => put_span(out, "\"ph\":\"e\",\"id\":", activity),
+        Phase::Begin => put_span(out, b"\"ph\":\"b\",\"id\":", activity),
+        Phase::End => put_span(out, b"\"ph\":\"e\",\"id\":", activity),
     }
 }
 
+// How many bytes a phase fills that has an activity: what it is, and the activity between quotes.
+const SPAN_BYTES: usize = 16 + GUID_BYTES;
+
 // Appends a phase of a span.
-fn put_span(out: &mut Vec<u8>, phase: &str, activity: &[u8; 16]) -> Result<(), AllocError>
+#[inline(always)]
+fn put_span(out: &mut Vec<u8>, phase: &[u8; 14], activity: &[u8; 16]) -> Result<(), AllocError>
     ensures { OnOk result (out.new.items ≡ out.old.items ++ (phase.now ++ uuid_text activity.now)) }
 {
-    put_word(out, phase)?;
-    put_uuid(out, *activity)
+    let mut text = [0; SPAN_BYTES];
+    let behind = place_word(&mut text, SPAN_BYTES, b"\"");
+    let id = place_guid(&mut text, behind, activity);
+    let before = place_word(&mut text, id, b"\"");
+    let start = place_word(&mut text, before, phase);
+    out.extend_from_slice(&text[start..])
 }

@@ -1,14 +1,16 @@
 //! The fields of an event.
-ghost use Rattle.std.specs.Prelude.{◌≡◌, ◌++◌, IfOk, OnOk, List, ℕ, map};
+ghost use Rattle.std.specs.Prelude.{◌≡◌, ◌++◌, Some, IfOk, OnOk, List, ℕ, map};
+ghost use Rattle.nt_fields.specs.Kinds.{kind_of};
 ghost use Rattle.nt_fields.specs.Values.{payload_at};
 ghost use Rattle.pt_lines.specs.Json.{commas};
 ghost use Rattle.pt_lines.specs.Appends.{Appends};
-ghost use Rattle.pt_lines.specs.state.Nest.{PutsMembers, still};
+ghost use Rattle.pt_lines.specs.state.Nest.{PutsMember, PutsMembers, still};
 ghost use Rattle.pt_lines.specs.state.Opening.{IsNextPayload, opening};
 
 use crate::json::nest::Nest;
 use crate::json::value::put_quoted_hex;
 use crate::named::NamedField;
+use crate::number::number_at;
 use nt_fields::FieldKind;
 use pt_print::put_word;
 use std::alloc::{AllocError, Global};
@@ -50,18 +52,56 @@ fn put_members(
 {
     let mut bytes = payload;
     for field in fields {
-        let Some(kind) = FieldKind::of(field.code()) else {
+        let Some(used) = put_next(out, alloc, nest, field, bytes)? else {
             return Ok(false);
         };
-        let Some(taken) = kind.take(bytes) else {
-            return Ok(false);
-        };
-        nest.put_field(out, alloc, field, &taken.value, bytes)?;
-        bytes = &bytes[taken.used..];
+        bytes = &bytes[used..];
     }
     if !bytes.is_empty() {
         return Ok(false);
     }
     nest.close_all(out)?;
     Ok(true)
+}
+
+// Appends the member of a field with its value at the front of the bytes, and answers how many bytes the value has, or none where
+// none stands there.
+fn put_next(
+    out: &mut Vec<u8>,
+    alloc: Global,
+    nest: &mut Nest,
+    field: &NamedField,
+    bytes: &[u8],
+) -> Result<Option<usize>, AllocError>
+    ensures { IfOk result (λ used. PutsMember field.now bytes.now used nest.old nest.new out.old.items out.new.items) }
+{
+    let Some(kind) = FieldKind::of(field.code()) else {
+        return Ok(None);
+    };
+    // Nearly all values are such numbers.
+    if let Some(held) = number_at(kind, bytes) {
+        nest.put_number(out, field, held.number)?;
+        return Ok(Some(held.used));
+    }
+    put_other(out, alloc, nest, kind, field, bytes)
+}
+
+// So it is with any value of this kind. It stands apart, so that the way of numbers is short.
+#[inline(never)]
+fn put_other(
+    out: &mut Vec<u8>,
+    alloc: Global,
+    nest: &mut Nest,
+    kind: FieldKind,
+    field: &NamedField,
+    bytes: &[u8],
+) -> Result<Option<usize>, AllocError>
+    requires { kind_of field.now.code ≡ Some kind }
+    ensures { IfOk result (λ used. PutsMember field.now bytes.now used nest.old nest.new out.old.items out.new.items) }
+{
+    let Some(taken) = kind.take(bytes) else {
+        return Ok(None);
+    };
+    nest.put_field(out, alloc, field, &taken.value, bytes)?;
+    Ok(Some(taken.used))
 }

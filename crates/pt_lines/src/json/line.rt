@@ -5,16 +5,17 @@ ghost use Rattle.pt_lines.specs.declared.form.Form.TheVariants as forms;
 ghost use Rattle.pt_lines.specs.declared.origin.Origin.{Origin};
 ghost use Rattle.pt_lines.specs.Line.{Event};
 ghost use Rattle.pt_lines.specs.Forms.{IsLine};
-ghost use Rattle.pt_lines.specs.Json.{activity_members, array, behind_commas, commas, definition_members, error_object, known_object, lost_object, place_members, point_object};
+ghost use Rattle.pt_lines.specs.Json.{array, behind_commas, commas, definition_members, error_object, known_object, lost_object, place_members, point_object};
 ghost use Rattle.pt_lines.specs.Appends.{Appends, Tells};
 ghost use Rattle.pt_lines.specs.state.Nest.{comma};
-ghost use Rattle.pt_lines.specs.state.Pieces.{alone_text, described_text};
+ghost use Rattle.pt_lines.specs.state.Pieces.{activities_text, alone_text, described_text};
 
+use crate::guid::{GUID_BYTES, place_guid};
 use crate::json::fields::put_payload;
 use crate::json::stack::width_of;
-use crate::json::value::{put_integer, put_plain, put_uuid};
+use crate::json::value::{put_integer, put_plain};
 use crate::line::EventLine;
-use crate::place::place_member;
+use crate::place::{place_member, place_word};
 use crate::text::put_quoted;
 use crate::value::is_none;
 use ep_defs::EventDef;
@@ -87,8 +88,7 @@ pub fn put_event(out: &mut Vec<u8>, alloc: Global, event: &EventLine<'_>) -> Res
     put_described(out, event)?;
     event.stack.put(out, width_of(event.origin.address))?;
     put_payload(out, alloc, event.def.fields(), event.payload)?;
-    out.push(b'}')?;
-    Ok(out.push(b'\n')?)
+    out.extend_from_slice(b"}\n")
 }
 
 // Appends when and where an event was written.
@@ -162,19 +162,27 @@ fn put_described(out: &mut Vec<u8>, event: &EventLine<'_>) -> Result<(), AllocEr
         return out.extend_from_slice(event.def.alone());
     }
     out.extend_from_slice(event.def.members())?;
-    put_activities(out, event)?;
-    put_word(out, ",\"stack\":")
+    put_activities(out, event.activity, event.related)
 }
 
-// Appends the activities of an event.
-fn put_activities(out: &mut Vec<u8>, event: &EventLine<'_>) -> Result<(), AllocError>
-    ensures { (origin : Origin) (processor thread : ℕ) (entry : EventEntry) → Tells event.now origin processor thread entry
-        → OnOk result (out.new.items ≡ out.old.items ++ behind_commas (activity_members entry)) }
+// How many bytes two activities fill with what names them and what names the stack behind them.
+const ACTIVITIES_BYTES: usize = 36 + 2 * GUID_BYTES;
+
+// Appends the activities of an event, up to its stack.
+fn put_activities(
+    out: &mut Vec<u8>,
+    activity: &[u8; 16],
+    related: &[u8; 16],
+) -> Result<(), AllocError>
+    ensures { OnOk result (out.new.items ≡ out.old.items ++ activities_text activity.now related.now) }
 {
-    put_word(out, ",\"activity\":")?;
-    put_uuid(out, *event.activity)?;
-    put_word(out, ",\"related\":")?;
-    put_uuid(out, *event.related)
+    let mut text = [0; ACTIVITIES_BYTES];
+    let stack = place_word(&mut text, ACTIVITIES_BYTES, b"\",\"stack\":");
+    let second = place_guid(&mut text, stack, related);
+    let between = place_word(&mut text, second, b"\",\"related\":\"");
+    let first = place_guid(&mut text, between, activity);
+    let start = place_word(&mut text, first, b",\"activity\":\"");
+    out.extend_from_slice(&text[start..])
 }
 
 /// Appends the object of what is wrong with a stream, at this offset of its bytes, in words in which nothing has to be escaped.

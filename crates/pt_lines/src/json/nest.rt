@@ -1,5 +1,6 @@
 //! The objects that are open between two fields.
-ghost use Rattle.std.specs.Prelude.{◌≡◌, ◌<◌, ◌^◌, ℕ, true, List, [], ◌∷◌, ◌++◌, map, replicate, codes, OnOk, Option};
+ghost use Rattle.std.specs.Prelude.{◌≡◌, ◌<◌, ◌^◌, ℕ, true, List, [], ◌∷◌, ◌++◌, map, replicate, codes, OnOk, Option, Some};
+ghost use Rattle.std.specs.Fmt.{decimal};
 ghost use Rattle.nt_fields.specs.Taking.{value_in, StandsIn};
 ghost use Rattle.pt_lines.specs.Texts.{quoted};
 ghost use Rattle.pt_lines.specs.Json.{IsShownBy, commas};
@@ -9,6 +10,7 @@ ghost use Rattle.pt_lines.specs.state.Nest.{Adds, Closes, Leaves, comma, still};
 use crate::json::value::put_value;
 use crate::named::NamedField;
 use crate::text::put_quoted;
+use crate::value::put_digits;
 use ep_defs::FieldDef;
 use nt_fields::Value;
 use std::alloc::{AllocError, Global};
@@ -55,6 +57,21 @@ impl Nest {
                 put_value(out, alloc, value, bytes)
             }
         }
+    }
+
+    /// So it is with a field that holds a number which has no quotes around it.
+    pub fn put_number(
+        &mut self,
+        out: &mut Vec<u8>,
+        field: &NamedField,
+        number: u64,
+    ) -> Result<(), AllocError>
+        ensures { OnOk result (Adds field.now (Some (decimal number)) self.old self.new out.old.items out.new.items) }
+    {
+        self.close_to(out, field.depth())?;
+        self.put_name(out, field)?;
+        self.is_first = false;
+        put_digits(out, number)
     }
 
     /// Appends the ends of all objects.

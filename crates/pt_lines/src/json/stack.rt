@@ -1,6 +1,5 @@
 //! The stack of an event.
-ghost use Rattle.std.specs.Prelude.{◌≡◌, ◌<◌, ◌/◌, ◌%◌, ◌++◌, [], length, IfOk, IfSome, OnOk};
-ghost use Rattle.pt_print.specs.Printed.{hex_digit};
+ghost use Rattle.std.specs.Prelude.{◌≡◌, ◌<◌, ◌++◌, [], length, IfOk, IfSome, OnOk};
 ghost use Rattle.pt_lines.specs.Json.{IsStack, address_text, byte_text, width_of as address_width};
 ghost use Rattle.pt_lines.specs.Appends.{Appends};
 ghost use Rattle.pt_lines.specs.state.Nest.{comma};
@@ -9,7 +8,7 @@ ghost use Rattle.pt_lines.specs.state.Opening.{IsStackOpened};
 use crate::form::Form;
 use crate::json::fields::OPENING;
 use crate::limits::ADDRESS_BYTES;
-use crate::text::digit_text;
+use crate::text::{high_text, low_text};
 use ep_defs::{Bytes, Duplicate};
 use pt_print::put_word;
 use std::alloc::{AllocError, Global};
@@ -206,18 +205,4 @@ fn put_byte(out: &mut Vec<u8>, byte: u8) -> Result<(), AllocError>
     ensures { OnOk result (out.new.items ≡ out.old.items ++ byte_text byte) }
 {
     out.extend_from_slice(&[high_text(byte), low_text(byte)])
-}
-
-// The digit of a byte's high half.
-fn high_text(byte: u8) -> u8
-    ensures { result ≡ hex_digit (byte / 16) }
-{
-    digit_text(u16::from(byte / 16))
-}
-
-// And that of its low half.
-fn low_text(byte: u8) -> u8
-    ensures { result ≡ hex_digit (byte % 16) }
-{
-    digit_text(u16::from(byte % 16))
 }

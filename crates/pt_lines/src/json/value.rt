@@ -39,7 +39,7 @@ pub fn put_value(
         Value::Double(bits) => put_double(out, *bits),
         Value::Decimal(long) => put_quoted_hex(out, alloc, long),
         Value::Date(numbers) => put_quoted_date(out, numbers),
-        Value::Guid(long) => put_uuid(out, *long),
+        Value::Guid(long) => put_uuid(out, long),
         Value::Text(count) => put_text(out, &bytes[..2 * *count]),
     }
 }
@@ -129,9 +129,9 @@ fn put_quoted_date(out: &mut Vec<u8>, numbers: &[u16; 8]) -> Result<(), AllocErr
     Ok(out.push(b'"')?)
 }
 
-/// Appends sixteen bytes as a UUID.
-pub fn put_uuid(out: &mut Vec<u8>, bytes: [u8; 16]) -> Result<(), AllocError>
-    ensures { OnOk result (out.new.items ≡ out.old.items ++ uuid_text bytes) }
+// Appends sixteen bytes as a UUID.
+fn put_uuid(out: &mut Vec<u8>, bytes: &[u8; 16]) -> Result<(), AllocError>
+    ensures { OnOk result (out.new.items ≡ out.old.items ++ uuid_text bytes.now) }
 {
     out.push(b'"')?;
     put_guid(out, bytes)?;

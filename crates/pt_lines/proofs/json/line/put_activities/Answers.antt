@@ -1,19 +1,21 @@
--- The members are the pieces that were put.
-use Rattle.std.proofs.Common.{[], ◌∷◌, ◌∙◌, sym}
-use Rattle.std.specs.Prelude.{codes}
-use Rattle.std.proofs.lemmas.Result.{on_ok_weaker}
-use Rattle.pt_lines.specs.Json.{uuid_text}
-use Rattle.pt_lines.proofs.Steps.{onto, then}
+-- The members are the pieces that were placed.
+use Rattle.std.proofs.Common.{drop, ◌∙◌, arith}
+use Rattle.std.proofs.lemmas.List.{take_all, length-drop}
+use Rattle.pt_print.proofs.Numbers.{appended}
+use Rattle.pt_lines.proofs.Uuids.{activities-are}
 use Rattle.pt_lines.proofs.json.line.put_activities.Goals as goal
 
 pub returns : goal.returns
-returns c = λ origin processor thread entry tells.
-    let event = c.args.event.now in
-    let first = uuid_text event.activity.now in
-    let second = uuid_text event.related.now in
-    on_ok_weaker c.put_uuid-2.result
-    (λ e.
-    rw (sym tells.activity, sym tells.related)
-    (then second (then (codes ",\"related\":") (then first c.in_ok-put_word.ensures.ok c.in_ok-put_uuid.ensures) c.in_ok-put_word-2.ensures.ok) e
-    ∙ onto c.args.out.now.items (codes ",\"activity\":" ∷ first ∷ codes ",\"related\":" ∷ second ∷ [])))
-    c.put_uuid-2.ensures
+returns c =
+    let start = c.place_word-start in
+    let all = rw (
+      c.place_guid-first.ensures.written,
+      c.place_word-between.ensures.written,
+      c.place_guid-second.ensures.written,
+      c.place_word-stack.ensures.written,
+    ) at start.ensures.written in
+    appended c.extend_from_slice.result c.args.out.now.items _ _ _ c.extend_from_slice.ensures.items
+    (take_all _ (drop start.result start.new.text)
+    (omega (arith, length-drop start.result start.new.text, start.ensures.len, c.place_guid-first.ensures.len, c.place_word-between.ensures.len, c.place_guid-second.ensures.len, c.place_word-stack.ensures.len))
+    ∙ all
+    ∙ activities-are c.args.activity.now c.args.related.now)

@@ -5,10 +5,10 @@ use Rattle.std.proofs.lemmas.Result.{on_ok_weaker}
 use Rattle.ep_defs.specs.declared.event.EventDef.{EventDef}
 use Rattle.ep_defs.proofs.Sameness.{text-means}
 use Rattle.pt_lines.specs.Json.{activity_members, behind_commas, definition_members}
-use Rattle.pt_lines.specs.state.Pieces.{alone_text, described_text}
+use Rattle.pt_lines.specs.state.Pieces.{activities_text, alone_text, described_text}
 use Rattle.pt_print.proofs.Numbers.{appended}
 use Rattle.pt_lines.proofs.Steps.{then}
-use Rattle.pt_lines.proofs.Uuids.{alone-is}
+use Rattle.pt_lines.proofs.Uuids.{alone-is, members-are}
 use Rattle.pt_lines.proofs.json.line.put_described.Goals as goal
 
 pub returns-then-is_none-2 : goal.returns-then-is_none-2
@@ -22,14 +22,17 @@ returns-then-is_none-2 c = λ origin processor thread entry tells.
 
 pub returns : goal.returns
 returns c = λ origin processor thread entry tells.
+    let event = c.args.event.now in
     let old = c.args.out.now.items in
     let defs = behind_commas (definition_members entry.def) in
     let acts = behind_commas (activity_members entry) in
     let key = codes ",\"stack\":" in
     let defined = c.in_ok-extend_from_slice.ensures.items ∙ ap (λ (xs : List ℕ). old ++ xs) (c.members.ensures ∙ ap (λ (def : EventDef). behind_commas (definition_members def)) tells.def) in
-    on_ok_weaker c.put_word.result
+    let named : activities_text event.activity.now event.related.now ≡ acts ++ key = rw (tells.activity, tells.related) (members-are entry) in
+    on_ok_weaker c.put_activities.result
     (λ e.
-    then key (then acts defined (c.in_ok-put_activities.ensures origin processor thread entry tells)) e
-    ∙ ap (λ (xs : List ℕ). xs ++ key) (append_assoc old defs acts)
-    ∙ append_assoc old (defs ++ acts) key)
-    c.put_word.ensures.ok
+    then (activities_text event.activity.now event.related.now) defined e
+    ∙ append_assoc old defs (activities_text event.activity.now event.related.now)
+    ∙ ap (λ (xs : List ℕ). old ++ (defs ++ xs)) named
+    ∙ ap (λ (xs : List ℕ). old ++ xs) (sym (append_assoc defs acts key)))
+    c.put_activities.ensures
