@@ -6,7 +6,8 @@
 # middle ends with status 3, and is JSON all the same. Where something is otherwise it says so and ends with 1. In the end it
 # prints how many instructions each form takes an event, counted by callgrind (valgrind, a Debian package) where it is there,
 # beside what is aimed at, and beside those of a C program by hand that writes the same lines and objects (c/events.c), whose
-# bytes are compared. It needs python3 and cc; PROGRAM names another program than ./tracepipe.
+# bytes are compared. Where a second word is given, as `parts`, it also prints which functions take them, those of five or more
+# an event. It needs python3 and cc; PROGRAM names another program than ./tracepipe.
 here=$(cd "$(dirname "$0")/.." && pwd) || exit 1
 program=${PROGRAM:-$here/tracepipe}
 writes=${1:-100000}
@@ -88,14 +89,29 @@ instructions() {
     echo "$(($(sed -n 's/.*Collected : //p' "$work/said") / events))"
 }
 
+# The functions that take them, where they are asked for. A function that was inlined counts for the one that it stands in.
+asked=${2:-}
+parts() {
+    [ -n "$asked" ] || return 0
+    callgrind_annotate --show-percs=no "$work/callgrind" | awk -v events="$events" '
+        /^ *[0-9,]+ +[^ ]*:/ {
+            count = $1; gsub(",", "", count); count /= events
+            if (count < 5) exit
+            $1 = ""; sub(/ \[.*/, ""); sub(/^ *[^ ]*\/[^:]*:|^ *\?\?\?:/, "")
+            printf "    %.0f %s\n", count, $0
+        }'
+}
+
 while read -r aim words; do
     # shellcheck disable=SC2086
     count=$(instructions "$program" $words)
     echo "$words: $count instructions an event, $(($(wc -c <"$work/lines") / events)) bytes; the aim is $aim"
+    parts
     [ "$words" = page ] && continue
     mv "$work/lines" "$work/ours"
     # shellcheck disable=SC2086
     echo "  by hand: $(instructions "$work/by_hand" $words)"
+    parts
     cmp "$work/ours" "$work/lines" || exit 1
 done <<'AIMS'
 600 events
