@@ -47,12 +47,19 @@ impl Lasts {
     }
 
     // Puts the last number of a thread, and answers the one that was told before, or 0.
+    #[inline(always)]
     fn put(&mut self, thread: u64, number: u32) -> Result<u32, AllocError>
         ensures last { (past : List (ℕ × Sighting)) → HasSeen past self.old
             → IfOk result (λ last. last ≡ last_of thread past) }
         ensures put { OnOk result ((other : ℕ) → value_at self.new.numbers other
             ≡ (if thread == other then Some number else value_at self.old.numbers other)) }
     {
+        // Nearly all threads have ids that lie close together.
+        if self.numbers.is_in_row(thread) {
+            let last = *self.numbers.in_row(thread);
+            self.numbers.set_in_row(thread, number);
+            return Ok(last);
+        }
         match self.numbers.replace(thread, number)? {
             Some(last) => Ok(last),
             None => Ok(0),

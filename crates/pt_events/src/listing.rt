@@ -2,19 +2,17 @@
 ghost use Rattle.std.specs.Prelude.{◌≡◌, ℕ, [], ◌∷◌, ◌++◌, List, Err, IfErr, OnOk};
 ghost use Rattle.ep_defs.specs.declared.item.ItemKind.{ItemKind};
 ghost use Rattle.ep_defs.specs.declared.item.ItemKind.TheVariants as item;
-ghost use Rattle.ep_defs.specs.Entry.{EventEntry};
 ghost use Rattle.ep_defs.specs.Gaps.{Sighting, Seen};
 ghost use Rattle.nt_blocks.specs.Ordered.{no_names, told_after};
 ghost use Rattle.nt_blocks.specs.Placed.{event_of};
 ghost use Rattle.nt_check.specs.declared.checker.CheckKind.{CheckKind};
 ghost use Rattle.nt_check.specs.declared.checker.CheckFault.TheVariants.{Bad, OutOfMemory};
 ghost use Rattle.nt_check.specs.Faults.{disorder_of};
-ghost use Rattle.pt_lines.specs.declared.origin.Origin.{Origin};
 ghost use Rattle.pt_events.specs.Lines.{lost_lines, known_by};
 ghost use Rattle.pt_lines.specs.Forms.{AreLines};
-ghost use Rattle.pt_lines.specs.Appends.{Appends, Tells};
+ghost use Rattle.pt_lines.specs.Appends.{Appends};
 ghost use Rattle.pt_events.specs.state.Known.{HasSeen};
-ghost use Rattle.pt_events.specs.state.Listed.{HasListed, ListsOne, event_lines};
+ghost use Rattle.pt_events.specs.state.Listed.{HasListed, ListsEvent, ListsOne};
 
 use crate::lasts::Lasts;
 use crate::names::KnownNames;
@@ -169,9 +167,8 @@ fn put_all(
     lasts: &mut Lasts,
     event: &EventLine<'_>,
 ) -> Result<(), AllocError>
-    ensures lines { (past : List (ℕ × Sighting)) (origin : Origin) (processor thread : ℕ) (entry : EventEntry) → HasSeen past lasts.old
-        → Tells event.now origin processor thread entry
-        → OnOk result (Appends (AreLines form (event_lines past origin processor thread entry)) out.old.items out.new.items) }
+    ensures lines { (past : List (ℕ × Sighting)) → HasSeen past lasts.old
+        → ListsEvent form past event.now result out.old.items out.new.items }
     ensures seen { (past : List (ℕ × Sighting)) → HasSeen past lasts.old
         → OnOk result (HasSeen (past ++ (event.now.thread, Seen event.now.number) ∷ []) lasts.new) }
 {

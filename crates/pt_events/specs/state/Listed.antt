@@ -1,5 +1,5 @@
 -- What a listing stands for.
-use Rattle.std.specs.Prelude.{◌≡◌, ℕ, List, [], ◌∷◌, ◌++◌, IsOk}
+use Rattle.std.specs.Prelude.{◌≡◌, ℕ, List, [], ◌∷◌, ◌++◌, IsOk, OnOk, Result}
 use Rattle.std.specs.List.{flat_map}
 use Rattle.ep_defs.specs.declared.item.ItemKind.{ItemKind}
 use Rattle.nt_blocks.specs.Ordered.{no_names, told_after}
@@ -7,12 +7,13 @@ use Rattle.nt_check.specs.state.Took.{names_at}
 use Rattle.pt_events.specs.declared.listing.Listing.{Listing}
 use Rattle.ep_defs.specs.Entry.{EventEntry}
 use Rattle.ep_defs.specs.Gaps.{Sighting, Seen}
+use Rattle.pt_lines.specs.declared.line.EventLine.{EventLine}
 use Rattle.pt_lines.specs.declared.origin.Origin.{Origin}
 use Rattle.pt_lines.specs.Line.{Line, Event, lost_if}
 use Rattle.pt_events.specs.Lines.{sighted, last_of, left_out, origin_after, unsaid, item_lines}
 use Rattle.pt_lines.specs.declared.form.Form.{Form}
 use Rattle.pt_lines.specs.Forms.{AreLines}
-use Rattle.pt_lines.specs.Appends.{Appends}
+use Rattle.pt_lines.specs.Appends.{Appends, Tells}
 use Rattle.pt_events.specs.state.Known.{Knows, HasSeen}
 
 -- What a stream has said of the program after items.
@@ -35,3 +36,10 @@ ListsOne form kinds kind old new = Appends (AreLines form (item_lines (names_at 
 abbrev pub event_lines : List (ℕ × Sighting) → Origin → ℕ → ℕ → EventEntry → List Line
 event_lines past origin processor thread event =
     lost_if origin event.stamp event.thread (left_out (last_of event.thread past) (Seen event.number)) ++ Event origin processor thread event ∷ []
+
+-- Those lines were put, in this form, of each event that this says, unless the answer is an error.
+abbrev pub ListsEvent : {A E : Type 0} → Form → List (ℕ × Sighting) → EventLine → Result A E → List ℕ → List ℕ → Type 0
+ListsEvent form past line answer old new =
+    (origin : Origin) (processor thread : ℕ) (entry : EventEntry)
+    → Tells line origin processor thread entry
+    → OnOk answer (Appends (AreLines form (event_lines past origin processor thread entry)) old new)

@@ -10,7 +10,7 @@ use Rattle.pt_events.proofs.Items.{lines-put}
 use Rattle.pt_events.proofs.listing.put_all.Goals as goal
 
 pub returns-clause-lines : goal.returns-clause-lines
-returns-clause-lines c = λ past origin processor thread entry seen tells.
+returns-clause-lines c = λ past seen origin processor thread entry tells.
     let form = c.args.form in
     let line = c.args.event.now in
     let old = c.args.out.now.items in

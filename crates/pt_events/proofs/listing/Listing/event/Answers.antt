@@ -42,7 +42,7 @@ returns-clause-lines c = λ kinds had.
     let found : IsFound names e.metadata e.stack def bytes = rw (c.in_ok-def.def-is, c.in_ok-def.stack-is) (c.in_ok-def.ensures names had.names) in
     let entry : EventEntry = record { thread = e.capture; number = e.number; stamp = e.stamp; def = def; activity = e.activity; related = e.related; stack = bytes; payload = payload } in
     event-lines c.args.form names past (origin_at unsaid kinds) e.metadata e.number e.capture e.processor e.thread e.stack e.stamp e.activity e.related payload def bytes c.args.out.now.items c.put_all.new.out.items found
-    (c.in_ok-put_all.ensures.lines past (origin_at unsaid kinds) e.processor e.thread entry had.lasts
+    (c.in_ok-put_all.ensures.lines past had.lasts (origin_at unsaid kinds) e.processor e.thread entry
     (record {
       origin = had.origin;
       processor = refl;
