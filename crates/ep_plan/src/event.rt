@@ -14,6 +14,7 @@ use ep_rundown::rundown_def;
 use std::alloc::Global;
 
 /// The number and the definition that the words after `event` spell.
+#[inline(never)]
 pub(crate) fn read_event(
     alloc: Global,
     words: &mut Cursor,

@@ -129,6 +129,7 @@ fn read_write(alloc: Global, words: &mut Cursor) -> Result<Write, LineFault>
 }
 
 // The words after `accept`: a session with stacks and without a rundown.
+#[inline(never)]
 fn read_accept(alloc: Global, words: &mut Cursor) -> Result<Step, LineFault>
     ensures read { IfOk result (λ step. Spells (codes "accept" ∷ left words.old) step) }
     ensures good { OnOk result (bad_form words.old accept_form ≡ None) }
@@ -149,6 +150,7 @@ fn read_accept(alloc: Global, words: &mut Cursor) -> Result<Step, LineFault>
 }
 
 // The words after `accept3`, which say whether the session has stacks; it has no rundown.
+#[inline(never)]
 fn read_accept3(alloc: Global, words: &mut Cursor) -> Result<Step, LineFault>
     ensures read { IfOk result (λ step. Spells (codes "accept3" ∷ left words.old) step) }
     ensures good { OnOk result (bad_form words.old accept3_form ≡ None) }
@@ -170,6 +172,7 @@ fn read_accept3(alloc: Global, words: &mut Cursor) -> Result<Step, LineFault>
 }
 
 // The words after `accept4`, which say whether the session has stacks and whether it has a rundown.
+#[inline(never)]
 fn read_accept4(alloc: Global, words: &mut Cursor) -> Result<Step, LineFault>
     ensures read { IfOk result (λ step. Spells (codes "accept4" ∷ left words.old) step) }
     ensures good { OnOk result (bad_form words.old accept4_form ≡ None) }

@@ -110,6 +110,7 @@ impl Schedule {
     }
 
     // Takes the line of a definition.
+    #[inline(never)]
     fn take_event(&mut self, def: EventDef) -> Result<(), Fault>
         requires few { lines_in self.old < 2 ^ 63 }
         ensures taken { (lines : List Line) (text : List ℕ) (index : ℕ) → HasTaken lines self.old

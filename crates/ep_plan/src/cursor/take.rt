@@ -131,6 +131,15 @@ impl<'a> Cursor<'a> {
             self.pass(count);
             return Ok(number as u32);
         }
+        self.whole_number()
+    }
+
+    // The same, its word taken as a whole. It stays out of line, as the others do that few words need.
+    #[inline(never)]
+    fn whole_number(&mut self) -> Result<u32, LineFault>
+        ensures took { IfOk result (TakesPart Number number_of self.old self.new) }
+        ensures bad { IfBad result (IsBad Number self.old) }
+    {
         let number = self.part(LineKind::Number, |word| Ok(words::number(word, MOST)))?;
         Ok(number as u32)
     }
@@ -189,6 +198,14 @@ impl<'a> Cursor<'a> {
             self.pass(count);
             return Ok(stamp);
         }
+        self.whole_stamp()
+    }
+
+    #[inline(never)]
+    fn whole_stamp(&mut self) -> Result<u64, LineFault>
+        ensures took { IfOk result (TakesPart Stamp stamp_of self.old self.new) }
+        ensures bad { IfBad result (IsBad Stamp self.old) }
+    {
         self.part(LineKind::Number, |word| Ok(words::number(word, u64::MAX)))
     }
 
@@ -250,6 +267,14 @@ impl<'a> Cursor<'a> {
             self.pass(count);
             return Ok(Items::new(frames));
         }
+        self.whole_frames(alloc)
+    }
+
+    #[inline(never)]
+    fn whole_frames(&mut self, alloc: Global) -> Result<Frames, LineFault>
+        ensures took { IfOk result (TakesPart FramesPart frames_in self.old self.new) }
+        ensures bad { IfBad result (IsBad FramesPart self.old) }
+    {
         self.part(LineKind::Hex, |word| words::frames(alloc, word))
     }
 
@@ -274,6 +299,14 @@ impl<'a> Cursor<'a> {
             self.rest = None;
             return Ok(bytes);
         }
+        self.whole_payload(alloc)
+    }
+
+    #[inline(never)]
+    fn whole_payload(&mut self, alloc: Global) -> Result<Bytes, LineFault>
+        ensures took { IfOk result (TakesPart Payload payload_in self.old self.new) }
+        ensures bad { IfBad result (IsBad Payload self.old) }
+    {
         self.part(LineKind::Hex, |word| words::payload(alloc, word))
     }
 

@@ -1,9 +1,8 @@
-use Rattle.std.proofs.Common.{ℕ, List, Option, rules, refl, ap, subst}
+use Rattle.std.proofs.Common.{ℕ, List, Option, refl, ap, subst}
 use Rattle.std.specs.Prelude.{IfSome}
 use Rattle.ep_plan.specs.declared.line.LineKind.TheVariants as kind
 use Rattle.ep_plan.specs.Cursor.{SpellsAll}
 use Rattle.ep_plan.specs.Lines.{Payload, unless}
-use Rattle.ep_plan.specs.Words.{payload_in}
 use Rattle.ep_plan.proofs.Ahead.{digits_parts, digits_payload, not_empty}
 use Rattle.ep_plan.proofs.CursorWords.{took-part, took-word}
 use Rattle.ep_plan.proofs.cursor.Cursor.payload.Goals as goal
@@ -16,6 +15,3 @@ returns-in-Some-clause-took c =
     let payload = digits_payload text c.in-Some.bytes found.some found.spelled in
     let word = took-word c.args.self.now _ found.text text refl refl found.rest (digits_parts text c.in-Some.bytes found.spelled) tt (not_empty text found.some) in
     (text, took-part Payload _ _ _ word (ap (λ o. unless o kind.Hex) payload), payload)
-
-pub returns-clause-bad : goal.returns-clause-bad
-returns-clause-bad c = c.part.ensures.bad Payload payload_in (record { fault = λ word. refl; value = λ word result gives. search rules })
