@@ -202,11 +202,20 @@ few-chunks (chunk ∷ chain) filled =
     omega (arith, length-append chunk (records_of chain))
 
 -- Where no chunk is needed and where one is.
-pub not-needed : (needs : Bool) → true ≡ not needs → needs ≡ false
+not-needed : (needs : Bool) → true ≡ not needs → needs ≡ false
 not-needed needs = elim needs as (λ v. true ≡ not v → v ≡ false) [ true ↦ λ e. absurd (true≢false e) | false ↦ λ e. refl ]
 
 pub needed : (needs : Bool) → false ≡ not needs → needs ≡ true
 needed needs = elim needs as (λ v. false ≡ not v → v ≡ true) [ true ↦ λ e. refl | false ↦ λ e. absurd (false≢true e) ]
+
+-- A record that was kept in the last chunk, since no other is needed.
+pub record KeptLast (old new : List (List Record)) (r : Record) : Type 0 where
+  pub fits : needs_chunk (pending_of old) (size_of r) ≡ false
+  pub is : new ≡ with_last old r
+
+pub kept-last : (old new : List (List Record)) (r : Record) (kept : Bool) → kept ≡ true → kept ≡ not (needs_chunk (pending_of old) (size_of r)) → new ≡ (if kept then with_last old r else old) → KeptLast old new r
+kept-last old new r kept stays room after =
+    record { fits = not-needed (needs_chunk (pending_of old) (size_of r)) (sym stays ∙ room); is = after ∙ ap (λ (v : Bool). if v then with_last old r else old) stays }
 
 -- A chain that is not empty has a chunk.
 pub some-length : (chain : List (List Record)) → (chain ≡ [] → true ≡ false) → 0 < length chain
