@@ -1,9 +1,10 @@
 -- The threads that a row serves, and the row where one leaves it and the next enters.
-use Rattle.std.proofs.Common.{◌≡◌, ℕ, zero, suc, ◌+◌, ◌*◌, ◌<◌, true, false, List, [], ◌∷◌, length, take, Option, None, Some, refl, ap, sym, ◌∙◌, subst, arith}
-use Rattle.std.specs.Prelude.{option_map, slice_index_or, is_some, IsNone}
+use Rattle.std.proofs.Common.{◌≡◌, ℕ, ◌+◌, ◌*◌, ◌<◌, true, false, inl, inr, List, length, take, Option, None, Some, refl, ap, sym, ◌∙◌, subst, arith}
+use Rattle.std.specs.Prelude.{option_map, slice_index_or, is_some, IsNone, nat_lt}
 use Rattle.std.specs.List.{All}
 use Rattle.std.proofs.Math.Nat.{add-mul, eq_of_mul-eq-mul_right, le-mul_of_pos_right}
-use Rattle.std.proofs.lemmas.Bool.{true≢false}
+use Rattle.std.proofs.lemmas.Bool.{cases_Bool, ltb-false, ltb-true, true≢false}
+use Rattle.std.proofs.lemmas.List.{get_or_past}
 use Rattle.std.proofs.lemmas.Option.{none-some}
 use Rattle.ep_defs.specs.declared.event.EventDef.{EventDef}
 use Rattle.ep_defs.specs.declared.session.Write.{Write}
@@ -76,12 +77,6 @@ none-of : (x : Option Opening) → is_some x ≡ false → x ≡ None
 none-of None none = refl
 none-of (Some x) none = absurd (true≢false none)
 
--- Nothing is open in any slot where nothing is in all of them.
-none-open : (slots : List (Option Opening)) (s : ℕ) → All IsNone slots → slice_index_or slots s None ≡ None
-none-open [] s all = refl
-none-open (first ∷ slots) zero all = none-of first (all 0 None (omega arith))
-none-open (first ∷ slots) (suc s) all = none-open slots s (λ k d small. all (suc k) d (omega (arith, small)))
-
 none-told : (told : Option Told) → option_map (λ t. t.opening) told ≡ None → told ≡ None
 none-told None none = refl
 none-told (Some told) none = absurd (none-some told.opening (sym none))
@@ -103,7 +98,7 @@ row-entered rows events writes life old new buffers writer now rests keeps is fr
       told =
           λ s half at.
           let was = rests.told s half at in
-          let none = none-told (told_in half.value) (sym was.slot_is ∙ none-open old.slots s free) in
+          let none = none-told (told_in half.value) (sym was.slot_is ∙ nothing_on s) in
           record {
             slot_is = was.slot_is;
             thread = λ t told. absurd (none-some t (sym none ∙ told));
@@ -112,3 +107,11 @@ row-entered rows events writes life old new buffers writer now rests keeps is fr
       stands = tells;
       thread_is = ap (λ (t : ℕ). t + rows) rests.thread_is ∙ next-life rows writer.place life ∙ ap (λ (p : ℕ). thread_of rows p (life + 1)) (sym place);
     })
+  where
+    nothing_on : (s : ℕ) → slice_index_or old.slots s None ≡ None
+    nothing_on s =
+        none-of (slice_index_or old.slots s None)
+        (elim (cases_Bool (nat_lt s (length old.slots))) [
+          | inl within ↦ free s None (ltb-true s (length old.slots) within)
+          | inr past ↦ ap is_some (get_or_past old.slots s None (ltb-false s (length old.slots) past))
+        ])
