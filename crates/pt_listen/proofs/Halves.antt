@@ -1,9 +1,10 @@
 -- A session's rows after a call.
-use Rattle.std.proofs.Common.{◌≡◌, ◌≢◌, ◌∙◌, ℕ, zero, suc, ◌+◌, ◌-◌, ◌<◌, true, false, inl, inr, List, [], ◌∷◌, ◌++◌, Option, None, Some, length, refl, sym, ap, arith}
+use Rattle.std.proofs.Common.{◌≡◌, ◌≢◌, ◌∙◌, ℕ, zero, suc, ◌+◌, ◌-◌, ◌<◌, true, false, List, [], ◌∷◌, ◌++◌, Option, None, Some, length, refl, sym, ap, arith}
 use Rattle.std.specs.Prelude.{Bool, slice_index_or, slice_set, ◌==◌, if◌then◌else◌}
 use Rattle.std.specs.List.{sum_by}
-use Rattle.std.proofs.lemmas.Bool.{cases_eq, eq-eqb, eqb-true, eqb-false, ne_eqb}
+use Rattle.std.proofs.lemmas.Bool.{eq-eqb, eqb-true, eqb-false, ne_eqb}
 use Rattle.std.proofs.lemmas.List.{get_or_past}
+use Rattle.std.proofs.Math.Dec.{eqb-suc-suc}
 use Rattle.std.proofs.lemmas.Option.{none-some}
 use Rattle.ep_defs.specs.declared.session.Config.{Config}
 use Rattle.ep_guarded.specs.Tied.{hand_in}
@@ -121,27 +122,19 @@ its-left count slot row chunks config old mid new hands hand its was expected co
 
 -- ---- the opening
 
--- Numbers that are one more each are the same where the numbers are.
-both-more : (a b : ℕ) → (suc a == suc b) ≡ (a == b)
-both-more a b =
-    elim (cases_eq a b) [
-      | inl same ↦ eq-eqb (suc a) (suc b) (ap suc same) ∙ sym (eq-eqb a b same)
-      | inr other ↦ ne_eqb (suc a) (suc b) (λ same. other (omega (arith, same))) ∙ sym (ne_eqb a b other)
-    ]
-
 index-push : (hands : List (Option HandState)) (hand : HandState) (place : ℕ) → slice_index_or (hands ++ Some hand ∷ []) place None ≡ (if place == length hands then Some hand else slice_index_or hands place None)
 index-push [] hand zero = sym (ap (λ (v : Bool). if v then Some hand else None) (eq-eqb 0 0 refl))
 index-push [] hand (suc place) = sym (ap (λ (v : Bool). if v then Some hand else None) (ne_eqb (suc place) 0 (λ same. omega (arith, same))))
 index-push (h ∷ hands) hand zero = sym (ap (λ (v : Bool). if v then Some hand else h) (ne_eqb 0 (suc (length hands)) (λ same. omega (arith, same))))
 index-push (h ∷ hands) hand (suc place) =
-    index-push hands hand place ∙ ap (λ (v : Bool). if v then Some hand else slice_index_or hands place None) (sym (both-more place (length hands)))
+    index-push hands hand place ∙ ap (λ (v : Bool). if v then Some hand else slice_index_or hands place None) (sym (eqb-suc-suc place (length hands)))
 
 -- A hand behind others is that of the next row.
 pub hand_at-push : (hands : List (Option HandState)) (hand : HandState) (r : ℕ) → hand_at (hands ++ Some hand ∷ []) r ≡ (if r == length hands + 1 then Some hand else hand_at hands r)
 hand_at-push hands hand zero = ap (λ (v : Bool). if v then Some hand else None) (sym (ne_eqb 0 (length hands + 1) (λ same. omega (arith, same))))
 hand_at-push hands hand (suc place) =
     index-push hands hand place
-    ∙ ap (λ (v : Bool). if v then Some hand else slice_index_or hands place None) (sym (both-more place (length hands)))
+    ∙ ap (λ (v : Bool). if v then Some hand else slice_index_or hands place None) (sym (eqb-suc-suc place (length hands)))
     ∙ ap (λ (n : ℕ). if suc place == n then Some hand else slice_index_or hands place None) (up hands)
   where
     up : (hs : List (Option HandState)) → suc (length hs) ≡ length hs + 1
