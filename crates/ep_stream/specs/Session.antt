@@ -20,7 +20,8 @@ use Rattle.ep_stream.specs.declared.opened.Named.{Named}
 use Rattle.ep_stream.specs.declared.session.Seat.{Seat}
 use Rattle.ep_stream.specs.declared.session.Session.{Session}
 use Rattle.ep_stream.specs.Rows.{first_hand, hand_after, IsBatch, IsMarked}
-use Rattle.ep_stream.specs.Telling.{IsTelling, Tells, Ends}
+use Rattle.ep_stream.specs.Steps.{ToldRows, TellsStep, Steals, Closes}
+use Rattle.ep_stream.specs.Telling.{IsTelling, TellsNext, Ends, entries_of}
 use Rattle.ep_stream.specs.Named.{first_named, insert_by, with_number, with_marks, numbers_of}
 use Rattle.ep_stream.specs.Opened as opened
 use Rattle.ep_stream.specs.Fates.{fate_after}
@@ -75,6 +76,19 @@ rest_of session =
 abbrev pub new_rest : Seat → Config → Rest
 new_rest seat config = record { seat = seat; config = config; named = []; marks = []; in_hand = 0 }
 
+-- What a session is once it was opened on a thread.
+abbrev pub with_opened : ℕ → Rest → Rest
+with_opened thread rest = record rest { named = insert_by (λ n. n.thread) (first_named thread) rest.named }
+
+-- What it is once all was taken that it had pending on a thread, up to this number and in so many chunks.
+abbrev pub with_stolen : ℕ → ℕ → ℕ → Rest → Rest
+with_stolen thread last chunks rest = record rest { named = with_number thread last true rest.named; in_hand = chunks }
+
+-- The same once it was closed on the thread too, with these marks.
+abbrev pub with_closed : ℕ → ℕ → ℕ → Marks → Rest → Rest
+with_closed thread last chunks marks rest =
+    record rest { named = with_number thread last false rest.named; marks = with_marks marks rest.marks; in_hand = chunks }
+
 -- The thread is one on which the session is open or was.
 abbrev pub WasOpened : {S : Type 0} → Session S → ℕ → Type 0
 WasOpened session thread =
@@ -114,7 +128,7 @@ pub record Attached {S : Type 0} (Tested : HandState → Type 0) (row : ℕ) (ol
   pub fresh : hand ≡ first_hand (rest_of old).seat.id hand.thread hand.from
   pub tested : Tested hand
   pub hands : SetsHand row (Some hand) old new
-  pub rest : rest_of new ≡ record (rest_of old) { named = insert_by (λ n. n.thread) (first_named hand.thread) (rest_of old).named }
+  pub rest : rest_of new ≡ with_opened hand.thread (rest_of old)
 
 -- The records of a batch that was taken with a hand, each of which passed the test.
 pub record Batched (Tested : ℕ → ℕ → ℕ → Write → Type 0) (events : List EventDef) (hand : HandState) (records : List Record) (last : ℕ) : Type 0 where
@@ -132,7 +146,7 @@ pub record Stolen {S : Type 0} (Tested : ℕ → ℕ → ℕ → Write → Type 
   pub told : Told records last chunks
   pub writes : Writes records
   pub hands : SetsHand row (Some (hand_after hand (length records) last chunks)) old new
-  pub rest : rest_of new ≡ record (rest_of old) { named = with_number hand.thread last true (rest_of old).named; in_hand = chunks }
+  pub rest : rest_of new ≡ with_stolen hand.thread last chunks (rest_of old)
   pub counted : IfOk result (λ count. count ≡ length records)
 
 -- The session was closed on a row: the same, and its marks are kept.
@@ -149,16 +163,36 @@ pub record Detached {S : Type 0} (Tested : ℕ → ℕ → ℕ → Write → Typ
   pub told : Told records last chunks marks
   pub writes : Writes records
   pub hands : SetsHand row None old new
-  pub rest : rest_of new ≡ record (rest_of old) { named = with_number hand.thread last false (rest_of old).named; marks = with_marks marks (rest_of old).marks; in_hand = chunks }
+  pub rest : rest_of new ≡ with_closed hand.thread last chunks marks (rest_of old)
 
 -- ---- what the sink took
 
 -- The call was to tell these entries, after those that were told before.
 abbrev pub Writes : {S A : Type 0} → (S → Bool) → (S → List ℕ) → List EventDef → List Entry → Session S → Session S → Result A Fault → Type 0
 Writes tells taken events entries old new result =
-    (before : List ℕ) (info : TraceInfo) (told : List Entry)
-    → IsTelling tells taken before (definition_at events) info told (writer_of old)
-    → Tells tells taken before (definition_at events) info told entries result (writer_of new)
+    TellsNext tells taken (definition_at events) entries (writer_of old) (writer_of new) result
+
+-- ---- over the rows of a set
+
+-- All that a row of a set had pending was taken: each record passed the set's test, the set's rows tell the Steal, and the
+-- stream tells the records.
+abbrev pub StolenFrom : {S : Type 0} → (S → Bool) → (S → List ℕ) → (Config → ℕ → ℕ → ℕ → Write → Type 0) → Option ToldRows → Option ToldRows → List EventDef → ℕ → Session S → Session S → Result ℕ Fault → Type 0
+StolenFrom tells taken tests rows_old rows_new events row old new result =
+    Stolen
+    (tests (rest_of old).config)
+    (λ records last chunks. TellsStep (Steals row (rest_of old).seat.slot records last chunks) rows_old rows_new)
+    (λ records. Writes tells taken events (entries_of events (rest_of old).config.stackwalk records) old new result)
+    events row old new result
+
+-- The session was closed on a row of a set: the same of the Close, and its marks passed the set's test on marks.
+abbrev pub DetachedFrom : {S A : Type 0} → (S → Bool) → (S → List ℕ) → (Config → ℕ → ℕ → ℕ → Write → Type 0) → (Config → Marks → Type 0) → Option ToldRows → Option ToldRows → List EventDef → ℕ → Session S → Session S → Result A Fault → Type 0
+DetachedFrom tells taken tests tests_marks rows_old rows_new events row old new result =
+    Detached
+    (tests (rest_of old).config)
+    (tests_marks (rest_of old).config)
+    (λ records last chunks marks. TellsStep (Closes row (rest_of old).seat.slot records last chunks marks) rows_old rows_new)
+    (λ records. Writes tells taken events (entries_of events (rest_of old).config.stackwalk records) old new result)
+    events row old new
 
 -- ---- the end
 

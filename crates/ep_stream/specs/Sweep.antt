@@ -2,6 +2,7 @@
 use Rattle.std.specs.Prelude.{◌≡◌, ◌≢◌, ℕ, zero, suc, ◌==◌, ◌≤◌, ◌⊎◌, ◌++◌, if◌then◌else◌, Bool, true, List, [], ◌∷◌, map, length, Option, Some, Result, Err, IfOk, OnOk, OnErr, is_some}
 use Rattle.std.specs.List.{All, fold, flat_map, sum_by}
 use Rattle.ep_defs.specs.declared.event.EventDef.{EventDef}
+use Rattle.ep_defs.specs.declared.session.Config.{Config}
 use Rattle.ep_defs.specs.declared.session.Write.{Write}
 use Rattle.ep_defs.specs.Entry.{Entry, Point}
 use Rattle.ep_chunk.specs.Record.{Record}
@@ -17,7 +18,7 @@ use Rattle.ep_stream.specs.Rows.{hand_after}
 use Rattle.ep_stream.specs.Steps.{ToldRows, TellsStep, Steals, GivesBack}
 use Rattle.ep_stream.specs.Telling.{entries_of}
 use Rattle.ep_stream.specs.Named.{with_number, still_open, numbers_of}
-use Rattle.ep_stream.specs.Session.{hand_on, rest_of, Batched}
+use Rattle.ep_stream.specs.Session.{hand_on, rest_of, Batched, Writes}
 
 -- What was taken of one row.
 pub record Taking : Type 0 where
@@ -126,6 +127,25 @@ pub record SweptRow {S : Type 0} (Tested : ℕ → ℕ → ℕ → Write → Typ
   pub taken : Taken Tested Told events takings old new
   pub writes : Writes takings
   pub counted : IfOk result (λ count. count ≡ records_in takings)
+
+-- The rows of a set were swept: each record passed the set's test, the set's rows tell what was taken, and the stream tells
+-- the records and then the point.
+abbrev pub SweptFrom : {S : Type 0} → (S → Bool) → (S → List ℕ) → (Config → ℕ → ℕ → ℕ → Write → Type 0) → Option ToldRows → Option ToldRows → List EventDef → ℕ → ℕ → Session S → Session S → Result ℕ Fault → Type 0
+SweptFrom tells taken tests rows_old rows_new events stamp count old new result =
+    Swept
+    (tests (rest_of old).config)
+    (λ takings. TellsTakings (rest_of old).seat.slot takings rows_old rows_new)
+    (λ takings. Writes tells taken events (sweep_entries events (rest_of old).config.stackwalk stamp (rest_of old).named takings) old new result)
+    events count old new result
+
+-- The same of one row of a set, without a point.
+abbrev pub SweptRowFrom : {S : Type 0} → (S → Bool) → (S → List ℕ) → (Config → ℕ → ℕ → ℕ → Write → Type 0) → Option ToldRows → Option ToldRows → List EventDef → ℕ → Session S → Session S → Result ℕ Fault → Type 0
+SweptRowFrom tells taken tests rows_old rows_new events row old new result =
+    SweptRow
+    (tests (rest_of old).config)
+    (λ takings. TellsTakings (rest_of old).seat.slot takings rows_old rows_new)
+    (λ takings. Writes tells taken events (entries_in events (rest_of old).config.stackwalk takings) old new result)
+    events row old new result
 
 -- A fault comes from the writer, and one of the sink only where the sink's count of faults rose or the writer had failed
 -- with it. With any other answer that count is as before. Where there is none the writer has failed if it had failed before.

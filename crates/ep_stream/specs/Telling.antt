@@ -55,6 +55,20 @@ pub record Tells {S A : Type 0} (tells : S → Bool) (taken : S → List ℕ) (b
   pub telling : IsTelling tells taken before defs info (told ++ done) writer
   pub all : OnOk result (done ≡ entries)
 
+-- Whatever entries the writer had told by these definitions, the call was to tell these behind them.
+abbrev pub TellsNext : {S A : Type 0} → (S → Bool) → (S → List ℕ) → (ℕ → Option EventDef) → List Entry → TraceWriter S → TraceWriter S → Result A Fault → Type 0
+TellsNext tells taken defs entries old new result =
+    (before : List ℕ) (info : TraceInfo) (told : List Entry)
+    → IsTelling tells taken before defs info told old
+    → Tells tells taken before defs info told entries result new
+
+-- The same at the end of the stream: the entries follow from those that were told, and stand by the last definitions.
+abbrev pub TellsLast : {S A : Type 0} → (S → Bool) → (S → List ℕ) → (ℕ → Option EventDef) → (ℕ → Option EventDef) → (List Entry → List Entry) → TraceWriter S → TraceWriter S → Result A Fault → Type 0
+TellsLast tells taken defs last_defs entries old new result =
+    (before : List ℕ) (info : TraceInfo) (told : List Entry)
+    → IsTelling tells taken before defs info told old
+    → Tells tells taken before last_defs info told (entries told) result new
+
 -- What the sink took once the stream was to end with these entries: the one stream that tells them, or after a fault what
 -- begins the stream of some of them, from the first one on. Where the writer had run out of stack ids more of the entries
 -- than there are ids have a stack.

@@ -12,7 +12,7 @@ ghost use Rattle.nt_meta.specs.declared.limits.TheConstants.{LAST_ID};
 ghost use Rattle.nt_write.specs.declared.limits.TheConstants.{LAST_EVENT};
 ghost use Rattle.nt_write.specs.Writer.{fault_of, sink_of};
 ghost use Rattle.ep_stream.specs.Rundown.{AreUsed};
-ghost use Rattle.ep_stream.specs.Telling.{IsTelling, Tells, IsFaulty};
+ghost use Rattle.ep_stream.specs.Telling.{IsTelling, TellsNext, TellsLast, IsFaulty};
 
 use ep_defs::EventDef;
 use ep_defs::limits::EVENTS;
@@ -35,9 +35,8 @@ pub(crate) fn describe_used<S: Sink>(
     requires valid { IsTrue (list_all is_valid_event events.now) }
     requires distinct { AreDistinct (definition_at events.now) }
     requires lacks { IsTrue (lacks_rundown events.now) }
-    ensures writes { (before : List ℕ) (info : TraceInfo) (told : List Entry)
-        → IsTelling S.tells_taken S.taken before (definition_at events.now) info told writer.old
-        → Tells S.tells_taken S.taken before (with_rundown (definition_at events.now)) info told (section stamp told) result writer.new }
+    ensures writes { TellsLast S.tells_taken S.taken (definition_at events.now) (with_rundown (definition_at events.now))
+        (λ told. section stamp told) writer.old writer.new result }
     ensures counted { (before : List ℕ) (info : TraceInfo) (told : List Entry)
         → IsTelling S.tells_taken S.taken before (definition_at events.now) info told writer.old
         → IfOk result (λ count. count ≡ length (used told)) }
@@ -78,10 +77,8 @@ fn describe_each<S: Sink>(
     requires rundown { rundown.now ≡ rundowns.rundown_def }
     requires few { length numbers.now ≤ LAST_EVENT + 1 }
     requires sound { fault_of writer.old ≡ None }
-    ensures writes { (before : List ℕ) (defs : ℕ → Option EventValue) (info : TraceInfo) (told : List Entry)
-        (used : List EventValue) → AreUsed events.now numbers.now used defs
-        → IsTelling S.tells_taken S.taken before defs info told writer.old
-        → Tells S.tells_taken S.taken before defs info told (describing_from stamp 1 used) result writer.new }
+    ensures writes { (defs : ℕ → Option EventValue) (used : List EventValue) → AreUsed events.now numbers.now used defs
+        → TellsNext S.tells_taken S.taken defs (describing_from stamp 1 used) writer.old writer.new result }
     ensures faulty { IsFaulty S.write_faults writer.old writer.new result }
     ensures other_side { S.read_side (sink_of writer.new) ≡ S.read_side (sink_of writer.old) }
 {
@@ -115,10 +112,8 @@ fn describe_one<S: Sink>(
     requires not_zero { 0 < id }
     requires id_fits { id ≤ LAST_ID }
     requires sound { fault_of writer.old ≡ None }
-    ensures writes { (before : List ℕ) (defs : ℕ → Option EventValue) (info : TraceInfo) (told : List Entry)
-        → AreDistinct defs → defs RUNDOWN_EVENT ≡ Some rundowns.rundown_def
-        → IsTelling S.tells_taken S.taken before defs info told writer.old
-        → Tells S.tells_taken S.taken before defs info told (Event (describing stamp id def.now) ∷ []) result writer.new }
+    ensures writes { (defs : ℕ → Option EventValue) → AreDistinct defs → defs RUNDOWN_EVENT ≡ Some rundowns.rundown_def
+        → TellsNext S.tells_taken S.taken defs (Event (describing stamp id def.now) ∷ []) writer.old writer.new result }
     ensures faulty { IsFaulty S.write_faults writer.old writer.new result }
     ensures other_side { S.read_side (sink_of writer.new) ≡ S.read_side (sink_of writer.old) }
 {

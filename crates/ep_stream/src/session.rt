@@ -1,11 +1,10 @@
 //! A session: its stream, and what it has of the threads that it is open on.
-ghost use Rattle.std.specs.Prelude.{◌≡◌, ◌≢◌, ℕ, ◌+◌, ◌<◌, ◌≤◌, ◌++◌, ◌↔◌, List, [], ◌∷◌, Option, None, Some, Err, length, IsSome, IsTrue, IfOk, IfErr, OnOk, OnErr};
+ghost use Rattle.std.specs.Prelude.{◌≡◌, ◌≢◌, ℕ, ◌+◌, ◌<◌, ◌≤◌, ◌↔◌, List, [], ◌∷◌, Option, None, Some, Err, length, IsSome, IsTrue, IfOk, IfErr, OnOk, OnErr};
 ghost use Rattle.std.specs.List.{list_all};
 ghost use Rattle.std.specs.Option.{ForSome};
 ghost use Rattle.ep_defs.specs.Definitions.{AreDistinct, definition_at};
 ghost use Rattle.ep_defs.specs.Event.{is_valid_event};
-ghost use Rattle.ep_defs.specs.Entry.{Entry, Event, Point};
-ghost use Rattle.ep_defs.specs.declared.session.TraceInfo.{TraceInfo as InfoValue};
+ghost use Rattle.ep_defs.specs.Entry.{Point};
 ghost use Rattle.ep_defs.specs.declared.event.EventDef.{EventDef as EventValue};
 ghost use Rattle.ep_defs.specs.declared.limits.TheConstants.{SESSIONS as SLOTS};
 ghost use Rattle.ep_slot.specs.Hand.{HandState};
@@ -14,10 +13,10 @@ ghost use Rattle.pt_io.specs.Taken.{TookAll, TookPart as TookPartOf};
 ghost use Rattle.nt_write.specs.declared.fault.Fault.TheVariants.{TooLong, WriteFault, OutOfMemory};
 ghost use Rattle.nt_write.specs.Writer.{point_of};
 ghost use Rattle.ep_stream.specs.Rows.{IsRow, CountsRefused, KeepsSet, KeepsSlots};
-ghost use Rattle.ep_stream.specs.Steps.{TellsStep, CanOpen, CanClose, Opens, Steals, Closes, GivesBack, Stays};
+ghost use Rattle.ep_stream.specs.Steps.{TellsStep, CanOpen, CanClose, Opens, GivesBack, Stays};
 ghost use Rattle.ep_rundown.specs.Rundown.{lacks_rundown, naming};
 ghost use Rattle.ep_stream.specs.Rundown.{last_definitions};
-ghost use Rattle.ep_stream.specs.Telling.{IsTelling, Tells, IsFaulty, entries_of};
+ghost use Rattle.ep_stream.specs.Telling.{TellsNext, TellsLast, IsFaulty};
 ghost use Rattle.ep_stream.specs.Named.{still_open, numbers_of};
 ghost use Rattle.ep_stream.specs.Fates.{fate_after};
 
@@ -89,8 +88,8 @@ struct Place {
 }
 
 impl<S: Sink> Session<S> {
-    ghost use Rattle.ep_stream.specs.Sweep.{Swept, SweptRow, MayFail, TellsTakings, entries_in, sweep_entries, point_after, named_behind};
-    ghost use Rattle.ep_stream.specs.Session.{writer_of, sink_of, fault_of, hand_on, opened_count, rest_of, new_rest, WasOpened, AreRowsOf, SameHands, Started, TookStart, Attached, Stolen, Detached, Writes, last_entries, Ended};
+    ghost use Rattle.ep_stream.specs.Sweep.{SweptFrom, SweptRowFrom, MayFail, point_after, named_behind};
+    ghost use Rattle.ep_stream.specs.Session.{writer_of, sink_of, fault_of, hand_on, opened_count, rest_of, new_rest, WasOpened, AreRowsOf, SameHands, Started, TookStart, Attached, StolenFrom, DetachedFrom, Writes, last_entries, Ended};
 
     /// Begins the stream of a session: writes the reply to who asked for it, if there is one, and the stream's start. It
     /// takes the memory for so many rows first. The sink comes back where that fails.
@@ -193,10 +192,7 @@ impl<S: Sink> Session<S> {
         requires few { length events.now ≤ EVENTS }
         requires valid { IsTrue (list_all is_valid_event events.now) }
         requires distinct { AreDistinct (definition_at events.now) }
-        ensures stolen { Stolen
-            (R.tests_record rows.old (rest_of self.old).config)
-            (λ records last chunks. TellsStep (Steals row (rest_of self.old).seat.slot records last chunks) (R.rows rows.old) (R.rows rows.new))
-            (λ records. Writes S.tells_taken S.taken events.now (entries_of events.now (rest_of self.old).config.stackwalk records) self.old self.new result)
+        ensures stolen { StolenFrom S.tells_taken S.taken (R.tests_record rows.old) (R.rows rows.old) (R.rows rows.new)
             events.now row self.old self.new result }
         ensures faulty { IsFaulty S.write_faults (writer_of self.old) (writer_of self.new) result }
         ensures other_side { S.read_side (sink_of self.new) ≡ S.read_side (sink_of self.old) }
@@ -289,11 +285,8 @@ impl<S: Sink> Session<S> {
         requires few { length events.now ≤ EVENTS }
         requires valid { IsTrue (list_all is_valid_event events.now) }
         requires distinct { AreDistinct (definition_at events.now) }
-        ensures swept { Swept
-            (R.tests_record rows.old (rest_of self.old).config)
-            (λ takings. TellsTakings (rest_of self.old).seat.slot takings (R.rows rows.old) (R.rows rows.new))
-            (λ takings. Writes S.tells_taken S.taken events.now (sweep_entries events.now (rest_of self.old).config.stackwalk stamp (rest_of self.old).named takings) self.old self.new result)
-            events.now (R.count rows.old) self.old self.new result }
+        ensures swept { SweptFrom S.tells_taken S.taken (R.tests_record rows.old) (R.rows rows.old) (R.rows rows.new)
+            events.now stamp (R.count rows.old) self.old self.new result }
         ensures faulty { IsFaulty S.write_faults (writer_of self.old) (writer_of self.new) result }
         ensures other_side { S.read_side (sink_of self.new) ≡ S.read_side (sink_of self.old) }
         ensures count { opened_count self.new ≡ opened_count self.old }
@@ -326,10 +319,7 @@ impl<S: Sink> Session<S> {
         requires few { length events.now ≤ EVENTS }
         requires valid { IsTrue (list_all is_valid_event events.now) }
         requires distinct { AreDistinct (definition_at events.now) }
-        ensures swept { SweptRow
-            (R.tests_record rows.old (rest_of self.old).config)
-            (λ takings. TellsTakings (rest_of self.old).seat.slot takings (R.rows rows.old) (R.rows rows.new))
-            (λ takings. Writes S.tells_taken S.taken events.now (entries_in events.now (rest_of self.old).config.stackwalk takings) self.old self.new result)
+        ensures swept { SweptRowFrom S.tells_taken S.taken (R.tests_record rows.old) (R.rows rows.old) (R.rows rows.new)
             events.now row self.old self.new result }
         ensures faulty { MayFail S.write_faults (writer_of self.old) (writer_of self.new) result }
         ensures other_side { S.read_side (sink_of self.new) ≡ S.read_side (sink_of self.old) }
@@ -384,12 +374,8 @@ impl<S: Sink> Session<S> {
         requires few { length events.now ≤ EVENTS }
         requires valid { IsTrue (list_all is_valid_event events.now) }
         requires distinct { AreDistinct (definition_at events.now) }
-        ensures detached { Detached
-            (R.tests_record rows.old (rest_of self.old).config)
-            (R.tests_marks rows.old (rest_of self.old).config)
-            (λ records last chunks marks. TellsStep (Closes row (rest_of self.old).seat.slot records last chunks marks) (R.rows rows.old) (R.rows rows.new))
-            (λ records. Writes S.tells_taken S.taken events.now (entries_of events.now (rest_of self.old).config.stackwalk records) self.old self.new result)
-            events.now row self.old self.new }
+        ensures detached { DetachedFrom S.tells_taken S.taken (R.tests_record rows.old) (R.tests_marks rows.old) (R.rows rows.old) (R.rows rows.new)
+            events.now row self.old self.new result }
         ensures faulty { IsFaulty S.write_faults (writer_of self.old) (writer_of self.new) result }
         ensures other_side { S.read_side (sink_of self.new) ≡ S.read_side (sink_of self.old) }
         ensures count { opened_count self.new ≡ opened_count self.old }
@@ -462,9 +448,8 @@ impl<S: Sink> Session<S> {
         requires valid { IsTrue (list_all is_valid_event events.now) }
         requires distinct { AreDistinct (definition_at events.now) }
         requires lacks { IsTrue (lacks_rundown events.now) }
-        ensures writes { (before : List ℕ) (info : InfoValue) (told : List Entry)
-            → IsTelling S.tells_taken S.taken before (definition_at events.now) info told (writer_of self.old)
-            → Tells S.tells_taken S.taken before (last_definitions (rest_of self.old).config.rundown events.now) info told (last_entries stamp told (rest_of self.old)) result (writer_of self.new) }
+        ensures writes { TellsLast S.tells_taken S.taken (definition_at events.now) (last_definitions (rest_of self.old).config.rundown events.now)
+            (λ told. last_entries stamp told (rest_of self.old)) (writer_of self.old) (writer_of self.new) result }
         ensures others { rest_of self.new ≡ record (rest_of self.old) { named = (rest_of self.new).named } }
         ensures faulty { IsFaulty S.write_faults (writer_of self.old) (writer_of self.new) result }
         ensures other_side { S.read_side (sink_of self.new) ≡ S.read_side (sink_of self.old) }
@@ -479,9 +464,8 @@ impl<S: Sink> Session<S> {
     // Writes how far each thread had come, and thread 0, which has so many descriptions, first.
     fn point_with_rundown(&mut self, alloc: Global, stamp: u64, described: u32) -> Result<(), Fault>
         requires sound { fault_of self.old ≡ None }
-        ensures writes { (before : List ℕ) (defs : ℕ → Option EventValue) (info : InfoValue) (told : List Entry)
-            → IsTelling S.tells_taken S.taken before defs info told (writer_of self.old)
-            → Tells S.tells_taken S.taken before defs info told (Point (naming described (point_of stamp (numbers_of (rest_of self.old).named))) ∷ []) result (writer_of self.new) }
+        ensures writes { (defs : ℕ → Option EventValue) → TellsNext S.tells_taken S.taken defs
+            (Point (naming described (point_of stamp (numbers_of (rest_of self.old).named))) ∷ []) (writer_of self.old) (writer_of self.new) result }
         ensures rest { rest_of self.new ≡ rest_of self.old }
         ensures faulty { IsFaulty S.write_faults (writer_of self.old) (writer_of self.new) result }
         ensures other_side { S.read_side (sink_of self.new) ≡ S.read_side (sink_of self.old) }

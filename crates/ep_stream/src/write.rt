@@ -1,15 +1,13 @@
 //! How records become events of a stream.
-ghost use Rattle.std.specs.Prelude.{◌≡◌, ℕ, ◌≤◌, List, [], None, OnOk, length, All, IsTrue, if◌then◌else◌};
+ghost use Rattle.std.specs.Prelude.{◌≡◌, ◌≤◌, [], None, length, All, IsTrue, if◌then◌else◌};
 ghost use Rattle.std.specs.List.{list_all};
 ghost use Rattle.ep_defs.specs.Definitions.{AreDistinct, definition_at};
 ghost use Rattle.ep_defs.specs.Event.{is_valid_event};
-ghost use Rattle.ep_defs.specs.Entry.{Entry};
-ghost use Rattle.ep_defs.specs.declared.session.TraceInfo.{TraceInfo};
 ghost use Rattle.ep_chunk.specs.Record.{Record};
 ghost use Rattle.ep_chunk.specs.Places.{Tells as TellsRecord};
 ghost use Rattle.ep_slot.specs.Chain.{records_of};
 ghost use Rattle.nt_write.specs.Writer.{fault_of, sink_of};
-ghost use Rattle.ep_stream.specs.Telling.{IsTelling, Tells, IsWritable, CanBeRead, IsFaulty, entry_of, entries_of};
+ghost use Rattle.ep_stream.specs.Telling.{TellsNext, IsWritable, CanBeRead, IsFaulty, entry_of, entries_of};
 
 use ep_chunk::{Chain, Chunk, RecOut};
 use ep_defs::EventDef;
@@ -37,9 +35,8 @@ fn write_record<S: Sink>(
     requires valid { IsTrue (list_all is_valid_event events.now) }
     requires distinct { AreDistinct (definition_at events.now) }
     requires record { CanBeRead events.now rec.now }
-    ensures writes { (before : List ℕ) (info : TraceInfo) (told : List Entry) (r : Record) → TellsRecord r rec.now
-        → IsTelling S.tells_taken S.taken before (definition_at events.now) info told writer.old
-        → Tells S.tells_taken S.taken before (definition_at events.now) info told (entry_of events.now stacks r) result writer.new }
+    ensures writes { (r : Record) → TellsRecord r rec.now
+        → TellsNext S.tells_taken S.taken (definition_at events.now) (entry_of events.now stacks r) writer.old writer.new result }
     ensures faulty { IsFaulty S.write_faults writer.old writer.new result }
     ensures other_side { S.read_side (sink_of writer.new) ≡ S.read_side (sink_of writer.old) }
 {
@@ -69,9 +66,8 @@ fn write_chunk<S: Sink>(
     requires distinct { AreDistinct (definition_at events.now) }
     requires records { All (IsWritable events.now) chunk.now }
     requires sound { fault_of writer.old ≡ None }
-    ensures writes { (before : List ℕ) (info : TraceInfo) (told : List Entry)
-        → IsTelling S.tells_taken S.taken before (definition_at events.now) info told writer.old
-        → Tells S.tells_taken S.taken before (definition_at events.now) info told (entries_of events.now stacks chunk.now) result writer.new }
+    ensures writes { TellsNext S.tells_taken S.taken (definition_at events.now) (entries_of events.now stacks chunk.now)
+        writer.old writer.new result }
     ensures faulty { IsFaulty S.write_faults writer.old writer.new result }
     ensures other_side { S.read_side (sink_of writer.new) ≡ S.read_side (sink_of writer.old) }
 {
@@ -96,9 +92,8 @@ pub(crate) fn write_chain<S: Sink>(
     requires valid { IsTrue (list_all is_valid_event events.now) }
     requires distinct { AreDistinct (definition_at events.now) }
     requires records { All (IsWritable events.now) (records_of chain.now) }
-    ensures writes { (before : List ℕ) (info : TraceInfo) (told : List Entry)
-        → IsTelling S.tells_taken S.taken before (definition_at events.now) info told writer.old
-        → Tells S.tells_taken S.taken before (definition_at events.now) info told (entries_of events.now stacks (records_of chain.now)) result writer.new }
+    ensures writes { TellsNext S.tells_taken S.taken (definition_at events.now) (entries_of events.now stacks (records_of chain.now))
+        writer.old writer.new result }
     ensures faulty { IsFaulty S.write_faults writer.old writer.new result }
     ensures other_side { S.read_side (sink_of writer.new) ≡ S.read_side (sink_of writer.old) }
 {

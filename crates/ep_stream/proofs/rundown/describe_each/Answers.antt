@@ -64,7 +64,7 @@ loop-place-preserved g c =
             let next = next_at stamp used place def found in
             subst (λ (es : List Entry). IsTelling g.S.Sink.tells_taken g.S.Sink.taken before defs info (told ++ es) w.describe_one.new.writer) (sym next)
             (told_after g.S.Sink.tells_taken g.S.Sink.taken before defs info told first (Event (describing stamp (place + 1) def) ∷ []) w.in_ok-describe_one.field-0 w.describe_one.new.writer
-            (w.in_ok-describe_one.ensures.writes before defs info (told ++ first) are.distinct are.rundown_is (inv.telling before defs info told used are now)));
+            (w.in_ok-describe_one.ensures.writes defs are.distinct are.rundown_is before info (told ++ first) (inv.telling before defs info told used are now)));
       })
       | else-number-gt0 w ↦ rw w.writer-is (record {
         sound = inv.sound;
@@ -79,7 +79,7 @@ loop-place-preserved g c =
     ]
 
 pub returns-in_err-describe_one-clause-writes : goal.returns-in_err-describe_one-clause-writes
-returns-in_err-describe_one-clause-writes g c before defs info told used are now =
+returns-in_err-describe_one-clause-writes g c defs used are before info told now =
     let inv = c.loop-place.invariant in
     let fault : Fault = c.in_err-describe_one.field-0.0 in
     let events = c.args.events.now in
@@ -93,10 +93,10 @@ returns-in_err-describe_one-clause-writes g c before defs info told used are now
     subst (λ (r : Result (Unit {0}) Fault). Tells g.S.Sink.tells_taken g.S.Sink.taken before defs info told (describing_from stamp 1 used) r c.describe_one.new.writer) (sym (err_is _ _ c.from_residual.ensures.1))
     (subst (λ (es : List Entry). Tells {A = Unit {0}} g.S.Sink.tells_taken g.S.Sink.taken before defs info told es (Err fault) c.describe_one.new.writer) (sym split.1)
     (tells_after g.S.Sink.tells_taken g.S.Sink.taken before defs info told first (Event (describing stamp (place + 1) def) ∷ []) split.0 fault c.describe_one.new.writer
-    (c.in_err-describe_one.ensures.writes before defs info (told ++ first) are.distinct are.rundown_is (inv.telling before defs info told used are now))))
+    (c.in_err-describe_one.ensures.writes defs are.distinct are.rundown_is before info (told ++ first) (inv.telling before defs info told used are now))))
 
 pub returns-clause-writes : goal.returns-clause-writes
-returns-clause-writes g c before defs info told used are now =
+returns-clause-writes g c defs used are before info told now =
     let inv = c.loop-place.invariant in
     let place = c.loop-place.place in
     let many : length c.args.numbers.now ≡ length used = used_count c.args.events.now c.args.numbers.now used are.numbers_are in

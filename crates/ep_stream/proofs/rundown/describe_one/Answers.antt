@@ -10,12 +10,12 @@ use Rattle.ep_stream.proofs.Describing.{tells_none, not_long}
 use Rattle.ep_stream.proofs.rundown.describe_one.Goals as goal
 
 pub returns-in_default-clause-writes : goal.returns-in_default-clause-writes
-returns-in_default-clause-writes g c before defs info told distinct at telling =
+returns-in_default-clause-writes g c defs distinct at before info told telling =
     tells_none g.S.Sink.tells_taken g.S.Sink.taken before defs info told (Event (describing c.args.stamp c.args.id c.args.def.now) ∷ []) OutOfMemory c.give_up.new.self
     c.give_up.ensures.fault (c.give_up.ensures.part before defs info told (telling.sound c.requires.sound)) not_long
 
 pub returns-clause-writes : goal.returns-clause-writes
-returns-clause-writes g c before defs info told distinct at telling =
+returns-clause-writes g c defs distinct at before info told telling =
     let bytes : List ℕ = c.deref.result.now in
     let make : EventDef → List ℕ → Entry =
     λ def payload. Event (record { thread = 0; number = c.args.id; stamp = c.args.stamp; def = def; activity = zero_id; related = zero_id; stack = []; payload = payload })

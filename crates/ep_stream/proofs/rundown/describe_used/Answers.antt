@@ -34,7 +34,7 @@ returns-in_err-describe_each-clause-writes g c before info told telling =
     let now = telling_more g.S.Sink.tells_taken g.S.Sink.taken before defs more info told c.args.writer.now telling (λ w. c.used.ensures.goes_on before defs more info told w extended) in
     subst (λ (r : Result ℕ Fault). Tells g.S.Sink.tells_taken g.S.Sink.taken before more info told (section c.args.stamp told) r c.describe_each.new.writer) (sym (err_is _ _ c.from_residual.ensures.1))
     (tells_err g.S.Sink.tells_taken g.S.Sink.taken before more info told (section c.args.stamp told) fault c.describe_each.new.writer
-    (c.in_err-describe_each.ensures.writes before more info told (used told) are now))
+    (c.in_err-describe_each.ensures.writes more (used told) are before info told now))
 
 pub returns-clause-writes : goal.returns-clause-writes
 returns-clause-writes g c before info told telling =
@@ -45,8 +45,9 @@ returns-clause-writes g c before info told telling =
     let extended = extends events c.used.result.now (used told) c.requires.few c.requires.lacks named in
     let now = telling_more g.S.Sink.tells_taken g.S.Sink.taken before defs more info told c.args.writer.now telling (λ w. c.used.ensures.goes_on before defs more info told w extended) in
     tells_ok g.S.Sink.tells_taken g.S.Sink.taken before more info told (section c.args.stamp told) c.in_ok-describe_each.field-0 _ c.describe_each.new.writer
-    (c.in_ok-describe_each.ensures.writes before more info told (used told)
-    (are-used events c.deref.result.now c.used.result.now (used told) (c.deref.ensures.value ∙ c.in-Ok.ensures.numbers) named c.requires.distinct c.requires.lacks) now)
+    (c.in_ok-describe_each.ensures.writes more (used told)
+    (are-used events c.deref.result.now c.used.result.now (used told) (c.deref.ensures.value ∙ c.in-Ok.ensures.numbers) named c.requires.distinct c.requires.lacks)
+    before info told now)
 
 pub returns-clause-counted : goal.returns-clause-counted
 returns-clause-counted g c before info told telling =

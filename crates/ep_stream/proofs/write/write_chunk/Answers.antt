@@ -58,7 +58,7 @@ loop-rec-preserved g c =
           subst (λ (es : List Entry). IsTelling g.S.Sink.tells_taken g.S.Sink.taken before (definition_at events) info (told ++ es) c.write_record.new.writer)
           (ap (λ (es : List Entry). entries_of events stacks inv.done ++ es) (sym (one_entry events stacks t.told)) ∙ sym (entries_of-append events stacks inv.done (t.told ∷ [])))
           (told_after g.S.Sink.tells_taken g.S.Sink.taken before (definition_at events) info told (entries_of events stacks inv.done) (entry_of events stacks t.told) c.in_ok-write_record.field-0 c.write_record.new.writer
-          (c.in_ok-write_record.ensures.writes before info (told ++ entries_of events stacks inv.done) t.told t.parts (inv.telling before info told now)));
+          (c.in_ok-write_record.ensures.writes t.told t.parts before info (told ++ entries_of events stacks inv.done) (inv.telling before info told now)));
     }
 
 pub returns-in_err-write_record-clause-writes : goal.returns-in_err-write_record-clause-writes
@@ -78,7 +78,7 @@ returns-in_err-write_record-clause-writes g c before info told now =
     subst (λ (r : Result (Unit {0}) Fault). Tells g.S.Sink.tells_taken g.S.Sink.taken before (definition_at events) info told (entries_of events stacks c.args.chunk.now) r c.write_record.new.writer) (sym (err_is _ _ c.from_residual.ensures.1))
     (subst (λ (es : List Entry). Tells {A = Unit {0}} g.S.Sink.tells_taken g.S.Sink.taken before (definition_at events) info told es (Err fault) c.write_record.new.writer) (sym chunk_is)
     (tells_after g.S.Sink.tells_taken g.S.Sink.taken before (definition_at events) info told (entries_of events stacks inv.done) (entry_of events stacks t.told) (entries_of events stacks t.others) fault c.write_record.new.writer
-    (c.in_err-write_record.ensures.writes before info (told ++ entries_of events stacks inv.done) t.told t.parts (inv.telling before info told now))))
+    (c.in_err-write_record.ensures.writes t.told t.parts before info (told ++ entries_of events stacks inv.done) (inv.telling before info told now))))
 
 pub returns-clause-writes : goal.returns-clause-writes
 returns-clause-writes g c before info told now =

@@ -9,7 +9,7 @@ use Rattle.ep_stream.proofs.Telling.{tells_one, entry_is, definition_is, spent_w
 use Rattle.ep_stream.proofs.write.write_record.Goals as goal
 
 pub returns-clause-writes : goal.returns-clause-writes
-returns-clause-writes g c before info told r of_record telling =
+returns-clause-writes g c r of_record before info told telling =
     let events = c.args.events.now in
     let rec = c.args.rec.now in
     let def = c.index-events-rec.result in

@@ -11,12 +11,12 @@ use Rattle.ep_stream.proofs.Describing.{tells_none, not_long}
 use Rattle.ep_stream.proofs.session.Session.point_with_rundown.Goals as goal
 
 pub returns-in_default-clause-writes : goal.returns-in_default-clause-writes
-returns-in_default-clause-writes g c before defs info told telling =
+returns-in_default-clause-writes g c defs before info told telling =
     tells_none g.S.Sink.tells_taken g.S.Sink.taken before defs info told (Point (naming c.args.described (point_of c.args.stamp (numbers_of (named_in c.args.self.now.opened)))) ∷ []) OutOfMemory _
     c.give_up.ensures.fault (c.give_up.ensures.part before defs info told (telling.sound c.requires.sound)) not_long
 
 pub returns-clause-writes : goal.returns-clause-writes
-returns-clause-writes g c before defs info told telling =
+returns-clause-writes g c defs before info told telling =
     let stamp = c.args.stamp in
     let all : c.numbers.result.now ≡ (0, c.args.described) ∷ numbers_of (named_in c.args.self.now.opened) =
     c.numbers.ensures ∙ c.in-Ok.ensures.numbers ∙ ap (λ (ns : List (ℕ × ℕ)). (0, c.args.described) ∷ ns) c.count_off.ensures.numbers

@@ -46,4 +46,4 @@ returns-clause-writes g c before info told telling =
     (tells_both g.S.Sink.tells_taken g.S.Sink.taken before defs info told (section stamp told) (Point (naming (length (used told)) point) ∷ []) c.in_ok-described.described c.point_with_rundown.result c.describe_used.new.writer (writer_of c.point_with_rundown.new.self)
     (c.in_ok-described.ensures.writes before info told telling)
     (λ t. subst (λ (n : ℕ). Tells g.S.Sink.tells_taken g.S.Sink.taken before defs info (told ++ section stamp told) (Point (naming n point) ∷ []) c.point_with_rundown.result (writer_of c.point_with_rundown.new.self)) count
-    (c.point_with_rundown.ensures.writes before defs info (told ++ section stamp told) t)))
+    (c.point_with_rundown.ensures.writes defs before info (told ++ section stamp told) t)))
