@@ -22,8 +22,8 @@ use Rattle.nt_write.specs.Writer.{point_of}
 use Rattle.ep_stream.specs.declared.opened.Named.{Named}
 use Rattle.ep_stream.specs.declared.session.Seat.{Seat}
 use Rattle.ep_stream.specs.Named.{first_named, insert_by, with_thread, with_number, still_open, numbers_of, with_marks}
-use Rattle.ep_stream.specs.Session.{Rest, new_rest}
-use Rattle.ep_stream_laws.specs.Kept.{named_on, names_of, closed_marks, RestFollows}
+use Rattle.ep_stream.specs.Session.{Rest, new_rest, with_opened, with_stolen, with_closed}
+use Rattle.ep_stream_laws.specs.Kept.{named_on, names_of, closed_marks, RestFollows, StealFollows, CloseFollows}
 use Rattle.ep_stream_laws.proofs.Lists.{ascending-filter, has-apart, filter-insert_kept, filter-insert_dropped, filter-same, filter-both, filter-more, map-same_kept, map-mapped, filter-mapped, map-insert, map-changed}
 use Rattle.ep_stream_laws.proofs.Pasts.{none_told}
 
@@ -81,7 +81,7 @@ opens_marks s t past none =
     in
     rw (same_number s) marks
 
-pub opened_follows : (events : List EventDef) (past : Past) (rest : Rest) (thread : ℕ) → RestFollows past rest → IsLawful events (step.Open rest.seat.id thread ∷ past) → RestFollows (step.Open rest.seat.id thread ∷ past) (record rest { named = insert_by (λ n. n.thread) (first_named thread) rest.named })
+pub opened_follows : (events : List EventDef) (past : Past) (rest : Rest) (thread : ℕ) → RestFollows past rest → IsLawful events (step.Open rest.seat.id thread ∷ past) → RestFollows (step.Open rest.seat.id thread ∷ past) (with_opened thread rest)
 opened_follows events past rest thread h lawful =
     let s = rest.seat.id in
     let none = open_new events past s thread lawful.1 in
@@ -114,8 +114,8 @@ steal_names s t last past up is =
     in
     rw (same_number s) names
 
-pub stolen_follows : (events : List EventDef) (past : Past) (rest : Rest) (thread last chunks : ℕ) → in_hand (turns rest.seat.id past) ≡ (budget_of rest.seat.id past).in_hand → RestFollows past rest → IsLawful events (step.Steal rest.seat.id thread ∷ past) → last ≡ shows rest.seat.id thread past → chunks ≡ ((budget_of rest.seat.id past).pending thread).chunks
-    → RestFollows (step.Steal rest.seat.id thread ∷ past) (record rest { named = with_number thread last true rest.named; in_hand = chunks })
+pub stolen_follows : (events : List EventDef) (past : Past) (rest : Rest) (thread last chunks : ℕ) → in_hand (turns rest.seat.id past) ≡ (budget_of rest.seat.id past).in_hand
+    → StealFollows events past thread last chunks rest (with_stolen thread last chunks rest)
 stolen_follows events past rest thread last chunks counted h lawful last_is chunks_are =
     let s = rest.seat.id in
     let empty : is_hand_full s past ≡ false = (none_there (objections events past (step.Steal s thread)) lawful.1).1.1.1.0 in
@@ -175,9 +175,8 @@ close_marks s t past marks up on is =
     in
     rw (same_number s) all
 
-pub closed_follows : (events : List EventDef) (past : Past) (rest : Rest) (thread last chunks : ℕ) (marks : Marks) → in_hand (turns rest.seat.id past) ≡ (budget_of rest.seat.id past).in_hand → RestFollows past rest → IsLawful events (step.Close rest.seat.id thread ∷ past) → last ≡ shows rest.seat.id thread past → chunks ≡ ((budget_of rest.seat.id past).pending thread).chunks
-    → marks ≡ marks_on rest.seat.id thread (step.Close rest.seat.id thread ∷ past)
-    → RestFollows (step.Close rest.seat.id thread ∷ past) (record rest { named = with_number thread last false rest.named; marks = with_marks marks rest.marks; in_hand = chunks })
+pub closed_follows : (events : List EventDef) (past : Past) (rest : Rest) (thread last chunks : ℕ) (marks : Marks) → in_hand (turns rest.seat.id past) ≡ (budget_of rest.seat.id past).in_hand
+    → CloseFollows events past thread last chunks marks rest (with_closed thread last chunks marks rest)
 closed_follows events past rest thread last chunks marks counted h lawful last_is chunks_are marks_are =
     let s = rest.seat.id in
     let on = close_open events past s thread lawful.1 in

@@ -7,16 +7,14 @@ ghost use Rattle.ep_defs.specs.declared.session.Marks.{Marks};
 ghost use Rattle.ep_model.specs.declared.step.Step.{Step};
 ghost use Rattle.ep_model.specs.declared.step.Step.TheVariants.{Accept, Open, Steal, Give, Point as PointStep, Close, Finish};
 ghost use Rattle.ep_model.specs.Entries.{entries, pending};
-ghost use Rattle.ep_model.specs.Fold.{budget_of};
-ghost use Rattle.ep_model.specs.History.{Past, config_of, is_finished, shows};
+ghost use Rattle.ep_model.specs.History.{Past, config_of, is_finished};
 ghost use Rattle.ep_model.specs.Lawful.{IsLawful};
-ghost use Rattle.ep_model.specs.Marks.{marks_on, marks_of};
+ghost use Rattle.ep_model.specs.Marks.{marks_of};
 ghost use Rattle.nt_write.specs.Writer.{point_of};
 ghost use Rattle.ep_stream.specs.declared.session.Seat.{Seat};
-ghost use Rattle.ep_stream.specs.Named.{first_named, insert_by, with_number, still_open, numbers_of, with_marks};
-ghost use Rattle.ep_rundown.specs.Rundown.{with_section};
-ghost use Rattle.ep_stream.specs.Session.{Rest, new_rest, last_entries};
-ghost use Rattle.ep_stream_laws.specs.Kept.{RestFollows};
+ghost use Rattle.ep_stream.specs.Named.{still_open, numbers_of};
+ghost use Rattle.ep_stream.specs.Session.{Rest, new_rest, with_opened, with_stolen, with_closed, last_entries};
+ghost use Rattle.ep_stream_laws.specs.Kept.{RestFollows, StealFollows, CloseFollows, finished_entries};
 ghost use Rattle.ep_stream_laws.specs.Makers.{is_made_by, is_told_by};
 
 use ep_model::laws::a_budget_can_be_counted;
@@ -35,20 +33,13 @@ pub fn a_new_session_keeps_nothing()
 pub fn an_opened_thread_is_named()
     ensures { (events : List EventDef) (past : Past) (rest : Rest) (thread : ℕ) → RestFollows past rest
         → IsLawful events (Open rest.seat.id thread ∷ past)
-        → RestFollows (Open rest.seat.id thread ∷ past) (record rest { named = insert_by (λ n. n.thread) (first_named thread) rest.named }) }
+        → RestFollows (Open rest.seat.id thread ∷ past) (with_opened thread rest) }
 {}
 
 /// After a Steal the thread is named with the number of its last Show, and what it had is in hand.
 pub fn what_is_stolen_is_told()
     ensures { (events : List EventDef) (past : Past) (rest : Rest) (thread last chunks : ℕ)
-        → RestFollows past rest
-        → IsLawful events (Steal rest.seat.id thread ∷ past)
-        → last ≡ shows rest.seat.id thread past
-        → chunks ≡ ((budget_of rest.seat.id past).pending thread).chunks
-        → RestFollows (Steal rest.seat.id thread ∷ past) (record rest {
-          named = with_number thread last true rest.named;
-          in_hand = chunks;
-        }) }
+        → StealFollows events past thread last chunks rest (with_stolen thread last chunks rest) }
 {
     a_budget_can_be_counted();
 }
@@ -56,13 +47,8 @@ pub fn what_is_stolen_is_told()
 /// After a Close the thread is named so too, as one that is closed, and its marks are kept.
 pub fn a_closed_thread_is_marked()
     ensures { (events : List EventDef) (past : Past) (rest : Rest) (thread last chunks : ℕ)
-        (marks : Marks) → RestFollows past rest
-        → IsLawful events (Close rest.seat.id thread ∷ past)
-        → last ≡ shows rest.seat.id thread past
-        → chunks ≡ ((budget_of rest.seat.id past).pending thread).chunks
-        → marks ≡ marks_on rest.seat.id thread (Close rest.seat.id thread ∷ past)
-        → RestFollows (Close rest.seat.id thread ∷ past)
-        (record rest { named = with_number thread last false rest.named; marks = with_marks marks rest.marks; in_hand = chunks }) }
+        (marks : Marks)
+        → CloseFollows events past thread last chunks marks rest (with_closed thread last chunks marks rest) }
 {
     a_budget_can_be_counted();
 }
@@ -117,7 +103,7 @@ pub fn entries_are_what_was_told()
 /// what ep_stream's call for a Finish ends it with.
 pub fn a_finished_session_tells_its_last_entries()
     ensures { (events : List EventDef) (past : Past) (rest : Rest) (stamp : ℕ) → RestFollows past rest
-        → with_section rest.config.rundown (entries events rest.seat.id (Finish rest.seat.id stamp ∷ past))
+        → finished_entries events stamp past rest
         ≡ entries events rest.seat.id past ++ last_entries stamp (entries events rest.seat.id past) rest }
 {
     the_section_stands_before_the_last_point();
