@@ -8,7 +8,7 @@ ghost use Rattle.ep_defs.specs.declared.session.Write.{Write};
 ghost use Rattle.ep_slot.specs.Chain.{records_of, HasRecords};
 ghost use Rattle.ep_slot.specs.Hand.{HandState};
 ghost use Rattle.ep_row.specs.AtRest.{write_of};
-ghost use Rattle.ep_stream.specs.Rows.{IsRow, IsSetAt, IsSame, first_hand, hand_after, IsBatch, IsMarked, StillAttaches, TestsRecordsAs, TestsHandsAs, TestsMarksAs};
+ghost use Rattle.ep_stream.specs.Rows.{IsRow, IsSetAt, IsSame, first_hand, hand_after, IsBatch, IsMarked, KeepsSet};
 ghost use Rattle.ep_stream.specs.Steps.{ToldRows, TellsStep, CanOpen, CanClose, Opens, Steals, Closes, GivesBack, Stays};
 
 use ep_defs::limits::SESSIONS;
@@ -84,12 +84,7 @@ pub trait RowSet {
         ensures none_told { OnErr result (TellsStep Stays (rows self.old) (rows self.new)) }
         ensures out { (s : ℕ) → out self.new s ≡ out self.old s }
         ensures refused { refused self.new ≡ refused self.old }
-        ensures count { count self.new ≡ count self.old }
-        ensures definitions { definitions self.new ≡ definitions self.old }
-        ensures attaches { StillAttaches (can_attach self.old) (can_attach self.new) }
-        ensures tests_record { TestsRecordsAs (tests_record self.old) (tests_record self.new) }
-        ensures tests_hand { TestsHandsAs (tests_hand self.old) (tests_hand self.new) }
-        ensures tests_marks { TestsMarksAs (tests_marks self.old) (tests_marks self.new) };
+        ensures set { KeepsSet count definitions can_attach tests_record tests_hand tests_marks self.old self.new };
 
     /// Takes all that a session has pending of a row's thread. It takes no memory.
     fn steal(&mut self, row: u32, slot: u32, hand: &mut Hand) -> Batch
@@ -105,12 +100,7 @@ pub trait RowSet {
         ensures configured { IsSame (configured self.old) (configured self.new) }
         ensures out { (s : ℕ) → out self.new s ≡ (if s == slot then out self.old s + length result.chain else out self.old s) }
         ensures refused { refused self.new ≡ refused self.old }
-        ensures count { count self.new ≡ count self.old }
-        ensures definitions { definitions self.new ≡ definitions self.old }
-        ensures attaches { StillAttaches (can_attach self.old) (can_attach self.new) }
-        ensures tests_record { TestsRecordsAs (tests_record self.old) (tests_record self.new) }
-        ensures tests_hand { TestsHandsAs (tests_hand self.old) (tests_hand self.new) }
-        ensures tests_marks { TestsMarksAs (tests_marks self.old) (tests_marks self.new) };
+        ensures set { KeepsSet count definitions can_attach tests_record tests_hand tests_marks self.old self.new };
 
     /// Closes a session on a row, and gives what was pending and what the session had of the row's thread. It takes no
     /// memory.
@@ -129,12 +119,7 @@ pub trait RowSet {
         ensures configured { IsSetAt row slot None (configured self.old) (configured self.new) }
         ensures out { (s : ℕ) → out self.new s ≡ (if s == slot then out self.old s + length result.0.chain else out self.old s) }
         ensures refused { refused self.new ≡ option_map (λ n. n + result.1.refused) (refused self.old) }
-        ensures count { count self.new ≡ count self.old }
-        ensures definitions { definitions self.new ≡ definitions self.old }
-        ensures attaches { StillAttaches (can_attach self.old) (can_attach self.new) }
-        ensures tests_record { TestsRecordsAs (tests_record self.old) (tests_record self.new) }
-        ensures tests_hand { TestsHandsAs (tests_hand self.old) (tests_hand self.new) }
-        ensures tests_marks { TestsMarksAs (tests_marks self.old) (tests_marks self.new) };
+        ensures set { KeepsSet count definitions can_attach tests_record tests_hand tests_marks self.old self.new };
 
     /// Gives the chunks of a batch back to the session in a slot. It takes no memory.
     fn give(&mut self, slot: u32, batch: Batch)
@@ -145,12 +130,7 @@ pub trait RowSet {
         ensures configured { IsSame (configured self.old) (configured self.new) }
         ensures out { (s : ℕ) → out self.new s ≡ (if s == slot then out self.old s - length batch.chain else out self.old s) }
         ensures refused { refused self.new ≡ refused self.old }
-        ensures count { count self.new ≡ count self.old }
-        ensures definitions { definitions self.new ≡ definitions self.old }
-        ensures attaches { StillAttaches (can_attach self.old) (can_attach self.new) }
-        ensures tests_record { TestsRecordsAs (tests_record self.old) (tests_record self.new) }
-        ensures tests_hand { TestsHandsAs (tests_hand self.old) (tests_hand self.new) }
-        ensures tests_marks { TestsMarksAs (tests_marks self.old) (tests_marks self.new) };
+        ensures set { KeepsSet count definitions can_attach tests_record tests_hand tests_marks self.old self.new };
 
     // No hand is expected on what is no row.
     ghost none_outside: { (set : Self) (row slot : ℕ) → (IsRow (count set) row → ⊥) → expected set row slot ≡ None };

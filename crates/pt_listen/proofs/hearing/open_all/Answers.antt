@@ -61,11 +61,11 @@ loop-place-preserved g c =
     let by : IsHandBy (λ thread. no_account) row hand = first-by g.P.Program.rows row _ hand (omega arith) (inv.lives row) e.hand e.tested.0 (e.tested.1 0 inv.stands) in
     record {
       rows = subst (λ (xs : List (Option HandState)). AreItsRows g.P.Program.rows c.args.slot g.P.WatchRun.config new xs) (sym items)
-          (its-opened g.P.Program.rows c.args.slot row g.P.WatchRun.config old new hands hand inv.rows row_is e.expected (subst (λ (cf : Config). IsSetAt row c.args.slot (Some cf) (configured_in old) (configured_in new)) c.requires.config e.configured) e.out e.count e.attaches);
+          (its-opened g.P.Program.rows c.args.slot row g.P.WatchRun.config old new hands hand inv.rows row_is e.expected (subst (λ (cf : Config). IsSetAt row c.args.slot (Some cf) (configured_in old) (configured_in new)) c.requires.config e.configured) e.out e.set.count_is e.set.attaches);
       count = omega (arith, c.push_reserved.ensures.len, inv.count);
       room = omega (arith, c.push_reserved.ensures.capacity, inv.room);
-      stands = c.same_tests_have_the_same_stands.ensures g.P.Program.rows old new e.tests_hand ∙ inv.stands;
-      lives = λ r. c.same_tests_have_the_same_lives.ensures g.P.Program.rows old new c.requires.some e.tests_hand r ∙ inv.lives r;
+      stands = c.same_tests_have_the_same_stands.ensures g.P.Program.rows old new e.set.hands ∙ inv.stands;
+      lives = λ r. c.same_tests_have_the_same_lives.ensures g.P.Program.rows old new c.requires.some e.set.hands r ∙ inv.lives r;
       dry = same new.seat.dry old.seat.dry e.refused ∙ inv.dry;
       hands_are = subst (λ (xs : List (Option HandState)). (r : ℕ) (h : HandState) → hand_at xs r ≡ Some h → IsHandBy (λ thread. no_account) r h) (sym items)
           (hands-more hands hand (subst (λ (n : ℕ). IsHandBy (λ thread. no_account) n hand) row_is by) inv.hands_are);

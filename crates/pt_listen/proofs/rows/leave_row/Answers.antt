@@ -59,8 +59,8 @@ returns-clause-hearing g c =
     let mark = c.detach-batch.result.1 in
     let there : hand_at hands row ≡ Some hand = hand_at_is hands row c.requires.row.0 ∙ c.take_hand-hand.ensures.hand in
     let its = its-left g.P.Program.rows slot row chunks g.P.WatchRun.config c.args.rows.now c.detach-batch.new.self c.give.new.self hands hand rows there
-    c.detach-batch.ensures.expected c.detach-batch.ensures.configured c.detach-batch.ensures.out c.detach-batch.ensures.count c.detach-batch.ensures.attaches
-    (record { expected = c.give.ensures.expected; configured = c.give.ensures.configured; rows = c.give.ensures.count; attaches = c.give.ensures.attaches })
+    c.detach-batch.ensures.expected c.detach-batch.ensures.configured c.detach-batch.ensures.out c.detach-batch.ensures.set.count_is c.detach-batch.ensures.set.attaches
+    (record { expected = c.give.ensures.expected; configured = c.give.ensures.configured; rows = c.give.ensures.set.count_is; attaches = c.give.ensures.set.attaches })
     c.give.ensures.out
     in
     let dry = same c.give.new.self.seat.dry c.detach-batch.new.self.seat.dry c.give.ensures.refused ∙ same c.detach-batch.new.self.seat.dry (c.args.rows.now.seat.dry + mark.refused) c.detach-batch.ensures.refused in
@@ -75,5 +75,5 @@ returns-clause-hearing g c =
 
 pub returns-clause-stands : goal.returns-clause-stands
 returns-clause-stands g c =
-    c.same_tests_have_the_same_stands.ensures g.P.Program.rows c.detach-batch.new.self c.give.new.self c.give.ensures.tests_hand
-    ∙ c.same_tests_have_the_same_stands.ensures g.P.Program.rows c.args.rows.now c.detach-batch.new.self c.detach-batch.ensures.tests_hand
+    c.same_tests_have_the_same_stands.ensures g.P.Program.rows c.detach-batch.new.self c.give.new.self c.give.ensures.set.hands
+    ∙ c.same_tests_have_the_same_stands.ensures g.P.Program.rows c.args.rows.now c.detach-batch.new.self c.detach-batch.ensures.set.hands

@@ -66,8 +66,8 @@ returns g c =
     in
     let its = its-taken g.P.Program.rows c.args.slot row chunks g.P.WatchRun.config c.args.rows.now c.steal-batch.new.self c.give.new.self hands hand now rows there
     (subst (λ (h : HandState). IsSetAt row c.args.slot (Some h) (expected_in c.args.rows.now) (expected_in c.steal-batch.new.self)) hand_is c.steal-batch.ensures.expected)
-    c.steal-batch.ensures.configured c.steal-batch.ensures.out c.steal-batch.ensures.count c.steal-batch.ensures.attaches
-    (record { expected = c.give.ensures.expected; configured = c.give.ensures.configured; rows = c.give.ensures.count; attaches = c.give.ensures.attaches })
+    c.steal-batch.ensures.configured c.steal-batch.ensures.out c.steal-batch.ensures.set.count_is c.steal-batch.ensures.set.attaches
+    (record { expected = c.give.ensures.expected; configured = c.give.ensures.configured; rows = c.give.ensures.set.count_is; attaches = c.give.ensures.set.attaches })
     c.give.ensures.out
     in
     let dry = same c.give.new.self.seat.dry c.steal-batch.new.self.seat.dry c.give.ensures.refused ∙ same c.steal-batch.new.self.seat.dry c.args.rows.now.seat.dry c.steal-batch.ensures.refused in
