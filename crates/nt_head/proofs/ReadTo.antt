@@ -1,13 +1,17 @@
 -- How far a header is read: the fields up to one, all together.
 use Rattle.std.proofs.Common.{◌≡◌, ℕ, ◌<◌, Bool, false, eqb, List, length, get_or, drop, Option, Ok, sym, arith}
 use Rattle.std.specs.Int.{w32, w64}
-use Rattle.std.proofs.lemmas.Bool.{eqb-false}
+use Rattle.std.proofs.lemmas.Bool.{eqb-false, ne_eqb}
 use Rattle.nt_head.specs.declared.flags.TheConstants.{ACTIVITY, METADATA, RELATED, SEQUENCE, STACK, THREAD}
 use Rattle.nt_head.specs.declared.limits.TheConstants.{ID_BYTES}
 use Rattle.pt_num.specs.Fields.{bytes_at, var_at}
 use Rattle.nt_head.specs.Head.{Sequence}
 use Rattle.nt_head.specs.Reading.{has_flag, if_set, sequence_at}
 use Rattle.nt_head.proofs.Steps.{Flags, flags_read}
+
+-- There are bytes, as a test says it.
+pub filled : (bytes : List ℕ) → 0 < length bytes → false ≡ eqb (length bytes) 0
+filled bytes some = sym (ne_eqb (length bytes) 0 (λ none. omega (arith, none)))
 
 -- The flag byte is read where there are bytes.
 pub to_flags : (bytes : List ℕ) → false ≡ eqb (length bytes) 0 → Flags bytes (get_or bytes 0 0)

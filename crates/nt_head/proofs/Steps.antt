@@ -1,6 +1,6 @@
 -- One field of a header after another.
 use Rattle.std.proofs.Common.{◌≡◌, ℕ, ◌+◌, ◌*◌, ◌-◌, ◌%◌, ◌^◌, ◌<◌, ◌≤◌, Bool, true, List, [], ◌∷◌, length, get_or, take, drop, Option, Some, Result, Ok, Err, refl, ap, ◌∙◌, sym, subst, arith}
-use Rattle.std.specs.Prelude.{IfOk, IfErr, IsErrAnd, unwrap_or}
+use Rattle.std.specs.Prelude.{IfErr, IsErrAnd, unwrap_or}
 use Rattle.std.specs.Option.{option_map_or}
 use Rattle.nt_head.specs.declared.flags.TheConstants.{ACTIVITY, METADATA, RELATED, SEQUENCE, SIZE, SORTED, STACK, THREAD}
 use Rattle.nt_head.proofs.Heads.{state-ext}
@@ -9,8 +9,8 @@ use Rattle.std.proofs.lemmas.Bool.{le-ltb, cond-false}
 use Rattle.std.proofs.lemmas.List.{length-drop, drop-drop}
 use Rattle.nt_head.specs.declared.limits.TheConstants.{ID_BYTES}
 use Rattle.nt_head.specs.declared.head.HeadState.{HeadState}
-use Rattle.nt_head.specs.declared.take.Stop.{Stop}
-use Rattle.nt_head.specs.declared.take.Stop.TheVariants as stop
+use Rattle.nt_head.specs.declared.take.HeadStop.{HeadStop}
+use Rattle.nt_head.specs.declared.take.HeadStop.TheVariants as stop
 use Rattle.pt_num.specs.Steps.{◌>>=◌}
 use Rattle.pt_num.specs.Fields.{Field, Fault, Short, TooWide, bytes_at, fixed_at, var_at}
 use Rattle.nt_head.specs.Head.{HeadFields, Sequence, number_after, state_after}
@@ -27,21 +27,31 @@ new_read field bytes start end previous value reads =
       value = refl;
     }
 
--- What is answered of a field that is there.
-pub new_result : {A : Type 0} (field : List ℕ → Field A) (bytes : List ℕ) (start end : ℕ) (previous : A) (there : Bool) (result : Result A Stop) → there ≡ true → IfOk result (λ value. Reads field bytes start end value) → IfOk result (λ now. ReadsNew there field bytes start end previous now)
-new_result field bytes start end previous there (Ok value) set reads = rw set (new_read field bytes start end previous value reads)
-new_result field bytes start end previous there (Err why) set reads = tt
+-- A field whose flag is set is read.
+pub field_read : {A : Type 0} (field : List ℕ → Field A) (bytes : List ℕ) (start end : ℕ) (previous value : A) (there : Bool) → there ≡ true → Reads field bytes start end value → ReadsNew there field bytes start end previous value
+field_read field bytes start end previous value there set reads = rw set (new_read field bytes start end previous value reads)
+
+-- A field whose flag is set stops.
+pub field_stops : {A : Type 0} (field : List ℕ → Field A) (bytes : List ℕ) (start : ℕ) (why : HeadStop) (there : Bool) → there ≡ true → Stops field bytes start why → Stops (if_set there field) bytes start why
+field_stops field bytes start stop.Short there set stops =
+    rw set (ap (λ (f : Field _). f >>= λ x. Ok (Some x.0, x.1)) stops)
+field_stops field bytes start (stop.BadVar at) there set stops =
+    (stops.0, rw set (ap (λ (f : Field _). f >>= λ x. Ok (Some x.0, x.1)) stops.1))
 
 -- The three fields of the sequence are read.
 pub sequence_read : (bytes : List ℕ) (start first second end increment capture processor : ℕ) → Reads (var_at w32) bytes start first increment → Reads (var_at w64) bytes first second capture → Reads (var_at w32) bytes second end processor → if_set true sequence_at (drop start bytes) ≡ Ok (Some (record { increment = increment; capture = capture; processor = processor }), drop end bytes)
 sequence_read bytes start first second end increment capture processor a b c = rw (a.read, b.read, c.read) refl
+
+-- The sequence whose flag is set is read.
+pub sequence_there : (there : Bool) (bytes : List ℕ) (read : Field (Option Sequence)) → true ≡ there → if_set true sequence_at bytes ≡ read → if_set there sequence_at bytes ≡ read
+sequence_there there bytes read set e = subst (λ (t : Bool). if_set t sequence_at bytes ≡ read) set e
 
 -- The fields of the bytes so far, and one that stops.
 pub record Carries {A : Type 0} (field : List ℕ → Field A) (bytes : List ℕ) (start : ℕ) : Type 0 where
   pub carry : (fault : Fault) → field (drop start bytes) ≡ Err fault → fields_at bytes ≡ Err fault
 
 -- Where a field stops, the header does.
-pub head_stops : {A : Type 0} (field : List ℕ → Field A) (previous : HeadState) (bytes : List ℕ) (start : ℕ) (why : Stop) → Carries field bytes start → Stops field bytes start why → Stops (head_at previous) bytes 0 why
+pub head_stops : {A : Type 0} (field : List ℕ → Field A) (previous : HeadState) (bytes : List ℕ) (start : ℕ) (why : HeadStop) → Carries field bytes start → Stops field bytes start why → Stops (head_at previous) bytes 0 why
 head_stops field previous bytes start stop.Short carries stops =
     ap (λ (f : Field HeadFields). f >>= λ fields. Ok (state_after previous fields.0, fields.1)) (carries.carry Short stops)
 head_stops field previous bytes start (stop.BadVar at) carries stops =
@@ -58,8 +68,8 @@ stop_flags [] previous none = refl
 stop_flags (b ∷ bytes) previous none = absurd (omega arith)
 
 -- What is answered is why the field stopped.
-pub stops_answer : (result : Result HeadState Stop) (why : Stop) (P : Stop → Type 0) → IsErrAnd result (λ e. e ≡ why) → P why → IfErr result P
-stops_answer (Ok state) why P is p = tt
+pub stops_answer : {A : Type 0} (result : Result A HeadStop) (why : HeadStop) (P : HeadStop → Type 0) → IsErrAnd result (λ e. e ≡ why) → P why → IfErr result P
+stops_answer (Ok value) why P is p = tt
 stops_answer (Err e) why P is p = subst P (sym is) p
 
 -- The state that fields say, part by part.

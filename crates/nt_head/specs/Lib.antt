@@ -2,5 +2,5 @@
 pub mod Head
 pub mod Fewest
 pub mod Reading
--- what private functions answer
+-- what one step answers
 pub mod Places

@@ -1,9 +1,9 @@
--- For private functions: what one step reads at a place of the bytes, after which the place moves.
+-- What one step reads at a place of the bytes, after which the place moves.
 use Rattle.std.specs.Prelude.{◌≡◌, ℕ, ◌≤◌, Bool, List, length, drop, Option, Ok, Err, unwrap_or}
 use Rattle.std.specs.Option.{option_map_or}
 use Rattle.nt_head.specs.declared.head.HeadState.{HeadState}
-use Rattle.nt_head.specs.declared.take.Stop.{Stop}
-use Rattle.nt_head.specs.declared.take.Stop.TheVariants as stop
+use Rattle.nt_head.specs.declared.take.HeadStop.{HeadStop}
+use Rattle.nt_head.specs.declared.take.HeadStop.TheVariants as stop
 use Rattle.nt_head.specs.declared.take.Numbers.{Numbers}
 use Rattle.pt_num.specs.Fields.{Field, Short, TooWide}
 use Rattle.nt_head.specs.Head.{Sequence, number_after}
@@ -15,7 +15,7 @@ pub record Reads {A : Type 0} (field : List ℕ → Field A) (bytes : List ℕ) 
   pub read : field (drop start bytes) ≡ Ok (value, drop end bytes)
 
 -- The field at a place is cut, or has a varuint that is too wide.
-abbrev pub Stops : {A : Type 0} → (List ℕ → Field A) → List ℕ → ℕ → Stop → Type 0
+abbrev pub Stops : {A : Type 0} → (List ℕ → Field A) → List ℕ → ℕ → HeadStop → Type 0
 Stops field bytes start stop.Short = field (drop start bytes) ≡ Err Short
 Stops field bytes start (stop.BadVar at) = (at ≤ length bytes) × (field (drop start bytes) ≡ Err (TooWide (drop at bytes)))
 

@@ -21,4 +21,4 @@ mod take;
 pub use head::{HeadState, state_fits};
 pub use laws::{no_form_begins_another, what_is_put_is_taken, what_is_taken_is_a_form};
 pub use put::{push_head, push_next, put_head};
-pub use take::{TakenHead, take_head};
+pub use take::{HeadStop, TakenHead, take_head, take_next};
