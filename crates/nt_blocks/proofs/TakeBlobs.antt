@@ -1,17 +1,19 @@
 -- What a blob, and blobs one after another, are read as.
 use Rattle.std.proofs.Common.{◌≡◌, ℕ, zero, suc, ◌+◌, ◌-◌, ◌<◌, ◌≤◌, true, false, Result, Ok, Err, List, [], ◌∷◌, ◌++◌, length, take, drop, refl, sym, ap, subst, ◌∙◌, append_assoc, eq-eqb, arith, length-drop}
+use Rattle.std.specs.Prelude.{IfErr}
 use Rattle.std.proofs.lemmas.Bool.{lt-ltb, le-ltb, ne_eqb}
 use Rattle.std.proofs.lemmas.List.{append-nil, drop-drop}
 use Rattle.ep_defs.specs.declared.item.Item.{Item}
 use Rattle.ep_defs.specs.declared.item.ItemKind.{ItemKind}
 use Rattle.pt_num.specs.Steps.{◌>>=◌}
-use Rattle.pt_num.specs.Fields.{Fault, Field, Short, TooWide, bytes_at}
+use Rattle.pt_num.specs.Fields.{Fault, Short, TooWide, bytes_at}
 use Rattle.nt_object.specs.declared.object.BlockKind.{BlockKind}
 use Rattle.nt_head.specs.declared.head.HeadState.{HeadState}
 use Rattle.nt_head.specs.Head.{zero_state}
-use Rattle.nt_head.specs.declared.take.TakenHead.{TakenHead}
-use Rattle.nt_head.specs.declared.take.TakenHead.TheVariants as taken
-use Rattle.nt_head.specs.Reading.{head_at, TakesHead}
+use Rattle.nt_head.specs.declared.take.HeadStop.{HeadStop}
+use Rattle.nt_head.specs.declared.take.HeadStop.TheVariants as stop
+use Rattle.nt_head.specs.Places.{Stops}
+use Rattle.nt_head.specs.Reading.{head_at}
 use Rattle.nt_blocks.specs.declared.take.Blob.{Blob}
 use Rattle.nt_blocks.specs.declared.take.BodyFault.{BodyFault}
 use Rattle.nt_blocks.specs.declared.take.BodyFault.TheVariants as fault
@@ -74,10 +76,10 @@ unfolding blob_at
 blob_headless kind at before bytes why read = rw read
 
 -- What is taken as no header is read as none.
-pub head-none : (field : Field HeadState) (bytes : List ℕ) (answer : TakenHead) → TakesHead field bytes answer → ((state : HeadState) (used : ℕ) → answer ≡ taken.Head state used → ⊥) → (why : Fault) × (field ≡ Err why)
-head-none field bytes (taken.Head state used) e other = absurd (other state used refl)
-head-none field bytes taken.Short e other = (Short, e)
-head-none field bytes (taken.BadVar at) e other = (TooWide (drop at bytes), e.1)
+pub head-none : (before : HeadState) (bytes : List ℕ) (answer : Result ℕ HeadStop) → IfErr answer (λ why. Stops (head_at before) bytes 0 why) → ((used : ℕ) → answer ≡ Ok used → ⊥) → (why : Fault) × (head_at before bytes ≡ Err why)
+head-none before bytes (Ok used) e other = absurd (other used refl)
+head-none before bytes (Err stop.Short) e other = (Short, e)
+head-none before bytes (Err (stop.BadVar at)) e other = (TooWide (drop at bytes), e.1)
 
 -- A header that such a blob may not have.
 pub blob_unfit : (kind : BlockKind) (at used : ℕ) (before head : HeadState) (bytes : List ℕ) → head_at before bytes ≡ Ok (head, drop used bytes) → may_head kind head ≡ false → blob_at kind (record { at = at; before = before }) bytes ≡ Err (refusal at BadHead)

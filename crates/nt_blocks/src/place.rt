@@ -5,7 +5,7 @@ ghost use Rattle.nt_blocks.specs.Refusals.{body_at};
 ghost use Rattle.nt_blocks.specs.Taking.{IsFault, StandsWithin};
 ghost use Rattle.nt_blocks.specs.state.Places.{Places};
 
-use crate::take::{BlobHead, BodyFault, blob_head, header_size};
+use crate::take::{BodyFault, header_size, next_head};
 use nt_head::HeadState;
 use nt_object::BlockKind;
 
@@ -30,19 +30,19 @@ pub fn place_events(body: &[u8], at: u64, events: &mut Vec<EventPlace>) -> Resul
     ensures stands { IfErr result (λ fault. StandsWithin (length body.now) fault) }
 {
     let mut here = header_size(body)?;
-    let mut before = HeadState::zero();
+    let mut head = HeadState::zero();
     while here < body.len() {
-        let bytes = &body[here..];
-        let Some(BlobHead { state, used }) = blob_head(BlockKind::Event, &before, bytes) else {
+        let Some(used) = next_head(BlockKind::Event, &mut head, &body[here..]) else {
             return Err(BodyFault::BadHead { at: here });
         };
-        events.push(EventPlace {
+        // The room comes first, so that no answer carries an event that could not be put.
+        events.reserve(1)?;
+        events.push_reserved(EventPlace {
             at: at + here as u64,
-            head: state,
+            head,
             payload: here + used,
-        })?;
-        here += used + state.size as usize;
-        before = state;
+        });
+        here += used + head.size as usize;
     }
     Ok(())
 }

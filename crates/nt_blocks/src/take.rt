@@ -10,7 +10,7 @@ ghost use Rattle.nt_blocks.specs.state.Taken.{CountsStacks, CountsThreads, Reads
 use crate::limits::{HEADER_BYTES, LAST_COUNT};
 use byteorder::{ByteOrder, LittleEndian};
 use ep_defs::{Bytes, Item, ItemKind, ThreadNumbers};
-use nt_head::{HeadState, TakenHead, take_head};
+use nt_head::{HeadState, take_next};
 use nt_meta::{TakenMeta, take_meta};
 use nt_object::BlockKind;
 use pt_num::{take_u32, take_u64};
@@ -177,7 +177,8 @@ fn take_blob(
         → IsFault (blob_at kind (record { at = at + here; before = before.now }) bytes.now) at fault) }
     ensures stands { IfErr result (λ fault. StandsWithin (here + length bytes.now) fault) }
 {
-    let Some(BlobHead { state, used }) = blob_head(kind, before, bytes) else {
+    let mut state = *before;
+    let Some(used) = next_head(kind, &mut state, bytes) else {
         return Err(BodyFault::BadHead { at: here });
     };
     let end = used + state.size as usize;
@@ -189,26 +190,21 @@ fn take_blob(
     })
 }
 
-// What the header of a blob says, and the number of its bytes.
-#[derive(Clone, Copy, Drop)]
-pub(crate) struct BlobHead {
-    pub(crate) state: HeadState,
-    pub(crate) used: usize,
-}
-
-// The header at the front of the bytes, if a blob of such a block may have it and its payload is there.
-pub(crate) fn blob_head(kind: BlockKind, before: &HeadState, bytes: &[u8]) -> Option<BlobHead>
-    ensures some { IfSome result (λ head. ReadsHead kind before.now bytes.now head.state head.used) }
+// Reads the header at the front of the bytes into the state of the blob before it, if a blob of such a block may have it
+// and its payload is there, and answers the number of its bytes.
+#[inline(always)]
+pub(crate) fn next_head(kind: BlockKind, state: &mut HeadState, bytes: &[u8]) -> Option<usize>
+    ensures some { IfSome result (λ used. ReadsHead kind state.old bytes.now state.new used) }
     ensures none { IsNone result → (at : ℕ)
-        → blob_at kind (record { at = at; before = before.now }) bytes.now ≡ Err (refusal at BadHead) }
+        → blob_at kind (record { at = at; before = state.old }) bytes.now ≡ Err (refusal at BadHead) }
 {
-    let TakenHead::Head { state, used } = take_head(bytes, before) else {
+    let Ok(used) = take_next(bytes, state) else {
         return None;
     };
-    if !may_head(kind, &state) || bytes.len() - used < state.size as usize {
+    if !may_head(kind, state) || bytes.len() - used < state.size as usize {
         return None;
     }
-    Some(BlobHead { state, used })
+    Some(used)
 }
 
 // Whether a blob of such a block may have this header. An event's names its definition.

@@ -14,20 +14,20 @@ returns-in_err-here-clause-fault c =
 
 pub loop-here-init : goal.loop-here-init
 loop-here-init c =
-    rw c.zero-before.ensures (placing_start c.args.at c.in_ok-here.here c.args.body.now c.args.events.now.items c.requires.none (c.in_ok-here.ensures.ok c.args.at) c.in_ok-here.ensures.within)
+    rw c.zero-head.ensures (placing_start c.args.at c.in_ok-here.here c.args.body.now c.args.events.now.items c.requires.none (c.in_ok-here.ensures.ok c.args.at) c.in_ok-here.ensures.within)
 
 pub returns-in_default-clause-fault : goal.returns-in_default-clause-fault
 returns-in_default-clause-fault c =
     let here = c.loop-here.here in
-    placing_stop c.args.at here c.args.body.now c.loop-here.before c.loop-here.events.items (BadHead here) c.loop-here.invariant c.loop-here-test.true
+    placing_stop c.args.at here c.args.body.now c.loop-here.head c.loop-here.events.items (BadHead here) c.loop-here.invariant c.loop-here-test.true
     (rw (rest_is here c.args.body.now) at (c.in_default.ensures.none refl (c.args.at + here)))
 
 pub loop-here-preserved : goal.loop-here-preserved
 loop-here-preserved c =
     let here = c.loop-here.here in
     let reads = rw (rest_is here c.args.body.now) at c.in-Some.ensures.some in
-    placing_step c.args.at here c.in-Some.field-0.used c.args.body.now c.loop-here.events.items c.push.new.self.items c.loop-here.before c.in-Some.field-0.state c.loop-here.invariant c.loop-here-test.true reads c.in_ok-push.ensures.items
+    placing_step c.args.at here c.in-Some.used c.args.body.now c.loop-here.events.items c.push_reserved.new.self.items c.loop-here.head c.next_head.new.state c.loop-here.invariant c.loop-here-test.true reads (rw c.reserve.ensures.items at c.push_reserved.ensures.items)
 
 pub returns-clause-ok : goal.returns-clause-ok
 returns-clause-ok c =
-    placing_end c.args.at c.loop-here.here c.args.body.now c.loop-here.before c.loop-here.events.items c.loop-here.invariant c.loop-here-test.false
+    placing_end c.args.at c.loop-here.here c.args.body.now c.loop-here.head c.loop-here.events.items c.loop-here.invariant c.loop-here-test.false
