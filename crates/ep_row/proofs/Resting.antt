@@ -17,7 +17,7 @@ use Rattle.ep_model.specs.History.{admits_write, admitted_from}
 use Rattle.ep_row.specs.declared.row.Opening.{Opening}
 use Rattle.ep_row.specs.Bits.{one_if, SetsBits, ClearsBit}
 use Rattle.ep_row.specs.Row.{RowState, slot_of, mask_of, gets, with_begin, new_row}
-use Rattle.ep_row.specs.AtRest.{OpenAtRest, RowAtRest, with_config}
+use Rattle.ep_row.specs.AtRest.{OpenAtRest, RowAtRest, IsUnwanted, with_config}
 
 -- The session gets the write, if there is one.
 abbrev gets_of : List EventDef → Config → Option Write → Bool
@@ -100,6 +100,25 @@ pub begin-rests : (events : List EventDef) (configs : ℕ → Config) (writes : 
 begin-rests events configs writes row stamp write count rest quiet stays some within few =
     let e : write.event ≡ suc (write.event - 1) = omega arith in
     begin-at (write.event - 1) events configs writes row stamp write e count rest quiet stays within few
+
+-- A write that no session gets leaves no slot due, and each with what it was shown.
+pub pass-rests : (events : List EventDef) (configs : ℕ → Config) (writes : List Write) (row : RowState) (write : Write) → length events ≡ length row.masks → RowAtRest events configs writes row → row.in_write ≡ false → row.left ≡ false → IsUnwanted write row → row.index < WRITES → RowAtRest events configs (writes ++ write ∷ []) (record row { index = row.index + 1 })
+pass-rests events configs writes row write count rest quiet stays unwanted few =
+    let begun = begin-rests events configs writes row row.stamp write count rest quiet stays unwanted.some unwanted.event few in
+    let unmasked : (s : ℕ) → bit_at (mask_of row write.event) s ≡ 0 = λ s. ap (λ (n : ℕ). bit_at n s) unwanted.none ∙ bit_at-zero s in
+    record {
+      index = begun.index;
+      few = begun.few;
+      masks = rest.masks;
+      due = λ s h one. let none = quiet-bit events configs writes row s rest quiet h in absurd (omega (arith, none, one));
+      slots =
+          λ s h opening is.
+          let now = begun.slots s h opening is in
+          let none = quiet-bit events configs writes row s rest quiet h in
+          let unmasked' = unmasked s in
+          record { from = now.from; shown = omega (arith, now.shown, none, unmasked') };
+      left = λ e. absurd (false≢true (sym stays ∙ e));
+    }
 
 -- ---- the other calls
 

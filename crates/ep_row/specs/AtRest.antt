@@ -14,7 +14,7 @@ use Rattle.ep_chunk.specs.Record.{Record}
 use Rattle.ep_slot.specs.Slot.{SlotState}
 use Rattle.ep_row.specs.declared.row.Opening.{Opening}
 use Rattle.ep_row.specs.Bits.{one_if}
-use Rattle.ep_row.specs.Row.{RowState, slot_of, gets, admitted_of}
+use Rattle.ep_row.specs.Row.{RowState, slot_of, mask_of, gets, admitted_of}
 
 -- The last write of the list is one that the session gets.
 abbrev pub gets_last : List EventDef → Config → List Write → Bool
@@ -46,6 +46,12 @@ KeepsRest old new =
 abbrev pub KeepsRestWith : Write → RowState → RowState → Type 0
 KeepsRestWith write old new =
     (events : List EventDef) (configs : ℕ → Config) (writes : List Write) → length events ≡ length old.masks → RowAtRest events configs writes old → RowAtRest events configs (writes ++ write ∷ []) new
+
+-- The write is of an event that no session gets that is open on the row.
+pub record IsUnwanted (write : Write) (row : RowState) : Type 0 where
+  pub some : 0 < write.event
+  pub event : write.event ≤ length row.masks
+  pub none : mask_of row write.event ≡ 0
 
 -- The configurations with that of a session that is opened in a slot.
 abbrev pub with_config : (ℕ → Config) → ℕ → Config → ℕ → Config

@@ -2,6 +2,7 @@
 ghost use Rattle.std.specs.Prelude.{◌≡◌, ℕ, ◌+◌, ◌^◌, ◌<◌, ◌≤◌, true, false, length, All, IfOk, IfSome, OnOk, OnErr, IsTrue, IsNone, is_some, ◌↔◌, if◌then◌else◌, Some, None, slice_set};
 ghost use Rattle.std.specs.Int.{bit_at};
 ghost use Rattle.ep_defs.specs.Session as valid;
+ghost use Rattle.ep_defs.specs.declared.session.Write.{Write as WriteValue};
 ghost use Rattle.ep_model.specs.Budget.{needs_chunk, record_size};
 ghost use Rattle.ep_slot.specs.Chain.{records_of, HasRecords};
 ghost use Rattle.ep_slot.specs.Asked.{IsAsked};
@@ -56,7 +57,7 @@ impl Model for Row {
 
 impl Row {
     ghost use Rattle.ep_row.specs.Row.{new_row, slot_of, mask_of, opening_of, HasOpen, with_begin};
-    ghost use Rattle.ep_row.specs.AtRest.{KeepsRest, KeepsRestWith, KeepsRestOpened, KeepsRestAdmitted, KeepsRestAnew, KeepsSlotRest, KeepsStolenRest, RestsAnew};
+    ghost use Rattle.ep_row.specs.AtRest.{IsUnwanted, KeepsRest, KeepsRestWith, KeepsRestOpened, KeepsRestAdmitted, KeepsRestAnew, KeepsSlotRest, KeepsStolenRest, RestsAnew};
 
     /// The row of a thread that has made no write, in a program of this many events.
     pub fn new(alloc: Global, thread: u64, events: u32) -> Result<Row, AllocError>
@@ -268,6 +269,29 @@ impl Row {
         ensures { IsTrue result ↔ All IsNone self.now.slots }
     {
         self.slots.iter().all(|slot| slot.is_none())
+    }
+
+    /// Whether no session that is open gets this event. It looks at one mask.
+    #[inline(always)]
+    pub fn is_unwanted(&self, event: u32) -> bool
+        requires some { 0 < event }
+        requires events { event ≤ length self.now.masks }
+        ensures { IsTrue result ↔ (mask_of self.now event ≡ 0) }
+    {
+        self.masks[event as usize - 1] == 0
+    }
+
+    /// Takes by a write that no session gets: it is one of the thread's writes, and nothing else of the row changes. So
+    /// nothing of it is read but, before, its event.
+    #[inline(always)]
+    pub fn pass_over(&mut self)
+        requires quiet { self.old.in_write ≡ false }
+        requires stays { self.old.left ≡ false }
+        requires few { self.old.index < WRITES }
+        ensures row { self.new ≡ record self.old { index = self.old.index + 1 } }
+        ensures rest { (write : WriteValue) → IsUnwanted write self.old → KeepsRestWith write self.old self.new }
+    {
+        self.index += 1;
     }
 
     /// Begins a write, and answers a bit for each slot whose session gets it. It looks at one mask.
