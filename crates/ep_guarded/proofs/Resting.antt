@@ -1,5 +1,5 @@
 -- What each call makes of a row with its halves is at rest.
-use Rattle.std.proofs.Common.{◌≡◌, ℕ, zero, suc, ◌+◌, ◌-◌, ◌*◌, ◌<◌, Bool, true, false, List, [], ◌∷◌, ◌++◌, length, take, Option, None, Some, refl, ap, sym, ◌∙◌, subst, arith, inl, inr, get_or}
+use Rattle.std.proofs.Common.{◌≡◌, ℕ, zero, suc, ◌+◌, ◌-◌, ◌*◌, ◌<◌, ◌≤◌, Bool, true, false, List, [], ◌∷◌, ◌++◌, length, take, Option, None, Some, refl, ap, sym, ◌∙◌, subst, arith, inl, inr, get_or}
 use Rattle.std.specs.Prelude.{if◌then◌else◌, option_map, is_some, slice_get, slice_set, IsSome}
 use Rattle.std.specs.Int.{bit_at}
 use Rattle.std.proofs.Math.Seq.{take-suc}
@@ -11,8 +11,8 @@ use Rattle.ep_defs.specs.declared.event.EventDef.{EventDef}
 use Rattle.ep_defs.specs.declared.session.Config.{Config}
 use Rattle.ep_defs.specs.declared.session.Write.{Write}
 use Rattle.ep_row.specs.declared.row.Opening.{Opening}
-use Rattle.ep_row.specs.Row.{RowState, slot_of, with_begin}
-use Rattle.ep_row.specs.AtRest.{RowAtRest, KeepsRest, KeepsRestWith}
+use Rattle.ep_row.specs.Row.{RowState, slot_of, mask_of, with_begin}
+use Rattle.ep_row.specs.AtRest.{RowAtRest, IsUnwanted, KeepsRest, KeepsRestWith}
 use Rattle.ep_tie.specs.Tied.{Tied}
 use Rattle.ep_guarded.specs.declared.agreed.Told.{Told}
 use Rattle.ep_guarded.specs.declared.agreed.Agreed.{Agreed}
@@ -60,17 +60,18 @@ over-kept events configs writes old new over keeps masks index left =
       left = λ gone. index ∙ over.left (sym left ∙ gone);
     }
 
-over-begun : (events : List EventDef) (configs : ℕ → Config) (writes : List Write) (old : RowState) (stamp : ℕ) (write : Write) → RowOver events configs writes old → old.left ≡ false → KeepsRestWith write old (with_begin old stamp write) → slice_get writes old.index ≡ Some write → RowOver events configs writes (with_begin old stamp write)
-over-begun events configs writes old stamp write over stays keeps next =
+-- The thread has one write more.
+over-more : (events : List EventDef) (configs : ℕ → Config) (writes : List Write) (old new : RowState) (write : Write) → RowOver events configs writes old → old.left ≡ false → KeepsRestWith write old new → new.index ≡ old.index + 1 → new.left ≡ old.left → new.masks ≡ old.masks → slice_get writes old.index ≡ Some write → RowOver events configs writes new
+over-more events configs writes old new write over stays keeps index left masks next =
     let within = slice_get_within writes old.index write next in
-    let more : take (old.index + 1) writes ≡ take old.index writes ++ write ∷ [] =
-    ap (λ (n : ℕ). take n writes) {x = old.index + 1} {y = suc old.index} (omega arith) ∙ take-suc writes old.index write within
+    let more : take new.index writes ≡ take old.index writes ++ write ∷ [] =
+    ap (λ (n : ℕ). take n writes) {x = new.index} {y = suc old.index} (omega (arith, index)) ∙ take-suc writes old.index write within
     ∙ ap (λ (w : Write). take old.index writes ++ w ∷ []) (get_or_from_slice_get writes old.index write write next)
     in
     record {
-      events_are = over.events_are;
-      rest = subst (λ (ws : List Write). RowAtRest events configs ws (with_begin old stamp write)) (sym more) (keeps events configs (take old.index writes) over.events_are over.rest);
-      left = λ gone. absurd (true≢false (sym gone ∙ stays));
+      events_are = over.events_are ∙ sym (ap (length {A = ℕ}) masks);
+      rest = subst (λ (ws : List Write). RowAtRest events configs ws new) (sym more) (keeps events configs (take old.index writes) over.events_are over.rest);
+      left = λ gone. absurd (true≢false (sym gone ∙ left ∙ stays));
     }
 
 -- ---- the row and its thread
@@ -125,20 +126,38 @@ row-ended rows events writes life old new buffers writer rests keeps is =
       thread_is = thread ∙ rests.thread_is;
     }
 
-pub row-begun : (rows : ℕ) (events : List EventDef) (writes : ℕ → List Write) (life : ℕ) (old new : RowState) (stamp : ℕ) (write : Write) (buffers : List (Tied Agreed)) (writer now : Tied Agreed) → RowRests rows events writes life old buffers writer → old.left ≡ false → KeepsRestWith write old new → new ≡ with_begin old stamp write → slice_get (writes old.thread) old.index ≡ Some write → now.place ≡ writer.place → now.value ≡ Some (agreed.Stand (record { thread = old.thread; index = old.index + 1 })) → RowRests rows events writes life new buffers now
-row-begun rows events writes life old new stamp write buffers writer now rests stays keeps is next place stands =
-    let begun : RowState = with_begin old stamp write in
-    let over = over-begun events rests.configs (writes old.thread) old stamp write rests.over stays (subst (KeepsRestWith write old) is keeps) next in
-    subst (λ (r : RowState). RowRests rows events writes life r buffers now) (sym is)
-    (record {
+row-more : (rows : ℕ) (events : List EventDef) (writes : ℕ → List Write) (life : ℕ) (old new : RowState) (write : Write) (buffers : List (Tied Agreed)) (writer now : Tied Agreed) → RowRests rows events writes life old buffers writer → old.left ≡ false → KeepsRestWith write old new → new.thread ≡ old.thread → new.index ≡ old.index + 1 → new.left ≡ old.left → new.masks ≡ old.masks → new.slots ≡ old.slots → slice_get (writes old.thread) old.index ≡ Some write → now.place ≡ writer.place → now.value ≡ Some (agreed.Stand (record { thread = old.thread; index = old.index + 1 })) → RowRests rows events writes life new buffers now
+row-more rows events writes life old new write buffers writer now rests stays keeps thread index left masks slots next place stands =
+    let over = over-more events rests.configs (writes old.thread) old new write rests.over stays keeps index left masks next in
+    record {
       configs = rests.configs;
-      over = over;
+      over = subst (λ (t : ℕ). RowOver events rests.configs (writes t) new) (sym thread) over;
       count = rests.count;
       places = λ s half at. subst (λ (p : ℕ). half.place ≡ rows + 2 * (p * 64 + s)) (sym place) (rests.places s half at);
-      told = λ s half at. told-kept old begun (rests.configs s) s half.value refl refl (rests.told s half at);
-      stands = stands ∙ ap (λ (v : Bool). Some (if v then agreed.Left (stand_of begun) else agreed.Stand (stand_of begun))) (sym stays);
-      thread_is = rests.thread_is ∙ ap (λ (p : ℕ). thread_of rows p life) (sym place);
-    })
+      told = λ s half at. told-kept old new (rests.configs s) s half.value (ap (λ (os : List (Option Opening)). get_or os s None) slots) thread (rests.told s half at);
+      stands = stands
+          ∙ ap (λ (t : ℕ). Some (agreed.Stand (record { thread = t; index = old.index + 1 }))) (sym thread)
+          ∙ ap (λ (i : ℕ). Some (agreed.Stand (record { thread = new.thread; index = i }))) (sym index)
+          ∙ ap (λ (v : Bool). Some (if v then agreed.Left (stand_of new) else agreed.Stand (stand_of new))) (sym (left ∙ stays));
+      thread_is = thread ∙ rests.thread_is ∙ ap (λ (p : ℕ). thread_of rows p life) (sym place);
+    }
+
+pub row-begun : (rows : ℕ) (events : List EventDef) (writes : ℕ → List Write) (life : ℕ) (old new : RowState) (stamp : ℕ) (write : Write) (buffers : List (Tied Agreed)) (writer now : Tied Agreed) → RowRests rows events writes life old buffers writer → old.left ≡ false → KeepsRestWith write old new → new ≡ with_begin old stamp write → slice_get (writes old.thread) old.index ≡ Some write → now.place ≡ writer.place → now.value ≡ Some (agreed.Stand (record { thread = old.thread; index = old.index + 1 })) → RowRests rows events writes life new buffers now
+row-begun rows events writes life old new stamp write buffers writer now rests stays keeps is =
+    row-more rows events writes life old new write buffers writer now rests stays keeps (ap (λ (r : RowState). r.thread) is) (ap (λ (r : RowState). r.index) is) (ap (λ (r : RowState). r.left) is) (ap (λ (r : RowState). r.masks) is) (ap (λ (r : RowState). r.slots) is)
+
+pub row-passed : (rows : ℕ) (events : List EventDef) (writes : ℕ → List Write) (life : ℕ) (old new : RowState) (write : Write) (buffers : List (Tied Agreed)) (writer now : Tied Agreed) → RowRests rows events writes life old buffers writer → old.left ≡ false → KeepsRestWith write old new → new ≡ record old { index = old.index + 1 } → slice_get (writes old.thread) old.index ≡ Some write → now.place ≡ writer.place → now.value ≡ Some (agreed.Stand (record { thread = old.thread; index = old.index + 1 })) → RowRests rows events writes life new buffers now
+row-passed rows events writes life old new write buffers writer now rests stays keeps is =
+    row-more rows events writes life old new write buffers writer now rests stays keeps (ap (λ (r : RowState). r.thread) is) (ap (λ (r : RowState). r.index) is) (ap (λ (r : RowState). r.left) is) (ap (λ (r : RowState). r.masks) is) (ap (λ (r : RowState). r.slots) is)
+
+-- No session that is open gets the write.
+pub unwanted : (events : List EventDef) (configs : ℕ → Config) (writes : List Write) (row : RowState) (event : ℕ) (write : Write) → RowOver events configs writes row → write.event ≡ event → 0 < event → event ≤ length events → mask_of row event ≡ 0 → IsUnwanted write row
+unwanted events configs writes row event write over is some within none =
+    record {
+      some = omega (arith, is, some);
+      event = omega (arith, is, within, over.events_are);
+      none = ap (mask_of row) is ∙ none;
+    }
 
 -- A slot that is on is told.
 tells-on : (value : Option Agreed) → is_some (option_map (λ t. t.opening) (told_in value)) ≡ true → (told : Told) × (value ≡ Some (agreed.Told told))

@@ -1,5 +1,5 @@
 -- What contracts see of rows and buffers with their halves of ties. All of it is this project's own.
-use Rattle.std.specs.Prelude.{ℕ, ◌+◌, ◌*◌, ◌≤◌, List, length, take, Option, None, Some, slice_set}
+use Rattle.std.specs.Prelude.{ℕ, ◌+◌, ◌*◌, ◌≤◌, List, length, take, Option, None, Some, slice_get, slice_set}
 use Rattle.std.specs.List.{All}
 use Rattle.std.specs.Prelude.{◌≡◌, ◌≢◌, ◌⊎◌, ◌↔◌, true, IsTrue}
 use Rattle.ep_defs.specs.declared.limits.TheConstants.{SESSIONS}
@@ -93,6 +93,12 @@ IsAway life state = (state.row.left ≡ true) ⊎ (state.life ≢ life)
 -- The row serves this life, and its thread has begun so many writes.
 abbrev pub IsDone : ℕ → ℕ → TiedRowState → Type 0
 IsDone life writes state = (state.life ≡ life) × (state.row.index ≡ writes)
+
+-- After so many writes of a list comes one of this event.
+pub record IsNextOf (event : ℕ) (writes : List Write) (index : ℕ) : Type 0 where
+  pub write : Write
+  pub next : slice_get writes index ≡ Some write
+  pub event_is : write.event ≡ event
 
 -- What is open in a buffer: the session's slot on the row's thread, and a seat of the session's pool.
 pub record KeptState : Type 0 where

@@ -9,7 +9,7 @@ ghost use Rattle.ep_tie.specs.Tied.{Tied};
 ghost use Rattle.ep_guarded.specs.declared.agreed.Agreed.{Agreed as AgreedValue};
 ghost use Rattle.ep_guarded.specs.declared.agreed.Agreed.TheVariants as agreed;
 ghost use Rattle.ep_guarded.specs.declared.row.NotOpened.TheVariants as not_opened;
-ghost use Rattle.ep_guarded.specs.Tied.{stand_in, left_in, next_stand, thread_of, buffer_number, buffer_place, AnswersShow, ChangesOpenings, IsAway, IsDone};
+ghost use Rattle.ep_guarded.specs.Tied.{stand_in, left_in, next_stand, thread_of, buffer_number, buffer_place, AnswersShow, ChangesOpenings, IsAway, IsDone, IsNextOf};
 ghost use Rattle.ep_guarded.specs.Sessions.{Opens, Closes, IsOpenable, IsClosable};
 
 use crate::agreed::{Agreed, Stand};
@@ -123,6 +123,43 @@ impl<'a, P: Program> TiedRow<'a, P> {
         });
         self.writer.set(ties, half, &next);
         self.row.begin(stamp, write)
+    }
+
+    /// Takes by the next write of the row's thread, which has its half of the tie, where no session that is open gets its
+    /// event, and answers whether it did. Then it is one of the thread's writes, and nothing else changes; elsewhere all
+    /// stays as it was. It looks at one mask, and at nothing of the write but its event. It takes no memory.
+    #[inline(always)]
+    pub fn pass_over(
+        &mut self,
+        ties: &Ties<P, Agreed<'a>>,
+        half: &mut Right<P, Agreed<'a>>,
+        event: u32,
+    ) -> bool
+        requires place { half.old.place ≡ self.old.number }
+        requires here { IsSome (stand_in half.old.value) }
+        requires quiet { self.old.row.in_write ≡ false }
+        requires few { ForSome (stand_in half.old.value) (λ s. s.index < WRITES) }
+        requires next { ForSome (stand_in half.old.value) (λ s. IsNextOf event (P.writes s.thread) s.index) }
+        requires some { 0 < event }
+        requires event { event ≤ length P.events }
+        ensures unwanted { IsTrue result ↔ (mask_of self.old.row event ≡ 0) }
+        ensures row { result ≡ true → self.new ≡ record self.old { row = record self.old.row { index = self.old.row.index + 1 } } }
+        ensures stood { result ≡ true → half.old.value ≡ Some (agreed.Stand (record { thread = self.old.row.thread; index = self.old.row.index })) }
+        ensures stands { result ≡ true → half.new.value ≡ Some (agreed.Stand (record { thread = self.old.row.thread; index = self.old.row.index + 1 })) }
+        ensures stays { result ≡ false → (self.new ≡ self.old) × (half.new ≡ half.old) }
+        ensures place { half.new.place ≡ half.old.place }
+    {
+        if self.row.is_unwanted(event) {
+            let next = Agreed::Stand(Stand {
+                thread: self.row.thread(),
+                index: self.row.index() + 1,
+            });
+            self.writer.set(ties, half, &next);
+            self.row.pass_over();
+            true
+        } else {
+            false
+        }
     }
 
     /// How far the row's thread has come, by the thread's half of the tie. It changes nothing, takes no memory and waits
