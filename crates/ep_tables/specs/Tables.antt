@@ -1,5 +1,5 @@
 -- What the tables of sessions, threads and rows stand for (this project's profile).
-use Rattle.std.specs.Prelude.{◌≡◌, ◌⊎◌, ℕ, ◌==◌, Bool, true, false, List, length, map, Option, Some, None, is_some, if◌then◌else◌, nat_lt, nat_le}
+use Rattle.std.specs.Prelude.{◌≡◌, ◌⊎◌, ℕ, ◌==◌, Bool, true, false, List, length, map, Option, Some, None, is_some, position, if◌then◌else◌, nat_lt, nat_le}
 use Rattle.std.specs.Int.{bit_at}
 use Rattle.std.specs.List.{list_any, AllByRecursion}
 use Rattle.std.specs.BTreeMap.{get, btree_map_len}
@@ -53,6 +53,10 @@ PlaceFollows past told thread (Some row) =
 -- The number of a session that is present.
 abbrev pub number_of : Present → ℕ
 number_of present = present.number
+
+-- The place of a session among those that are present, if it is.
+abbrev pub place_of : Tables → ℕ → Option ℕ
+place_of tables session = position (λ (p : Present). p.number == session) tables.present.items
 
 -- A session holds this slot.
 abbrev pub has_slot : ℕ → List Present → Bool

@@ -2,8 +2,9 @@
 //!
 //! `tables` keeps which sessions are present, which thread has which row, and where each session is open. `Tables::judge`
 //! says what stands against a step, and changes nothing; of a step that can be made it gives the row and the place of the
-//! session that it found (`judged`), with which the step is made: nothing is looked up twice. It stands on ep_rows, for
-//! the rows, ep_stream, for the sessions, ep_table, for their slots, and ep_model, for the steps.
+//! session that it found (`judged`), with which the step is made: nothing is looked up twice. `laws` has the law that a
+//! step that can be made finds what it needs, for who knows that it can. It stands on ep_rows, for the rows, ep_stream, for
+//! the sessions, ep_table, for their slots, and ep_model, for the steps.
 //!
 //! Its one contract: tables that stand for the steps so far (`specs/Tables`) answer the first kind that stands against
 //! the next one, as ep_model defines it, and a step that is made makes of them what `specs/Made` says, and nothing else.
@@ -13,6 +14,7 @@
 #![tactic(auto)]
 
 mod judged;
+pub mod laws;
 mod tables;
 
 pub use judged::{Judged, OfSession, OnBoth, OnRow};

@@ -1,5 +1,5 @@
 //! The tables of sessions, threads and rows.
-ghost use Rattle.std.specs.Prelude.{◌≡◌, ◌<◌, ◌==◌, ◌%◌, ℕ, Some, is_none, is_some, IfSome, position, slice_get, vec_len};
+ghost use Rattle.std.specs.Prelude.{◌≡◌, ◌<◌, ◌%◌, ℕ, Some, is_none, is_some, IfSome, slice_get, vec_len};
 ghost use Rattle.std.specs.BTreeMap.{get};
 ghost use Rattle.std.specs.Ordering.{nat_cmp};
 ghost use Rattle.ep_defs.specs.Definitions.{definition_at};
@@ -63,9 +63,10 @@ pub struct Tables {
 
 impl Tables {
     ghost use Rattle.ep_tables.specs.Judged.{Tells};
-    ghost use Rattle.ep_tables.specs.Tables.{row_of};
+    ghost use Rattle.ep_tables.specs.Tables.{place_of, row_of};
 
     // The row that a thread was given when it came.
+    #[inline(always)]
     fn row_given(&self, thread: u32) -> Option<u32>
         ensures { result ≡ get nat_cmp self.now.threads thread }
     {
@@ -73,11 +74,20 @@ impl Tables {
         if near.thread == thread {
             return Some(near.row);
         }
+        self.row_in_map(thread)
+    }
+
+    // The same, looked up in the map, which few threads need.
+    #[inline(never)]
+    fn row_in_map(&self, thread: u32) -> Option<u32>
+        ensures { result ≡ get nat_cmp self.now.threads thread }
+    {
         self.threads.get(&thread).copied()
     }
 
-    // The row of a thread, until another thread takes it.
-    fn row_of(&self, thread: u32) -> Option<u32>
+    /// The row of a thread, until another thread takes it.
+    #[inline(always)]
+    pub fn row_of(&self, thread: u32) -> Option<u32>
         ensures own { result ≡ row_of self.now thread }
         ensures row { IfSome result (IsRow ROWS) }
     {
@@ -90,6 +100,7 @@ impl Tables {
     }
 
     // The row of a thread that is there.
+    #[inline(always)]
     fn row_there(&self, thread: u32) -> Option<u32>
         ensures own { IfSome result (λ row. row_of self.now thread ≡ Some row) }
         ensures row { IfSome result (IsRow ROWS) }
@@ -99,9 +110,10 @@ impl Tables {
         if self.rows.left(row) { None } else { Some(row) }
     }
 
-    // The place of a session among those that are present.
-    fn place_of(&self, session: u32) -> Option<usize>
-        ensures { result ≡ position (λ p. p.number == session) self.now.present.items }
+    /// The place of a session among those that are present.
+    #[inline(always)]
+    pub fn place_of(&self, session: u32) -> Option<usize>
+        ensures { result ≡ place_of self.now session }
     {
         self.present
             .iter()

@@ -19,6 +19,7 @@ use ep_model::{Kind, Step};
 impl Tables {
     /// The step with what it needs, or why it can't be made after those that the tables stand for: the first reason in
     /// the order in which a step is judged.
+    #[inline(always)]
     pub fn judge(&self, step: Step) -> Result<Judged, Kind>
         ensures judges { Judges self.now step result }
         ensures can { Tells self.now (λ events past. OnOk result (CanMake step self.now)) }
@@ -28,6 +29,7 @@ impl Tables {
     }
 
     // Nearly all steps of a long schedule begin, show or end a write; the others are judged out of line.
+    #[inline(always)]
     fn judged(&self, step: Step) -> Result<Judged, Kind>
         ensures { Judges self.now step result }
     {
@@ -106,6 +108,7 @@ impl Tables {
         unless(&objections, Judged::Open(both(session, place, thread, row)))
     }
 
+    #[inline(always)]
     fn to_begin(&self, thread: u32, stamp: u64, write: Write) -> Result<Judged, Kind>
         ensures { Judges self.now (Begin thread stamp write) result }
     {
@@ -128,6 +131,7 @@ impl Tables {
         Ok(Judged::Begin { on, stamp, write })
     }
 
+    #[inline(always)]
     fn to_show(&self, thread: u32, session: u32) -> Result<Judged, Kind>
         ensures { Judges self.now (Show thread session) result }
     {
@@ -147,6 +151,7 @@ impl Tables {
         Ok(Judged::Show(both(session, place, thread, row)))
     }
 
+    #[inline(always)]
     fn to_end(&self, thread: u32) -> Result<Judged, Kind>
         ensures { Judges self.now (End thread) result }
     {
@@ -258,6 +263,7 @@ impl Tables {
     }
 }
 
+#[inline(always)]
 fn both(session: u32, place: usize, thread: u32, row: u32) -> OnBoth
     ensures { result ≡ record {
       of = record { session = session; place = place };
@@ -296,6 +302,7 @@ fn first(objections: &[(bool, Kind)]) -> Option<Kind>
 }
 
 // Whether the slot's bit stands in the mask.
+#[inline(always)]
 fn has_bit(mask: u64, slot: u32) -> bool
     requires { slot < SESSIONS }
     ensures { result ≡ (bit_at mask slot == 1) }
