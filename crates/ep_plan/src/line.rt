@@ -1,5 +1,6 @@
 //! Reading a line.
-ghost use Rattle.std.specs.Prelude.{◌≡◌, ℕ, List, Some, None, Err, IfOk, IfErr};
+ghost use Rattle.std.specs.Prelude.{◌≡◌, ◌≤◌, ℕ, List, length, false, Some, None, Err, IfOk, IfErr};
+ghost use Rattle.ep_plan.specs.declared.limits.TheConstants.{LINE_BYTES};
 ghost use Rattle.ep_defs.specs.declared.event.EventDef.{EventDef};
 ghost use Rattle.ep_plan.specs.declared.line.Line.{Line};
 ghost use Rattle.ep_plan.specs.declared.line.Line.TheVariants.{Event};
@@ -10,7 +11,7 @@ ghost use Rattle.ep_plan.specs.Lines.{kind_name, bad_of, is_blank, IsLine, IsNex
 use crate::cursor::Cursor;
 use crate::event::read_event;
 use crate::limits::LINE_BYTES;
-use crate::step::read_step;
+use crate::step::{read_step, read_words};
 use ep_defs::EventDef;
 use ep_model::Step;
 use std::alloc::{AllocError, Global};
@@ -100,6 +101,29 @@ pub fn read_line(
     if is_blank(text) {
         return Ok(Line::Blank);
     }
+    let mut words = Cursor::new(line, text);
+    match words.verb() {
+        Some(verb) => Ok(Line::Step(read_words(alloc, verb, &mut words)?)),
+        None => read_other(alloc, text, line, events, stepped),
+    }
+}
+
+// The same of a line that has words. It stands out of line, since few lines are read so.
+#[inline(never)]
+fn read_other(
+    alloc: Global,
+    text: &[u8],
+    line: u64,
+    events: &[EventDef],
+    stepped: bool,
+) -> Result<Line, LineFault>
+    requires short { length text.now ≤ LINE_BYTES }
+    requires words { is_blank text.now ≡ false }
+    ensures read { IfOk result (λ read. IsLine events.now stepped text.now read) }
+    ensures bad { (at column : ℕ) (kind : LineKind) → result ≡ Err (BadLine at column kind)
+        → (at ≡ line)
+        × (bad_of events.now stepped text.now ≡ Some (record { column = column; kind = kind })) }
+{
     let mut words = Cursor::new(line, text);
     let first = words.word()?;
     if first == b"event".as_slice() {

@@ -25,8 +25,9 @@ pub(crate) fn read_step(alloc: Global, first: &[u8], words: &mut Cursor) -> Resu
     }
 }
 
-// The words after a verb.
-fn read_words(alloc: Global, verb: Verb, words: &mut Cursor) -> Result<Step, LineFault>
+/// The step that the words after a verb spell.
+#[inline(always)]
+pub(crate) fn read_words(alloc: Global, verb: Verb, words: &mut Cursor) -> Result<Step, LineFault>
     ensures read { IfOk result (λ step. Spells ((form_of verb).name ∷ left words.old) step) }
     ensures good { OnOk result (bad_form words.old (form_of verb) ≡ None) }
     ensures bad { IfBad result (IsBadAt words.old (bad_form words.old (form_of verb))) }
@@ -55,6 +56,7 @@ fn read_words(alloc: Global, verb: Verb, words: &mut Cursor) -> Result<Step, Lin
 }
 
 // One number, and nothing more.
+#[inline(always)]
 fn one_number(words: &mut Cursor) -> Result<u32, LineFault>
     ensures read { IfOk result (λ number. (name : List ℕ) → SpellNumber name (name ∷ left words.old) number) }
     ensures good { OnOk result (bad_left words.old (Number ∷ []) 0 ≡ None) }
@@ -66,6 +68,7 @@ fn one_number(words: &mut Cursor) -> Result<u32, LineFault>
 }
 
 // Two numbers, and nothing more.
+#[inline(always)]
 fn two_numbers(words: &mut Cursor) -> Result<(u32, u32), LineFault>
     ensures read { IfOk result (λ pair. (name : List ℕ)
         → SpellNumbers name (name ∷ left words.old) pair.0 pair.1) }
@@ -129,6 +132,7 @@ fn read_write(alloc: Global, words: &mut Cursor) -> Result<Write, LineFault>
 }
 
 // The words after `accept`: a session with stacks and without a rundown.
+#[inline(never)]
 fn read_accept(alloc: Global, words: &mut Cursor) -> Result<Step, LineFault>
     ensures read { IfOk result (λ step. Spells (codes "accept" ∷ left words.old) step) }
     ensures good { OnOk result (bad_form words.old accept_form ≡ None) }
@@ -149,6 +153,7 @@ fn read_accept(alloc: Global, words: &mut Cursor) -> Result<Step, LineFault>
 }
 
 // The words after `accept3`, which say whether the session has stacks; it has no rundown.
+#[inline(never)]
 fn read_accept3(alloc: Global, words: &mut Cursor) -> Result<Step, LineFault>
     ensures read { IfOk result (λ step. Spells (codes "accept3" ∷ left words.old) step) }
     ensures good { OnOk result (bad_form words.old accept3_form ≡ None) }
@@ -170,6 +175,7 @@ fn read_accept3(alloc: Global, words: &mut Cursor) -> Result<Step, LineFault>
 }
 
 // The words after `accept4`, which say whether the session has stacks and whether it has a rundown.
+#[inline(never)]
 fn read_accept4(alloc: Global, words: &mut Cursor) -> Result<Step, LineFault>
     ensures read { IfOk result (λ step. Spells (codes "accept4" ∷ left words.old) step) }
     ensures good { OnOk result (bad_form words.old accept4_form ≡ None) }
