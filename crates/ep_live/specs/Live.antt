@@ -9,10 +9,12 @@ use Rattle.ep_defs.specs.Session as valid
 use Rattle.ep_guarded.specs.declared.agreed.Agreed.{Agreed}
 use Rattle.ep_guarded.specs.declared.agreed.Stand.{Stand}
 use Rattle.ep_guarded.specs.Tied.{stand_in}
+use Rattle.ep_locks.specs.Locks.{RowName}
 
--- How many rows there are.
+-- How many rows there are, and which row of locks they stand behind.
 pub record LiveState : Type 0 where
   pub rows : ℕ
+  pub locks : RowName
 
 -- A thread that has begun one write more.
 abbrev pub with_one : Stand → Stand

@@ -25,6 +25,7 @@ mod next_write;
 mod parked;
 mod stands;
 mod to_close;
+mod turn;
 mod written;
 
 pub use ended::Ended;
@@ -36,4 +37,5 @@ pub use live_rows::{LiveRows, same_tests_have_the_same_lives, same_tests_have_th
 pub use next_write::NextWrite;
 pub use parked::Parked;
 pub use stands::Stands;
+pub use turn::Turn;
 pub use written::Written;

@@ -1,16 +1,16 @@
 //! Rows and buffers behind locks.
-ghost use Rattle.std.specs.Prelude.{◌≡◌, ◌+◌, ◌-◌, ◌*◌, ◌^◌, ◌<◌, ◌≤◌, ℕ, true, false, length, vec_len, option_map, slice_get, Some, None, IfOk, IfErr, OnOk, OnErr, IsSome, IsTrue, ◌==◌, if◌then◌else◌};
+ghost use Rattle.std.specs.Prelude.{◌≡◌, ◌≢◌, ◌+◌, ◌-◌, ◌*◌, ◌^◌, ◌<◌, ◌≤◌, ℕ, true, false, length, vec_len, option_map, slice_get, Some, None, IfOk, IfErr, IfNone, IfSome, OnOk, OnErr, OnSome, IsSome, IsTrue, ◌==◌, if◌then◌else◌};
 ghost use Rattle.std.specs.Int.{bit_at};
 ghost use Rattle.std.specs.Option.{ForSome};
 ghost use Rattle.ep_row.specs.Bits.{one_if, ClearsBit};
-ghost use Rattle.ep_row.specs.Row.{with_begin};
+ghost use Rattle.ep_row.specs.Row.{mask_of, with_begin};
 ghost use Rattle.ep_defs.specs.Session as valid;
 ghost use Rattle.ep_slot.specs.Slot.{is_refused};
 ghost use Rattle.ep_guarded.specs.declared.agreed.Agreed.TheVariants as agreed;
-ghost use Rattle.ep_guarded.specs.Tied.{stand_in, left_in, hand_in, next_stand, thread_of, buffer_number, buffer_place, hand_place, ChangesOpenings};
+ghost use Rattle.ep_guarded.specs.Tied.{stand_in, left_in, hand_in, next_stand, thread_of, buffer_number, buffer_place, hand_place, ChangesOpenings, IsNextOf};
 ghost use Rattle.ep_guarded.specs.Sessions.{Opens, TakesWith, Closes, IsOpenable, IsClosable};
 ghost use Rattle.ep_live.specs.Live.{with_one, IsNextWrite};
-ghost use Rattle.ep_live.specs.Written.{AnswersBehind, AreAnswered, IsWritten, IsWrittenBehind};
+ghost use Rattle.ep_live.specs.Written.{AnswersBehind, AreAnswered, IsPassedBehind, IsWritten, IsWrittenBehind};
 ghost use Rattle.ep_live.specs.Made.{AreStands, AreHandTies};
 
 use crate::limits::ROW_TIES;
@@ -18,15 +18,16 @@ use crate::made::{make_rows, make_stands};
 use crate::next_write::NextWrite;
 use crate::stands::Stands;
 use crate::to_close::ToClose;
+use crate::turn::Turn;
 use crate::written::Written;
 use ep_defs::limits::{EVENTS, SESSIONS, WRITES};
 use ep_defs::{EventDef, Marks, Write};
 use ep_guarded::{Agreed, NotOpened, Program, Site, Stand, TiedBuffer, TiedRow, ToOpen};
-use ep_locks::{Guards, Locks};
+use ep_locks::{Guards, Held, Locks};
 use ep_pool::PoolSeat;
 use ep_slot::{Batch, Hand, Shown};
 use ep_tie::{Blank, Right, Ties};
-use pt_io::Gate;
+use pt_io::{Gate, Moment};
 use std::alloc::{AllocError, Global};
 use std::marker::{Model, PhantomData};
 use std::sync::Wait;
@@ -71,7 +72,7 @@ impl<'a, P: Program> Model for Live<'a, P> {
 
     ghost Value = { LiveState };
 
-    ghost view = { λ l. record { rows = l.rows.count } };
+    ghost view = { λ l. record { rows = l.rows.count; locks = l.rows.row } };
 
     ghost invariant = { λ l. IsWhole P.rows P.events l.rows.count l.buffers.count l.events.items };
 }
@@ -174,8 +175,58 @@ impl<'a, P: Program> Live<'a, P> {
         written
     }
 
+    /// The next write of the thread of the row with this number, which has its half of the tie, where no session gets it: it
+    /// is taken by, and nothing of it needs to be known but its event. The thread passes the gate at this moment. Where a
+    /// session gets it, the row stays taken for the thread's turn, and nothing has changed. It waits for the row, looks at
+    /// one mask, and takes no memory.
+    #[inline(always)]
+    pub fn pass_over<R: Wait, G: Gate>(
+        &self,
+        rt: &R,
+        gate: &G,
+        number: usize,
+        half: &mut Right<P, Agreed<'a>>,
+        at: Moment,
+        event: u32,
+    ) -> Option<Turn<'_, 'a, P>>
+        requires row { number < P.rows }
+        requires place { half.old.place ≡ number }
+        requires here { IsSome (stand_in half.old.value) }
+        requires few { ForSome (stand_in half.old.value) (λ s. s.index < WRITES) }
+        requires next { ForSome (stand_in half.old.value) (λ s. IsNextOf event (P.writes s.thread) s.index) }
+        requires some { 0 < event }
+        requires event { event ≤ length P.events }
+        ensures passed { IfNone result (IsPassedBehind event half.old.value) }
+        ensures stands { IfNone result (stand_in half.new.value ≡ option_map with_one (stand_in half.old.value)) }
+        ensures turn { IfSome result (λ turn. turn.number ≡ number) }
+        ensures wanted { IfSome result (λ turn. mask_of turn.row event ≢ 0) }
+        ensures stays { OnSome result (half.new ≡ half.old) }
+        ensures place { half.new.place ≡ half.old.place }
+    {
+        let (mut row, held) = self.rows.take(rt, number);
+        if row.pass_over(&self.ties, half, event) {
+            gate.pass(at);
+            self.rows.put(held, row);
+            return None;
+        }
+        Some(Turn {
+            live: self,
+            number,
+            row,
+            held,
+        })
+    }
+
+    // Gives back a row that was taken.
+    pub(crate) fn put_row(&self, held: Held<Box<TiedRow<'a, P>>>, row: Box<TiedRow<'a, P>>)
+        requires own { held.row ≡ self.now.locks }
+        requires meets { (row.value.number ≡ held.number) × (row.value.row.in_write ≡ false) }
+    {
+        self.rows.put(held, row);
+    }
+
     // The next write of the thread of this row, which was taken.
-    fn write_on<R: Wait, G: Gate>(
+    pub(crate) fn write_on<R: Wait, G: Gate>(
         &self,
         rt: &R,
         gate: &G,
