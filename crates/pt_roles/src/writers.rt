@@ -1,5 +1,6 @@
 //! The threads that write.
-ghost use Rattle.std.specs.Prelude.{◌≡◌, ◌+◌, ◌-◌, ◌*◌, ◌<◌, ◌≤◌, [], IfOk, length, vec_len, vec_capacity};
+ghost use Rattle.std.specs.Prelude.{◌≡◌, ◌+◌, ◌-◌, ◌*◌, ◌<◌, ◌≤◌, [], Some, IfOk, length, vec_len, vec_capacity};
+ghost use Rattle.ep_guarded.specs.Tied.{stand_in};
 ghost use Rattle.ep_live.specs.Made.{AreStands};
 ghost use Rattle.pt_roles.specs.World.{rows_of};
 ghost use Rattle.pt_roles.specs.Writers.{AreAtEnd, AreRowDrafts, HaveYetToWrite, HasLeft, HaveWritten, IsAt, StandsAt};
@@ -14,6 +15,7 @@ use ep_live::NextWrite;
 use ep_tie::Right;
 use pt_io::{Clock, Gate, Link, Moment};
 use pt_load::laws::{sample_events_are_valid, sample_writes_can_be_made};
+use pt_load::{Draft, event_at};
 use std::marker::Model;
 use std::sync::Wait;
 use std::thread;
@@ -95,21 +97,47 @@ impl<'t, 'a, P: World, L: Link + Drop> Writer<'t, 'a, P, L> {
         requires ready { StandsAt P.world.plan P.world.options.lives number life 0 life self.old }
         ensures { StandsAt P.world.plan P.world.options.lives number life P.world.plan.writes (life + 1) self.new }
     {
-        sample_events_are_valid();
-        sample_writes_can_be_made();
         let mut draft = self.drafts.next();
         let thread = thread_of(scene.plan.threads, number as u32, life);
-        let live = &self.shared.live;
         for index in 0..scene.plan.writes {
-            let write = draft.nth(index);
-            let next = NextWrite {
-                at: Moment::Begun { thread, index },
-                stamp: scene.clock.now(),
-                write,
-            };
-            live.write(scene.rt, scene.gate, number, &mut self.half, &next);
-            scene.gate.pass(Moment::Wrote { thread, index });
+            self.write(scene, number, thread, &mut draft, index);
         }
+    }
+
+    // Makes the write of this thread after this many others, where a session gets it; else it is taken by.
+    fn write<R: Wait, C: Clock, G: Gate>(
+        &mut self,
+        scene: &Scene<'_, P, R, C, G>,
+        number: usize,
+        thread: u32,
+        draft: &mut Draft,
+        index: u32,
+    )
+        requires row { number < P.rows }
+        requires index { index < P.world.plan.writes }
+        requires place { self.old.half.place ≡ number }
+        requires stands { stand_in self.old.half.value ≡ Some (record { thread = thread; index = index }) }
+        requires draft { draft.old ≡ record { plan = P.world.plan; thread = thread } }
+        ensures place { self.new.half.place ≡ number }
+        ensures stands { stand_in self.new.half.value ≡ Some (record { thread = thread; index = index + 1 }) }
+        ensures draft { draft.new ≡ draft.old }
+        ensures drafts { self.new.drafts ≡ self.old.drafts }
+    {
+        sample_events_are_valid();
+        sample_writes_can_be_made();
+        let at = Moment::Begun { thread, index };
+        let event = event_at(scene.plan, thread, index);
+        let live = &self.shared.live;
+        let turn = live.pass_over(scene.rt, scene.gate, number, &mut self.half, at, event);
+        if let Some(turn) = turn {
+            let next = NextWrite {
+                at,
+                stamp: scene.clock.now(),
+                write: draft.nth(index),
+            };
+            turn.write(scene.rt, scene.gate, &mut self.half, &next);
+        }
+        scene.gate.pass(Moment::Wrote { thread, index });
     }
 
     // The thread of this life, which has made all its writes, leaves the row.

@@ -11,7 +11,7 @@ use ep_live::{Live, NextWrite};
 use ep_tie::Right;
 use pt_io::{Clock, Gate, Moment};
 use pt_load::laws::{sample_events_are_valid, sample_writes_can_be_made};
-use pt_load::{Draft, Plan};
+use pt_load::{Draft, Plan, event_at};
 use std::alloc::{AllocError, Global};
 use std::marker::Model;
 use std::sync::Wait;
@@ -78,20 +78,40 @@ impl<'w, 'a, P: SampleRun> Writer<'w, 'a, P> {
         requires ready { StandsAt P.plan number 0 self.old }
         ensures { StandsAt P.plan number P.plan.writes self.new }
     {
+        for index in 0..around.plan.writes {
+            self.write(around, number, index);
+        }
+    }
+
+    // Makes the thread's write after this many others, where a session gets it; else it is taken by.
+    fn write<R: Wait, C: Clock, G: Gate>(
+        &mut self,
+        around: &Around<'_, P, R, C, G>,
+        number: usize,
+        index: u32,
+    )
+        requires row { number < P.rows }
+        requires index { index < P.plan.writes }
+        requires ready { StandsAt P.plan number index self.old }
+        ensures { StandsAt P.plan number (index + 1) self.new }
+    {
         sample_events_are_valid();
         sample_writes_can_be_made();
         let thread = number as u32 + 1;
-        for index in 0..around.plan.writes {
-            let write = self.draft.nth(index);
+        let at = Moment::Begun { thread, index };
+        let event = event_at(around.plan, thread, index);
+        let turn = self
+            .live
+            .pass_over(around.rt, around.gate, number, &mut self.half, at, event);
+        if let Some(turn) = turn {
             let next = NextWrite {
-                at: Moment::Begun { thread, index },
+                at,
                 stamp: around.clock.now(),
-                write,
+                write: self.draft.nth(index),
             };
-            self.live
-                .write(around.rt, around.gate, number, &mut self.half, &next);
-            around.gate.pass(Moment::Wrote { thread, index });
+            turn.write(around.rt, around.gate, &mut self.half, &next);
         }
+        around.gate.pass(Moment::Wrote { thread, index });
     }
 }
 
