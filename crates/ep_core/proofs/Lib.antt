@@ -3,4 +3,5 @@ mod Machines
 mod Once
 mod Run
 mod Taking
+mod Writing
 mod Working

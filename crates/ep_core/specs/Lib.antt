@@ -1,3 +1,4 @@
 pub mod Machine
 pub mod Streams
+pub mod Writes
 pub mod state

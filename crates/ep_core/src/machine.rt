@@ -12,8 +12,9 @@ ghost use Rattle.ep_tables.specs.declared.judged.Judged.TheVariants.{Finish};
 ghost use Rattle.ep_core.specs.state.Works.{IsNext, Makes, MakesWith, EndedFollowOn, EndedFollowOnWith, Standing};
 
 use crate::ended::Ended;
+use crate::whole::make_whole;
 use crate::work::Work;
-use ep_defs::{EventDef, Marks, TraceInfo};
+use ep_defs::{EventDef, Marks, TraceInfo, Write};
 use ep_model::laws::finished_sessions_are_faithful;
 use ep_model::{Step, Unlawful};
 use ep_stream_laws::a_finished_session_stays;
@@ -53,7 +54,9 @@ impl Machine {
     ghost use Rattle.ep_model.specs.Marks.{marks_of};
     ghost use Rattle.ep_model.specs.Only.{only};
     ghost use Rattle.ep_core.specs.declared.machine.StepFault.TheVariants.{Unlawful as Refused, OutOfMemory};
-    ghost use Rattle.ep_core.specs.Machine.{Follows, steps_of, has_failed};
+    ghost use Rattle.ep_core.specs.Machine.{CanWrite, Follows, steps_of, has_failed};
+    ghost use Rattle.ep_core.specs.Writes.{with_write};
+    ghost use Rattle.ep_model.specs.Lawful.{IsLawful};
     ghost use Rattle.ep_core.specs.Streams.{IsStreamOf};
 
     /// A machine that has made no step. Its events are numbered from 1 in the order of their definitions, of which there
@@ -150,6 +153,25 @@ impl Machine {
             self.step(alloc, step)?;
         }
         Ok(())
+    }
+
+    /// Makes all steps of a write: it begins, is shown to these sessions in their order, and ends. It takes steps that can
+    /// be made, judges none of them, and keeps nothing of the write.
+    pub fn write(&mut self, thread: u32, stamp: u64, write: &Write, sessions: &[u32])
+        requires can { CanWrite thread stamp write.now sessions.now self.old }
+        requires working { has_failed self.old ≡ false }
+        requires few { steps_of self.old + length sessions.now + 2 ≤ 2 ^ 63 }
+
+        ensures made { (events : List EventDef) (info : TraceInfo) (past : Past)
+            → Follows events info past self.old
+            → IsLawful events (with_write thread stamp write.now sessions.now past)
+            → Follows events info (with_write thread stamp write.now sessions.now past) self.new }
+        ensures working { has_failed self.new ≡ false }
+        ensures counted { steps_of self.new ≡ steps_of self.old + length sessions.now + 2 }
+    {
+        a_finished_session_stays();
+        make_whole(&mut self.work.tables, thread, stamp, write, sessions);
+        self.steps += sessions.len() as u64 + 2;
     }
 
     /// The stream of a session, once it was finished.
