@@ -129,12 +129,12 @@ ids-is : (pid process tid thread args number begun : List ℕ)
     → pid ++ (process ++ (tid ++ (thread ++ (args ++ (number ++ begun))))) ≡ (pid ++ (process ++ (tid ++ (thread ++ (args ++ number))))) ++ begun
 ids-is pid process tid thread args number begun = simp append_assoc
 
--- Where an event was, and what opens its fields, placed one before another.
-pub ids-placed : {p process n number : ℕ} (thread : ℕ) {first second third fourth : List ℕ} → p ≡ process → n ≡ number
+-- Where an event was, placed one before another before what stands behind it.
+pub ids-placed : {p process n number : ℕ} (thread : ℕ) {first second third fourth behind : List ℕ} → p ≡ process → n ≡ number
     → fourth ≡ codes ",\"pid\":" ++ (integer p ++ third) → third ≡ codes ",\"tid\":" ++ (integer thread ++ second)
-    → second ≡ codes ",\"args\":{\"number\":" ++ (integer n ++ first) → first ≡ opening
-    → fourth ≡ ids_of process thread number ++ opening
-ids-placed {p} {process} {n} {number} thread {first} {second} {third} {fourth} same_process same_number here next last end =
+    → second ≡ codes ",\"args\":{\"number\":" ++ (integer n ++ first) → first ≡ behind
+    → fourth ≡ ids_of process thread number ++ behind
+ids-placed {p} {process} {n} {number} thread {first} {second} {third} {fourth} {behind} same_process same_number here next last end =
     here
     ∙ ap (λ (m : ℕ). codes ",\"pid\":" ++ (integer m ++ third)) same_process
     ∙ ap (λ (xs : List ℕ). codes ",\"pid\":" ++ (integer process ++ xs))
@@ -143,7 +143,7 @@ ids-placed {p} {process} {n} {number} thread {first} {second} {third} {fourth} s
     (last
     ∙ ap (λ (m : ℕ). codes ",\"args\":{\"number\":" ++ (integer m ++ first)) same_number
     ∙ ap (λ (xs : List ℕ). codes ",\"args\":{\"number\":" ++ (integer number ++ xs)) end))
-    ∙ ids-is (codes ",\"pid\":") (integer process) (codes ",\"tid\":") (integer thread) (codes ",\"args\":{\"number\":") (integer number) opening
+    ∙ ids-is (codes ",\"pid\":") (integer process) (codes ",\"tid\":") (integer thread) (codes ",\"args\":{\"number\":") (integer number) behind
 
 -- They behind its moment, in one piece or in three.
 pub placed-on : (name time ids begun : List ℕ) → name ++ (time ++ (ids ++ begun)) ≡ (name ++ (time ++ ids)) ++ begun

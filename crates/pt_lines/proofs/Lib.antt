@@ -12,5 +12,6 @@ pub mod Members
 pub mod Nests
 pub mod Objects
 pub mod Pairs
+pub mod Placing
 pub mod Steps
 pub mod Uuids

@@ -121,8 +121,8 @@ pub fn put_label(out: &mut Vec<u8>, field: &FieldDef) -> Result<(), AllocError>
     Ok(out.push(b'=')?)
 }
 
-// How many objects are open after a field.
-fn open_after(field: &NamedField) -> u64
+/// How many objects are open after a field.
+pub fn open_after(field: &NamedField) -> u64
     ensures { result ≡ deepest_after field.now }
 {
     let depth = u64::from(field.depth());

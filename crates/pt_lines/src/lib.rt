@@ -26,6 +26,7 @@ mod number;
 mod origin;
 mod page;
 mod place;
+mod plain;
 mod text;
 mod value;
 

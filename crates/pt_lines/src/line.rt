@@ -1,7 +1,8 @@
 //! Whole lines.
-ghost use Rattle.std.specs.Prelude.{◌≡◌, ◌++◌, ℕ, OnOk};
+ghost use Rattle.std.specs.Prelude.{◌≡◌, ◌≤◌, ◌++◌, ℕ, length, take, drop, replicate, IfSome, OnOk};
 ghost use Rattle.ep_defs.specs.Entry.{EventEntry};
 ghost use Rattle.pt_lines.specs.declared.form.Form.TheVariants as forms;
+ghost use Rattle.pt_lines.specs.declared.line.TheConstants.{LINE_BYTES, START_BYTES};
 ghost use Rattle.pt_lines.specs.declared.origin.Origin.{Origin};
 ghost use Rattle.pt_lines.specs.Line.{Event, Lost, Point, lost_if};
 ghost use Rattle.pt_lines.specs.Texts.{event_start, lost_line, point_text};
@@ -14,7 +15,8 @@ use crate::form::Form;
 use crate::json::stack::ShownStack;
 use crate::named::NamedDef;
 use crate::origin::Origin;
-use crate::place::place_number;
+use crate::place::{place_number, place_word};
+use crate::plain::place_fields;
 use crate::{chromium, json, page};
 use ep_defs::EventDef;
 use pt_print::{put_end, put_number, put_units, put_word};
@@ -134,7 +136,47 @@ fn put_event_line(out: &mut Vec<u8>, alloc: Global, event: &EventLine<'_>) -> Re
     ensures { (origin : Origin) (processor thread : ℕ) (entry : EventEntry) → Tells event.now origin processor thread entry
         → OnOk result (Appends (IsLine forms.Lines (Event origin processor thread entry)) out.old.items out.new.items) }
 {
-    put_event_start(out, event)?;
+    let mut text = [b' '; LINE_BYTES];
+    match place_event(&mut text, event) {
+        Some(start) => out.extend_from_slice(&text[start..]),
+        None => put_any_line(out, alloc, *event),
+    }
+}
+
+// How many bytes a line has at most that goes out in one piece, as nearly all do.
+const LINE_BYTES: usize = 192;
+
+// Writes the line of an event at the end of blanks, if the fields of its payload are numbers and there is room for all.
+#[inline(always)]
+fn place_event(text: &mut [u8], event: &EventLine<'_>) -> Option<usize>
+    requires { text.old ≡ replicate LINE_BYTES 32 }
+    ensures { IfSome result (λ start. (start ≤ LINE_BYTES)
+        × ((origin : Origin) (processor thread : ℕ) (entry : EventEntry) → Tells event.now origin processor thread entry
+        → IsLine forms.Lines (Event origin processor thread entry) (drop start text.new))) }
+{
+    let end = place_word(text, LINE_BYTES, b"\n");
+    let fields = place_fields(text, end, event.def.fields(), event.payload)?;
+    let names = event.def.names();
+    if fields < START_BYTES || fields - START_BYTES < names.len() {
+        return None;
+    }
+    let named = place_word(text, fields, names);
+    Some(place_numbers(
+        text,
+        named,
+        event.stamp,
+        event.thread,
+        event.number,
+    ))
+}
+
+// So it is with the line of any event. It stands apart, so that the way of the others is short.
+#[inline(never)]
+fn put_any_line(out: &mut Vec<u8>, alloc: Global, event: EventLine<'_>) -> Result<(), AllocError>
+    ensures { (origin : Origin) (processor thread : ℕ) (entry : EventEntry) → Tells event.entry origin processor thread entry
+        → OnOk result (Appends (IsLine forms.Lines (Event origin processor thread entry)) out.old.items out.new.items) }
+{
+    put_event_start(out, &event)?;
     put_payload(out, alloc, event.def.fields(), event.payload)?;
     put_end(out)
 }
@@ -157,14 +199,25 @@ const START_BYTES: usize = 68;
 fn put_numbers(out: &mut Vec<u8>, stamp: u64, thread: u64, number: u32) -> Result<(), AllocError>
     ensures { OnOk result (out.new.items ≡ out.old.items ++ numbers_text stamp thread number) }
 {
-    // They come behind blanks that stand there already, the last one first, so that all goes in one piece.
     let mut text = [b' '; START_BYTES];
-    let third = place_number(&mut text, START_BYTES, u64::from(number));
-    let second = place_number(&mut text, third, thread);
-    let first = place_number(&mut text, second, stamp);
-    let start = first - WORD.len();
-    text[start..first].copy_from_slice(&WORD);
+    let start = place_numbers(&mut text, START_BYTES, stamp, thread, number);
     out.extend_from_slice(&text[start..])
+}
+
+// Writes them behind blanks that stand there already, the last one first.
+#[inline(always)]
+fn place_numbers(text: &mut [u8], end: usize, stamp: u64, thread: u64, number: u32) -> usize
+    requires within { end ≤ length text.old }
+    requires room { START_BYTES ≤ end }
+    requires blank { take end text.old ≡ replicate end 32 }
+    ensures before { result ≤ end }
+    ensures written { drop result text.new ≡ numbers_text stamp thread number ++ drop end text.old }
+    ensures len { length text.new ≡ length text.old }
+{
+    let third = place_number(text, end, u64::from(number));
+    let second = place_number(text, third, thread);
+    let first = place_number(text, second, stamp);
+    place_word(text, first, &WORD)
 }
 
 /// Appends the names of a definition, as they stand in the lines of its events.

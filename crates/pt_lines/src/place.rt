@@ -38,6 +38,7 @@ pub fn place_word(text: &mut [u8], end: usize, word: &[u8]) -> usize
     requires room { length word.now ≤ end }
     ensures start { result + length word.now ≡ end }
     ensures written { drop result text.new ≡ word.now ++ drop end text.old }
+    ensures before { take result text.new ≡ take result text.old }
     ensures len { length text.new ≡ length text.old }
 {
     let start = end - word.len();

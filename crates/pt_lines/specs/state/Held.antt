@@ -10,6 +10,8 @@ use Rattle.pt_lines.specs.declared.limits.TheConstants.{MOST_EXACT}
 use Rattle.pt_lines.specs.declared.number.HeldNumber.{HeldNumber}
 use Rattle.pt_lines.specs.Texts.{IsShown}
 use Rattle.pt_lines.specs.Json.{IsValue}
+use Rattle.ep_defs.specs.declared.event.FieldDef.{FieldDef}
+use Rattle.pt_lines.specs.state.Fields.{HasValue}
 
 -- It has so many bytes, is the same with a sign and without one, and may stand in JSON as a number.
 abbrev pub IsNatural : Size → List ℕ → HeldNumber → Type 0
@@ -27,3 +29,8 @@ IsHeld kind bytes held =
     × (value_at kind bytes ≡ Ok (value, drop held.used bytes))
     × IsShown value (decimal held.number)
     × IsValue value (decimal held.number)
+
+-- The bytes begin with a value of the field that is such a number.
+abbrev pub HoldsNumber : FieldDef → List ℕ → HeldNumber → Type 0
+HoldsNumber field bytes held =
+    (value : FieldValue) × HasValue field bytes value held.used × IsShown value (decimal held.number) × IsValue value (decimal held.number)

@@ -12,6 +12,10 @@ opening = codes ",\"fields\":{"
 abbrev pub IsNextPayload : List FieldDef → List ℕ → Result (List FieldValue) Misfit → List ℕ → Type 0
 IsNextPayload fields payload values text = (member : List ℕ) × IsPayloadMember fields payload values member × (text ≡ codes "," ++ member)
 
+-- So it is, with this end behind it.
+abbrev pub IsLastPayload : List FieldDef → List ℕ → Result (List FieldValue) Misfit → List ℕ → List ℕ → Type 0
+IsLastPayload fields payload values end text = (next : List ℕ) × IsNextPayload fields payload values next × (text ≡ next ++ end)
+
 -- The text is the array of a stack's addresses, and what opens the fields behind it.
 abbrev pub IsStackOpened : ℕ → List ℕ → List ℕ → Type 0
 IsStackOpened width stack text = (shown : List ℕ) × IsStack width stack shown × (text ≡ shown ++ opening)

@@ -1,16 +1,19 @@
 //! Whole lines.
-ghost use Rattle.std.specs.Prelude.{◌≡◌, ◌++◌, ℕ, false, replicate, OnOk};
+ghost use Rattle.std.specs.Prelude.{◌≡◌, ◌≤◌, ◌++◌, ℕ, false, drop, length, replicate, IfSome, OnOk};
 ghost use Rattle.std.specs.List.{concat};
 ghost use Rattle.ep_defs.specs.Entry.{EventEntry};
 ghost use Rattle.ep_defs.specs.Event.{is_same_text};
 ghost use Rattle.pt_lines.specs.declared.form.Form.TheVariants as forms;
+ghost use Rattle.pt_lines.specs.declared.chromium.line.TheConstants.{PLACE_BYTES, PLACED_BYTES};
+ghost use Rattle.pt_lines.specs.declared.chromium.moment.TheConstants.{TIME_BYTES};
 ghost use Rattle.pt_lines.specs.declared.origin.Origin.{Origin};
 ghost use Rattle.pt_lines.specs.Line.{Event};
 ghost use Rattle.pt_lines.specs.Forms.{IsLine};
 ghost use Rattle.pt_lines.specs.Chromium.{error_tail, lost_counter, point_instant};
 ghost use Rattle.pt_lines.specs.Appends.{Appends, Tells};
 ghost use Rattle.pt_lines.specs.state.Opening.{opening};
-ghost use Rattle.pt_lines.specs.state.Pieces.{instant_text, named_pieces, placed_text, span_text};
+ghost use Rattle.pt_lines.specs.state.Pieces.{ids_of, instant_text, named_pieces, placed_text, span_text};
+ghost use Rattle.pt_lines.specs.state.Ending.{IsPlacedEnd};
 
 use crate::chromium::moment::{TIME_BYTES, few_nanoseconds, place_time, put_moment, put_time};
 use crate::chromium::phase::{end_of, put_phase};
@@ -20,6 +23,7 @@ use crate::json::value::put_integer;
 use crate::line::EventLine;
 use crate::origin::Origin;
 use crate::place::{place_member, place_word};
+use crate::plain::place_members;
 use crate::text::put_quoted;
 use crate::value::is_none;
 use ep_defs::EventDef;
@@ -69,9 +73,7 @@ pub fn put_event(out: &mut Vec<u8>, alloc: Global, event: &EventLine<'_>) -> Res
         → OnOk result (Appends (IsLine forms.Chromium (Event origin processor thread entry)) out.old.items out.new.items) }
 {
     put_named(out, event)?;
-    put_place(out, event)?;
-    put_payload(out, alloc, event.def.fields(), event.payload)?;
-    out.extend_from_slice(b"}}")
+    put_placed(out, alloc, event)
 }
 
 // Appends the name, the category and the phase of an event.
@@ -118,25 +120,72 @@ pub fn put_instant(out: &mut Vec<u8>, def: &EventDef) -> Result<(), AllocError>
     put_word(out, ",\"ph\":\"i\",\"s\":\"t\"")
 }
 
+// Appends when and where an event was written, its fields, and its end.
+fn put_placed(out: &mut Vec<u8>, alloc: Global, event: &EventLine<'_>) -> Result<(), AllocError>
+    ensures { (origin : Origin) (processor thread : ℕ) (entry : EventEntry) → Tells event.now origin processor thread entry
+        → OnOk result (Appends (IsPlacedEnd origin entry) out.old.items out.new.items) }
+{
+    let mut text = [0; PLACED_BYTES];
+    match place_event(&mut text, event) {
+        Some(start) => out.extend_from_slice(&text[start..]),
+        None => put_any_placed(out, alloc, *event),
+    }
+}
+
+// How many bytes that has at most which goes out in one piece, as it does of nearly all events.
+const PLACED_BYTES: usize = 256;
+
+// Writes it at the end of a buffer, if the fields of its payload are numbers and there is room for all.
+#[inline(always)]
+fn place_event(text: &mut [u8], event: &EventLine<'_>) -> Option<usize>
+    requires { length text.old ≡ PLACED_BYTES }
+    ensures { IfSome result (λ start. (start ≤ PLACED_BYTES)
+        × ((origin : Origin) (processor thread : ℕ) (entry : EventEntry) → Tells event.now origin processor thread entry
+        → IsPlacedEnd origin entry (drop start text.new))) }
+{
+    let nanos = few_nanoseconds(event.origin.frequency, event.stamp)?;
+    let end = place_word(text, PLACED_BYTES, b"}}}");
+    let members = place_members(text, end, event.def.fields(), event.payload)?;
+    if members < PLACE_BYTES {
+        return None;
+    }
+    let process = place_ids(
+        text,
+        members,
+        event.origin.process,
+        event.thread,
+        event.number,
+    );
+    Some(place_time(text, process, nanos))
+}
+
+// So it is with any event. It stands apart, so that the way of the others is short.
+#[inline(never)]
+fn put_any_placed(
+    out: &mut Vec<u8>,
+    alloc: Global,
+    event: EventLine<'_>,
+) -> Result<(), AllocError>
+    ensures { (origin : Origin) (processor thread : ℕ) (entry : EventEntry) → Tells event.entry origin processor thread entry
+        → OnOk result (Appends (IsPlacedEnd origin entry) out.old.items out.new.items) }
+{
+    put_place(out, &event)?;
+    put_payload(out, alloc, event.def.fields(), event.payload)?;
+    out.extend_from_slice(b"}}")
+}
+
 // Appends when and where an event was written, and what opens its fields.
 fn put_place(out: &mut Vec<u8>, event: &EventLine<'_>) -> Result<(), AllocError>
     ensures { (origin : Origin) (processor thread : ℕ) (entry : EventEntry) → Tells event.now origin processor thread entry
         → OnOk result (out.new.items ≡ out.old.items ++ (placed_text origin entry ++ opening)) }
 {
     let mut text = [0; PLACE_BYTES];
-    let fields = place_word(&mut text, PLACE_BYTES, OPENING.as_bytes());
-    let number = place_member(
+    let process = place_ids(
         &mut text,
-        fields,
-        b",\"args\":{\"number\":",
-        u64::from(event.number),
-    );
-    let thread = place_member(&mut text, number, b",\"tid\":", event.thread);
-    let process = place_member(
-        &mut text,
-        thread,
-        b",\"pid\":",
-        u64::from(event.origin.process),
+        PLACE_BYTES,
+        event.origin.process,
+        event.thread,
+        event.number,
     );
     let Some(nanos) = few_nanoseconds(event.origin.frequency, event.stamp) else {
         out.push(b',')?;
@@ -145,6 +194,22 @@ fn put_place(out: &mut Vec<u8>, event: &EventLine<'_>) -> Result<(), AllocError>
     };
     let start = place_time(&mut text, process, nanos);
     out.extend_from_slice(&text[start..])
+}
+
+// Writes where an event was written, and what opens its fields.
+#[inline(always)]
+fn place_ids(text: &mut [u8], end: usize, process: u32, thread: u64, number: u32) -> usize
+    requires within { end ≤ length text.old }
+    requires room { PLACE_BYTES ≤ end }
+    ensures room { TIME_BYTES ≤ result }
+    ensures before { result ≤ end }
+    ensures written { drop result text.new ≡ ids_of process thread number ++ (opening ++ drop end text.old) }
+    ensures len { length text.new ≡ length text.old }
+{
+    let fields = place_word(text, end, OPENING.as_bytes());
+    let last = place_member(text, fields, b",\"args\":{\"number\":", u64::from(number));
+    let next = place_member(text, last, b",\"tid\":", thread);
+    place_member(text, next, b",\"pid\":", u64::from(process))
 }
 
 // How many bytes they fill at most: the names of three members 32, their numbers, what opens the fields 11, and the stamp's member.

@@ -11,7 +11,7 @@ ghost use Rattle.pt_lines.specs.state.Nest.{comma};
 ghost use Rattle.pt_lines.specs.state.Pieces.{activities_text, alone_text, described_text};
 
 use crate::guid::{GUID_BYTES, place_guid};
-use crate::json::fields::put_payload;
+use crate::json::fields::put_fields;
 use crate::json::stack::width_of;
 use crate::json::value::{put_integer, put_plain};
 use crate::line::EventLine;
@@ -87,8 +87,7 @@ pub fn put_event(out: &mut Vec<u8>, alloc: Global, event: &EventLine<'_>) -> Res
     put_place(out, event)?;
     put_described(out, event)?;
     event.stack.put(out, width_of(event.origin.address))?;
-    put_payload(out, alloc, event.def.fields(), event.payload)?;
-    out.extend_from_slice(b"}\n")
+    put_fields(out, alloc, event.def.fields(), event.payload, b"}\n")
 }
 
 // Appends when and where an event was written.

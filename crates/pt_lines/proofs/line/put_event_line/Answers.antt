@@ -1,15 +1,19 @@
-use Rattle.std.proofs.Common.{◌∙◌}
-use Rattle.std.proofs.lemmas.Result.{on_ok_weaker}
-use Rattle.ep_defs.specs.declared.event.EventDef.{EventDef}
-use Rattle.std.proofs.Common.{ap}
-use Rattle.pt_lines.proofs.Steps.{event-put}
+use Rattle.std.proofs.Common.{drop, arith}
+use Rattle.std.proofs.lemmas.List.{take_all, length-drop}
+use Rattle.pt_print.proofs.Numbers.{appended}
+use Rattle.pt_lines.specs.declared.form.Form.TheVariants as forms
+use Rattle.pt_lines.specs.Line.{Event}
+use Rattle.pt_lines.specs.Forms.{IsLine}
+use Rattle.pt_lines.proofs.Steps.{said}
 use Rattle.pt_lines.proofs.line.put_event_line.Goals as goal
 
-pub returns : goal.returns
-returns c = λ origin processor thread entry tells.
-    on_ok_weaker c.put_end.result
-    (λ e.
-    event-put origin processor thread entry c.fields.result.now c.args.event.now.payload.now c.args.out.now.items c.put_event_start.new.out.items c.put_payload.new.out.items _
-    (c.fields.ensures ∙ ap (λ (def : EventDef). def.fields) tells.def) tells.payload
-    (c.in_ok-put_event_start.ensures origin processor thread entry tells) c.in_ok-put_payload.ensures e)
-    c.put_end.ensures.ok
+pub returns-in-Some : goal.returns-in-Some
+returns-in-Some c = λ origin processor thread entry tells.
+    let text = c.place_event.new.text in
+    let start = c.in-Some.start in
+    said (IsLine forms.Lines (Event origin processor thread entry)) c.extend_from_slice.result c.args.out.now.items _ (drop start text) (c.in-Some.ensures.1 origin processor thread entry tells)
+    (appended c.extend_from_slice.result c.args.out.now.items _ _ _ c.extend_from_slice.ensures.items
+    (take_all _ (drop start text) (omega (arith, length-drop start text))))
+
+pub returns-in-None : goal.returns-in-None
+returns-in-None c = c.put_any_line.ensures
