@@ -1,5 +1,5 @@
 //! The threads that write.
-ghost use Rattle.std.specs.Prelude.{◌≡◌, ◌<◌, ◌≤◌, [], IfOk, length, vec_len, vec_capacity};
+ghost use Rattle.std.specs.Prelude.{◌≡◌, ◌+◌, ◌<◌, ◌≤◌, [], IfOk, length, vec_len, vec_capacity};
 ghost use Rattle.ep_defs.specs.declared.limits.TheConstants.{THREADS as MOST_THREADS};
 ghost use Rattle.ep_live.specs.Made.{AreStands};
 ghost use Rattle.pt_writers.specs.Written.{rows_of};

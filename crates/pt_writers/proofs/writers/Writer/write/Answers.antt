@@ -8,7 +8,7 @@ use Rattle.pt_writers.proofs.Load.{next-event, next-write}
 use Rattle.pt_writers.proofs.writers.Writer.write.Goals as goal
 
 pub pass_over-turn-requires-clause-next : goal.pass_over-turn-requires-clause-next
-pass_over-turn-requires-clause-next g c =
+pass_over-turn-requires-clause-next g c κs within =
     let around = c.args.around.now in
     let stands = ap (λ (w : WriterState). stand_in w.half.value) c.self.view_is ∙ c.requires.ready.stands in
     let few : c.args.index < around.plan.now.writes = omega (arith, c.requires.index, ap (λ (p : Plan). p.writes) around.plan_is) in
