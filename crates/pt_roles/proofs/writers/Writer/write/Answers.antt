@@ -10,7 +10,7 @@ use Rattle.pt_writers.proofs.Load.{next-event, next-write}
 use Rattle.pt_roles.proofs.writers.Writer.write.Goals as goal
 
 pub pass_over-turn-requires-clause-next : goal.pass_over-turn-requires-clause-next
-pass_over-turn-requires-clause-next g c =
+pass_over-turn-requires-clause-next g c κs within =
     let plan = g.P.World.world.plan in
     let world = c.args.scene.now.is_world in
     let stands = ap (λ (w : WriterState). stand_in w.half.value) c.self.view_is ∙ c.requires.stands in
