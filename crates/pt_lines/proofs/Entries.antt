@@ -16,7 +16,7 @@ use Rattle.pt_lines.specs.Texts.{quoted}
 use Rattle.pt_lines.specs.Json.{behind_commas, integer, object}
 use Rattle.pt_lines.specs.Chromium.{event_phase, lost_counter, microseconds, moment_text, nanoseconds, next_object, phase_of, phase_text, point_instant}
 use Rattle.pt_lines.specs.Appends.{Appends}
-use Rattle.pt_lines.specs.state.Opening.{IsNextPayload, opening}
+use Rattle.pt_lines.specs.state.Opening.{IsNextPayload}
 use Rattle.pt_lines.specs.state.Pieces.{end_of, ids_of, instant_text, named_pieces, placed_text, span_text}
 use Rattle.pt_lines.proofs.Steps.{payload-of, then}
 

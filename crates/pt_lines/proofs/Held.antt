@@ -1,5 +1,5 @@
 -- Numbers as values of fields.
-use Rattle.std.proofs.Common.{◌≡◌, ℕ, ◌*◌, ◌^◌, ◌<◌, ◌≤◌, true, List, ℤ, pos, refl, sym, ap, ◌∙◌, arith, decimal}
+use Rattle.std.proofs.Common.{◌≡◌, ℕ, ◌*◌, ◌^◌, ◌<◌, ◌≤◌, true, List, pos, refl, sym, ap, ◌∙◌, arith, decimal}
 use Rattle.std.specs.Prelude.{nat_le}
 use Rattle.std.specs.Int.{cast_signed}
 use Rattle.std.specs.Fmt.{signed_decimal}

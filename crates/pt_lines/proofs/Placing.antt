@@ -1,6 +1,6 @@
 -- Fields that are numbers, written into a buffer one before another.
 use Rattle.std.proofs.Common.{◌≡◌, ℕ, suc, false, eqb, true≢false, ◌+◌, ◌-◌, ◌<◌, ◌≤◌, decimal, get_or, drop-cons, List, [], ◌∷◌, ◌++◌, length, take, drop, Result, Some, Ok, Option, refl, sym, ap, ◌∙◌, subst, append_assoc, arith}
-use Rattle.std.specs.Prelude.{OnOk, codes, map}
+use Rattle.std.specs.Prelude.{OnOk, codes}
 use Rattle.std.specs.List.{concat, flat_map}
 use Rattle.std.proofs.lemmas.List.{append-nil, drop-drop, drop_all, length-append, length-drop, take-append-drop, take-take}
 use Rattle.std.proofs.lemmas.Result.{on_ok_weaker}
@@ -8,7 +8,7 @@ use Rattle.pt_print.specs.Printed.{number_part, units_part}
 use Rattle.ep_defs.specs.declared.event.FieldDef.{FieldDef}
 use Rattle.ep_defs.specs.Entry.{EventEntry}
 use Rattle.ep_defs.specs.Event.{deepest_after}
-use Rattle.nt_fields.specs.Values.{FieldValue, Misfit, payload_at, value_at, values_at}
+use Rattle.nt_fields.specs.Values.{FieldValue, Misfit, payload_at, values_at}
 use Rattle.pt_lines.specs.declared.form.Form.TheVariants as forms
 use Rattle.pt_lines.specs.declared.number.HeldNumber.{HeldNumber}
 use Rattle.pt_lines.specs.declared.origin.Origin.{Origin}
@@ -32,15 +32,14 @@ placed-none place text = (omega arith, refl, refl)
 -- A piece more, before the others.
 pub placed-more : (piece more : List ℕ) (start mid end : ℕ) (old now new : List ℕ) → Placed piece mid end old now → start ≤ mid
     → drop start new ≡ more ++ drop mid now → take start new ≡ take start now → Placed (more ++ piece) start end old new
-placed-more piece more start mid end old now new (within, put, stands) le next before =
-    (
-      omega (arith, within, le),
-      next ∙ ap (λ (xs : List ℕ). more ++ xs) put ∙ sym (append_assoc more piece (drop end old)),
-      before
-          ∙ sym (take-take start mid now le)
-          ∙ ap (λ (xs : List ℕ). take start xs) stands
-          ∙ take-take start mid old le,
-    )
+placed-more piece more start mid end old now new (within, put, stands) le next before = (
+  omega (arith, within, le),
+  next ∙ ap (λ (xs : List ℕ). more ++ xs) put ∙ sym (append_assoc more piece (drop end old)),
+  before
+      ∙ sym (take-take start mid now le)
+      ∙ ap (λ (xs : List ℕ). take start xs) stands
+      ∙ take-take start mid old le,
+)
 
 -- ---- the values of a payload
 
@@ -124,8 +123,7 @@ fielded-more fields payload left rest field before held start digits mid end lab
 pub fielded-all : (fields : List FieldDef) (payload : List ℕ) (left : List FieldDef) (before start end : ℕ) (old new : List ℕ)
     → Fielded fields payload left before start end old new → left ≡ [] → before ≡ 0 → PlacesFields fields payload start end old new
 fielded-all fields payload left before start end old new going none zero =
-    let all = ends-all fields payload left before going.done going.values going.ends none zero in
-    (
+    let all = ends-all fields payload left before going.done going.values going.ends none zero in (
       going.values,
       going.piece,
       all.1,
@@ -186,8 +184,7 @@ pub membered-all : (fields : List FieldDef) (payload : List ℕ) (left : List Fi
     → (values : List FieldValue) × (inner : List ℕ) × (payload_at fields payload ≡ Ok values) × AreMembers fields values inner × Placed (first_comma fields ++ inner) start end old new
 membered-all fields payload left before start end old new going none zero =
     let all = ends-all fields payload left before going.done going.values going.ends none zero in
-    let put = subst (λ (piece : List ℕ). Placed piece start end old new) going.begun going.put in
-    (
+    let put = subst (λ (piece : List ℕ). Placed piece start end old new) going.begun going.put in (
       going.values,
       commas (members_of fields going.shown),
       all.1,
@@ -217,8 +214,7 @@ pub line-placed : (origin : Origin) (processor thread : ℕ) (entry : EventEntry
     → IsLine forms.Lines (Event origin processor thread entry) line
 line-placed origin processor thread entry fields payload values piece line same_fields same_payload fits are put =
     let told : payload_at entry.def.fields entry.payload ≡ Ok values = fits-same fields entry.def.fields payload entry.payload values same_fields same_payload fits in
-    let shown : AreFields 0 entry.def.fields values piece = subst (λ (fs : List FieldDef). AreFields 0 fs values piece) same_fields are in
-    (
+    let shown : AreFields 0 entry.def.fields values piece = subst (λ (fs : List FieldDef). AreFields 0 fs values piece) same_fields are in (
       piece,
       subst (λ (answer : Result (List FieldValue) Misfit). IsPayload entry.def.fields entry.payload answer piece) (sym told) shown,
       put
@@ -241,8 +237,7 @@ pub closed-put : {E A : Type 0} (answer : Result A E) (fields : List FieldDef) (
     → OnOk answer (Appends (IsLastPayload fields payload (payload_at fields payload) end) old new)
 closed-put answer fields payload end old out piece new (values, inner, fits, are, is) begun put =
     on_ok_weaker answer
-    (λ e.
-    (
+    (λ e. (
       opening ++ (inner ++ (codes "}" ++ end)),
       payload-ends fields payload end values inner fits are,
       e
@@ -300,8 +295,7 @@ pub members-some : (fields : List FieldDef) (payload : List ℕ) (values : List 
 members-some [] payload values inner start end old new some room same fits are placed = absurd (omega (arith, some))
 members-some (field ∷ fields) payload values inner start end old new some room same fits are (within, put, stands) =
     let rest : List ℕ = drop end old in
-    let long = ap length put in
-    (
+    let long = ap length put in (
       values,
       inner,
       fits,

@@ -2,6 +2,7 @@
 //!
 //! `text` puts names and texts of strangers, `value` the value of a field, `number` finds the values that are plain numbers, `guid`
 //! has the text of sixteen bytes, `fields` the fields of an event by its definition, `place` numbers that go out in one piece,
+//! `plain` the fields of a payload of numbers alone, as nearly all are, which go out so with what stands around them,
 //! `named` a definition with what is put of it once for all of its events, and `line`
 //! whole lines, in the form that is asked for; `json` has the form of objects, with modules of the same tasks, and `chromium`
 //! that of trace events, over it. It stands on nt_fields, for the values of a payload, on pt_print, for the parts of

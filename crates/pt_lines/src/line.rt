@@ -161,13 +161,7 @@ fn place_event(text: &mut [u8], event: &EventLine<'_>) -> Option<usize>
         return None;
     }
     let named = place_word(text, fields, names);
-    Some(place_numbers(
-        text,
-        named,
-        event.stamp,
-        event.thread,
-        event.number,
-    ))
+    Some(place_numbers(text, named, event.stamp, event.thread, event.number))
 }
 
 // So it is with the line of any event. It stands apart, so that the way of the others is short.

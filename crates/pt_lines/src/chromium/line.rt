@@ -161,11 +161,7 @@ fn place_event(text: &mut [u8], event: &EventLine<'_>) -> Option<usize>
 
 // So it is with any event. It stands apart, so that the way of the others is short.
 #[inline(never)]
-fn put_any_placed(
-    out: &mut Vec<u8>,
-    alloc: Global,
-    event: EventLine<'_>,
-) -> Result<(), AllocError>
+fn put_any_placed(out: &mut Vec<u8>, alloc: Global, event: EventLine<'_>) -> Result<(), AllocError>
     ensures { (origin : Origin) (processor thread : ℕ) (entry : EventEntry) → Tells event.entry origin processor thread entry
         → OnOk result (Appends (IsPlacedEnd origin entry) out.old.items out.new.items) }
 {

@@ -1,7 +1,7 @@
 -- The line is the pieces that were placed.
-use Rattle.std.proofs.Common.{◌≡◌, List, ℕ, [], ◌∷◌, ◌++◌, drop, take, length, replicate, sym, ap, ◌∙◌, arith}
+use Rattle.std.proofs.Common.{◌≡◌, List, ℕ, [], ◌++◌, drop, take, length, sym, ap, ◌∙◌, arith}
 use Rattle.std.specs.Prelude.{codes}
-use Rattle.std.proofs.lemmas.List.{append-nil, drop_all, length-replicate, take-replicate}
+use Rattle.std.proofs.lemmas.List.{drop_all, length-replicate, take-replicate}
 use Rattle.ep_defs.specs.declared.event.EventDef.{EventDef}
 use Rattle.pt_lines.specs.state.Pieces.{names_text, numbers_text}
 use Rattle.pt_lines.proofs.Placing.{kept, line-placed}
@@ -24,8 +24,7 @@ returns c =
     let end = c.place_word-end in
     let named = c.place_word-named in
     let placed = c.in_ok-fields.ensures.placed in
-    let numbers = c.place_numbers in
-    (
+    let numbers = c.place_numbers in (
       omega (arith, numbers.ensures.before, named.ensures.start, placed.4.0, end.ensures.start),
       λ origin processor thread entry tells.
           let none : drop 192 c.args.text.now ≡ [] = drop_all 192 c.args.text.now (omega (arith, ap length c.requires, length-replicate {A = ℕ} 192 32)) in

@@ -1,4 +1,4 @@
-use Rattle.std.proofs.Common.{◌≡◌, ◌-◌, ◌<◌, ◌^◌, ◌++◌, List, ℕ, [], ◌∷◌, length, take, drop, refl, sym, ◌∙◌, arith, rules}
+use Rattle.std.proofs.Common.{◌≡◌, ◌-◌, ◌<◌, ◌^◌, length, take, refl, sym, ◌∙◌, arith, rules}
 use Rattle.std.proofs.lemmas.Fmt.{length-decimal-le}
 use Rattle.ep_defs.specs.Event.{deepest_after}
 use Rattle.pt_lines.proofs.Placing.{fielded-more, fielded-none, with-last}
@@ -27,8 +27,7 @@ loop-left-preserved c =
     let digits = c.write_digits-digits in
     let start = c.place_word-start in
     let whole = with-last left (length left - 1) field field (omega (arith, c.in-len1-up.len_at_least)) c.field-item.is in
-    let shallow : deepest_after field ≡ 0 = sym c.open_after.ensures ∙ omega (arith, c.if-open_after-gt0.false) in
-    (
+    let shallow : deepest_after field ≡ 0 = sym c.open_after.ensures ∙ omega (arith, c.if-open_after-gt0.false) in (
       fielded-more c.args.fields.now c.args.payload.now left (take (length left - 1) left) field c.loop-left.before c.in_ok-held.held start.result digits.result c.loop-left.start c.args.end c.label-label.result.now c.args.text.now c.loop-left.text digits.new.buf start.new.text
           invariant.0 whole c.in_ok-held.ensures.within c.in_ok-held.ensures.held shallow c.label-label.ensures
           (omega (arith, digits.ensures.start)) digits.ensures.written digits.ensures.before

@@ -1,4 +1,4 @@
-use Rattle.std.proofs.Common.{◌≡◌, ◌-◌, ◌<◌, ◌^◌, ◌++◌, List, ℕ, [], ◌∷◌, length, take, drop, refl, sym, ◌∙◌, arith, rules}
+use Rattle.std.proofs.Common.{◌≡◌, ◌-◌, ◌<◌, ◌^◌, length, take, refl, sym, ◌∙◌, arith, rules}
 use Rattle.std.proofs.lemmas.Bool.{eqb-true}
 use Rattle.std.proofs.lemmas.Fmt.{length-decimal-le}
 use Rattle.std.proofs.lemmas.List.{nil_from_length}
@@ -27,8 +27,7 @@ loop-left-preserved c =
     let field = c.field-item.result in
     let digits = c.write_digits-digits in
     let start = c.place_word-start in
-    let whole = with-last left (length left - 1) field field (omega (arith, c.in-len1-up.len_at_least)) c.field-item.is in
-    (
+    let whole = with-last left (length left - 1) field field (omega (arith, c.in-len1-up.len_at_least)) c.field-item.is in (
       membered-more c.args.fields.now c.args.payload.now left (take (length left - 1) left) field c.loop-left.before c.in_ok-held.held start.result digits.result c.loop-left.start c.args.end c.member-member.result.now c.args.text.now c.loop-left.text digits.new.buf start.new.text
           invariant.0 whole c.in_ok-held.ensures.within c.in_ok-held.ensures.held c.member-member.ensures
           (omega (arith, digits.ensures.start)) digits.ensures.written digits.ensures.before

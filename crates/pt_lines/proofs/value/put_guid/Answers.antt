@@ -1,4 +1,4 @@
-use Rattle.std.proofs.Common.{drop, ◌∙◌, sym, append-nil, arith}
+use Rattle.std.proofs.Common.{drop, ◌∙◌, append-nil, arith}
 use Rattle.std.proofs.lemmas.List.{take_all, length-drop}
 use Rattle.pt_print.proofs.Numbers.{appended}
 use Rattle.pt_lines.proofs.value.put_guid.Goals as goal

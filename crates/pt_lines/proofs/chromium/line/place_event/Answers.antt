@@ -16,8 +16,7 @@ returns c =
     let end = c.place_word-end in
     let placed = c.in_ok-members.ensures.placed in
     let process = c.place_ids-process in
-    let time = c.place_time in
-    (
+    let time = c.place_time in (
       omega (arith, time.ensures.before, process.ensures.before, placed.4, end.ensures.start),
       λ origin processor thread entry tells.
           let fields = c.fields.result.now in

@@ -16,8 +16,7 @@ returns c = λ origin processor thread entry tells.
     let place = placed_text origin entry in
     let opened = c.in_ok-put_place.ensures origin processor thread entry tells ∙ sym (append_assoc old place opening) in
     on_ok_weaker c.extend_from_slice.result
-    (λ (last, is, put).
-    (
+    (λ (last, is, put). (
       place ++ last,
       (
         last,

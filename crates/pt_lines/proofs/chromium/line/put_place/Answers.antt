@@ -1,5 +1,5 @@
 -- The members are the pieces that were put.
-use Rattle.std.proofs.Common.{List, ℕ, [], ◌++◌, drop, ap, ◌∙◌, sym, arith}
+use Rattle.std.proofs.Common.{List, ℕ, ◌++◌, drop, ap, ◌∙◌, sym, arith}
 use Rattle.std.specs.Prelude.{codes}
 use Rattle.std.proofs.lemmas.List.{take_all, length-drop}
 use Rattle.std.proofs.lemmas.Result.{on_ok_weaker}

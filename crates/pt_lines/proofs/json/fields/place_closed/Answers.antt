@@ -12,8 +12,7 @@ returns c =
     let ended : drop behind.result behind.new.text ≡ c.args.end.now =
     behind.ensures.written ∙ ap (λ (xs : List ℕ). c.args.end.now ++ xs) none ∙ append-nil c.args.end.now in
     IfSome_then c.place_members.result c.place_members.ensures.placed
-    (λ start is.
-    (
+    (λ start is. (
       omega (arith, is.4, close.ensures.start, behind.ensures.start),
       (
         is.0,

@@ -1,5 +1,5 @@
 -- A field that has a value, or that has none.
-use Rattle.std.proofs.Common.{◌≡◌, ℕ, List, Some, None, decimal, refl, sym, ◌∙◌, rules}
+use Rattle.std.proofs.Common.{◌≡◌, Some, None, decimal, refl, sym, ◌∙◌, rules}
 use Rattle.pt_lines.proofs.Going.{no-kind}
 use Rattle.pt_lines.proofs.json.fields.put_next.Goals as goal
 
