@@ -23,17 +23,15 @@ cat >"$work/crates/measure/src/main.rt" <<'PROGRAM'
 ghost use Rattle.std.specs.Prelude.{◌<◌};
 
 use anyhow::{Result, ensure};
-use nt_head::{HeadState, TakenHead, put_head, take_head};
+use nt_head::{HeadState, put_head, take_next};
 use std::env;
 use std::hint::black_box;
 
-// Reads the header again and again, each time after what it said before, and answers the last number.
+// Reads the header again and again, each time into what it said before, and answers the last number.
 fn reads(bytes: &[u8], previous: &HeadState, turns: u32) -> u32 {
     let mut last = *previous;
     for _ in 0..turns {
-        if let TakenHead::Head { state, used: _ } = take_head(black_box(bytes), &last) {
-            last = state;
-        }
+        let _ = black_box(take_next(black_box(bytes), &mut last));
     }
     last.number
 }
