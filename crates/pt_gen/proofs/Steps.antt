@@ -3,6 +3,8 @@ use Rattle.std.proofs.Common.{◌≡◌, ◌≤◌, ◌∷◌, ◌++◌, List, [
 use Rattle.std.proofs.lemmas.List.{append-nil, reverse-append, reverse-reverse, length-reverse}
 use Rattle.ep_model.specs.declared.step.Step.{Step}
 use Rattle.ep_model.specs.History.{Past}
+use Rattle.ep_model.specs.Lawful.{IsLawful}
+use Rattle.pt_load.specs.Sample.{sample}
 use Rattle.pt_gen.specs.Schedule.{Gives}
 
 -- One step more was made.
@@ -31,3 +33,25 @@ given_some before given after step gives is = subst (λ (g : Option Step). Gives
 -- None was given, since there was none.
 pub given_none : (before : List Step) (given : Option Step) (after : List Step) → Gives before given after → given ≡ None → before ≡ []
 given_none before given after gives is = (subst (λ (g : Option Step). Gives before g after) is gives).0
+
+-- ---- several steps at once
+
+-- Several steps more were made.
+pub some_more : (all : List Step) (past : Past) (steps now later : List Step) → all ≡ reverse past ++ now → now ≡ steps ++ later
+    → all ≡ reverse (reverse steps ++ past) ++ later
+some_more all past steps now later is first =
+    is ∙ ap (λ xs. reverse past ++ xs) first
+    ∙ sym (ap (λ xs. xs ++ later) (reverse-append (reverse steps) past ∙ ap (λ xs. reverse past ++ xs) (reverse-reverse steps)) ∙ append_assoc (reverse past) steps later)
+
+earlier_lawful : (later past : List Step) → IsLawful sample (later ++ past) → IsLawful sample past
+earlier_lawful [] past lawful = lawful
+earlier_lawful (step ∷ later) past lawful = earlier_lawful later past lawful.0
+
+-- They can be made where the whole schedule can.
+pub some_lawful : (all : List Step) (past : Past) (steps now later : List Step) → IsLawful sample (reverse all) → all ≡ reverse past ++ now → now ≡ steps ++ later
+    → IsLawful sample (reverse steps ++ past)
+some_lawful all past steps now later lawful is first =
+    let whole = some_more all past steps now later is first in
+    let turned : reverse all ≡ reverse later ++ (reverse steps ++ past) =
+    ap (λ (xs : List Step). reverse xs) whole ∙ reverse-append (reverse (reverse steps ++ past)) later ∙ ap (λ xs. reverse later ++ xs) (reverse-reverse (reverse steps ++ past)) in
+    earlier_lawful (reverse later) (reverse steps ++ past) (subst (IsLawful sample) turned lawful)

@@ -1,16 +1,16 @@
 -- Which thread writes in a round, and who gets the write.
-use Rattle.std.proofs.Common.{◌≡◌, ◌≢◌, ℕ, zero, suc, ◌+◌, ◌%◌, ◌/◌, Bool, true, false, cond, ◌⊎◌, inl, inr, ⊎_elim, refl, ◌∙◌, arith}
-use Rattle.std.specs.Prelude.{count_by, nat_lt, ◌==◌}
+use Rattle.std.proofs.Common.{◌≡◌, ◌≢◌, ℕ, zero, suc, ◌+◌, ◌%◌, ◌/◌, Bool, true, false, cond, [], ◌∷◌, ◌⊎◌, inl, inr, ⊎_elim, refl, ◌∙◌, arith}
+use Rattle.std.specs.Prelude.{count_by, filter, nat_lt, ◌==◌}
 use Rattle.std.specs.Option.{option_map_or}
 use Rattle.std.specs.List.{range_with_len}
-use Rattle.std.proofs.lemmas.Bool.{agree_below_at, lt-ltb}
+use Rattle.std.proofs.lemmas.Bool.{agree_below_at, eq-eqb, lt-ltb, ne_eqb}
 use Rattle.std.proofs.lemmas.Bool.Decides.{eqb_tells}
 use Rattle.std.proofs.lemmas.List.Sums.{sum_by-cons}
 use Rattle.ep_defs.specs.Admits.{session_admits}
 use Rattle.ep_defs.specs.Definitions.{definition_at}
 use Rattle.pt_load.specs.Sample.{sample}
 use Rattle.pt_gen.specs.declared.limits.TheConstants.{NARROW, WIDE}
-use Rattle.pt_gen.specs.Schedule.{config_of, gets, thread_at, write_at, writes_before}
+use Rattle.pt_gen.specs.Schedule.{config_of, gets, sessions, thread_at, write_at, writes_before}
 
 -- one where the place has this turn
 one : ℕ → ℕ → ℕ
@@ -79,3 +79,11 @@ wide_gets seed round =
 pub narrow_gets : (seed round : ℕ) → gets (write_at seed round) NARROW ≡ ((write_at seed round).event == 6)
 unfolding gets_event sample
 narrow_gets seed round = agree_below_at (gets_event NARROW) (λ event. event == 6) 9 (write_at seed round).event refl (omega arith)
+
+-- So both get the sixth event.
+pub both_get : (seed round : ℕ) → (write_at seed round).event ≡ 6 → filter (gets (write_at seed round)) sessions ≡ WIDE ∷ NARROW ∷ []
+both_get seed round is = rw (wide_gets seed round, narrow_gets seed round, eq-eqb (write_at seed round).event 6 is) refl
+
+-- The first one alone gets each other.
+pub one_gets : (seed round : ℕ) → (write_at seed round).event ≢ 6 → filter (gets (write_at seed round)) sessions ≡ WIDE ∷ []
+one_gets seed round off = rw (wide_gets seed round, narrow_gets seed round, ne_eqb (write_at seed round).event 6 off) refl

@@ -1,6 +1,6 @@
 //! The steps of the schedule, one after another.
-ghost use Rattle.std.specs.Prelude.{◌≡◌, [], List, IfOk, OnErr};
-ghost use Rattle.pt_gen.specs.Schedule.{Gives, generated};
+ghost use Rattle.std.specs.Prelude.{◌≡◌, ◌++◌, [], List, IfOk, IfNone, IfSome, OnErr};
+ghost use Rattle.pt_gen.specs.Schedule.{Gives, generated, made, thread_at, write_at};
 
 use crate::rounds::Rounds;
 use crate::session::Session;
@@ -52,5 +52,19 @@ impl Gen {
         let step = self.stage.step(alloc, self.rounds)?;
         self.stage = self.stage.after(self.rounds);
         Ok(step)
+    }
+
+    /// Passes over all steps of a write, where one comes next and the schedule has this seed, and answers its round.
+    pub(crate) fn pass_write(&mut self, seed: u64) -> Option<u32>
+        ensures passed { IfSome result (λ round. self.old
+            ≡ made (thread_at seed round) round (write_at seed round) ++ self.new) }
+        ensures kept { IfNone result (self.new ≡ self.old) }
+    {
+        if self.rounds.seed != seed {
+            return None;
+        }
+        let (round, stage) = self.stage.after_whole_write(self.rounds)?;
+        self.stage = stage;
+        Some(round)
     }
 }

@@ -51,7 +51,8 @@ impl Rounds {
         }
     }
 
-    fn plan(self) -> Plan
+    // The plan by which threads make their writes.
+    pub(crate) fn plan(self) -> Plan
         ensures { result ≡ plan_of self.seed }
     {
         Plan {
@@ -60,8 +61,9 @@ impl Rounds {
             writes: WRITES,
         }
     }
+
     // How many writes the round's thread made before.
-    fn writes_before(self, round: u32) -> u32
+    pub(crate) fn writes_before(self, round: u32) -> u32
         ensures { result ≡ writes_before self.seed round }
     {
         round / THREADS

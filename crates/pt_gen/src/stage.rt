@@ -1,7 +1,7 @@
 //! The step that comes next.
-ghost use Rattle.std.specs.Prelude.{◌≡◌, ◌+◌, ◌<◌, ◌≤◌, ◌∷◌, ◌++◌, IfOk};
+ghost use Rattle.std.specs.Prelude.{◌≡◌, ◌+◌, ◌<◌, ◌≤◌, ◌∷◌, ◌++◌, IfOk, IfSome};
 ghost use Rattle.ep_model.specs.declared.step.Step.TheVariants as made;
-ghost use Rattle.pt_gen.specs.Schedule.{Gives, sweep_after};
+ghost use Rattle.pt_gen.specs.Schedule.{Gives, made as steps_of_write, sweep_after, thread_at, write_at};
 ghost use Rattle.pt_gen.specs.state.ToCome.{IsStage, IsThread, after_session, end_from, first_walked, next_step, number_of, rounds_from, shows_from, to_come};
 
 use crate::limits::{SWEEP_ROUNDS, THREADS};
@@ -93,6 +93,20 @@ impl Stage {
                 None => Stage::Ended,
             },
             Stage::Ended => Stage::Ended,
+        }
+    }
+
+    // Where a write comes next, its round, and the stage behind all its steps.
+    pub(crate) fn after_whole_write(self, rounds: Rounds) -> Option<(u32, Stage)>
+        requires { IsStage rounds.count self }
+        ensures within { IfSome result (λ passed. IsStage rounds.count passed.1) }
+        ensures follows { IfSome result (λ passed. to_come rounds.seed rounds.count self
+            ≡ steps_of_write (thread_at rounds.seed passed.0) passed.0 (write_at rounds.seed passed.0)
+            ++ to_come rounds.seed rounds.count passed.1) }
+    {
+        match self {
+            Stage::Begin { round } => Some((round, after_write(rounds, round))),
+            _ => None,
         }
     }
 }
