@@ -10,7 +10,7 @@ here=$(cd "$(dirname "$0")/.." && pwd) || exit 1
 work=$(mktemp -d) || exit 1
 trap 'rm -rf "$work"' EXIT
 mkdir -p "$work/crates/measure/src" "$work/crates/measure_events/src" "$work/crates/measure_events/proofs/adds" || exit 1
-for crate in pt_num nt_head ep_defs pt_io nt_object nt_meta nt_stacks nt_blocks nt_write; do
+for crate in pt_num nt_head ep_defs pt_io nt_object nt_meta ep_rundown nt_stacks nt_blocks nt_write; do
     cp -r "$here/crates/$crate" "$work/crates/" || exit 1
     grep "^$crate:" "$here/crates.txt" >>"$work/crates.txt" || exit 1
 done
