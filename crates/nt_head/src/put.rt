@@ -56,7 +56,8 @@ pub fn push_head(out: &mut Vec<u8>, previous: &HeadState, now: &HeadState)
     if says_nothing_new(previous, now) {
         push_usual(out, previous, now);
     } else {
-        push_fields(out, previous, now);
+        let mut last = *previous;
+        push_changes(out, &mut last, now);
     }
 }
 
@@ -81,10 +82,7 @@ pub fn push_next(out: &mut Vec<u8>, last: &mut HeadState, now: &HeadState)
         last.stamp = now.stamp;
         last.sorted = now.sorted;
     } else {
-        // A copy, so that the state is put together in memory on this way alone.
-        let now = *now;
-        push_fields(out, last, &now);
-        *last = now;
+        push_changes(out, last, now);
     }
 }
 
@@ -98,44 +96,52 @@ fn push_usual(out: &mut Vec<u8>, previous: &HeadState, now: &HeadState)
     ensures capacity { vec_capacity out.new ≡ vec_capacity out.old }
 {
     out.push_reserved(flag(SORTED, now.sorted));
-    push_stamp(out, previous, now);
+    push_stamp(out, previous.stamp, now.stamp);
 }
 
-// Appends the flag byte and the fields that are new.
-#[inline(never)]
-fn push_fields(out: &mut Vec<u8>, previous: &HeadState, now: &HeadState)
+// Appends the flag byte and the fields that are new, and makes `now` the last header. In line, so that the state need
+// not be put together in memory first.
+#[inline(always)]
+fn push_changes(out: &mut Vec<u8>, last: &mut HeadState, now: &HeadState)
     requires { vec_len out.old + HEAD_BYTES ≤ vec_capacity out.old }
-    ensures items { out.new.items ≡ out.old.items ++ head_bytes previous.now now.now }
+    ensures items { out.new.items ≡ out.old.items ++ head_bytes last.old now.now }
+    ensures last { last.new ≡ now.now }
     ensures len { vec_len out.new ≤ vec_len out.old + HEAD_BYTES }
     ensures capacity { vec_capacity out.new ≡ vec_capacity out.old }
 {
     // The list is taken out of its place meanwhile, so that no byte that is put can be one of the list's own.
     let nothing = Vec::new(*out.allocator());
     let mut taken = mem::replace(out, nothing);
-    push_in_turn(&mut taken, previous, now);
+    push_in_turn(&mut taken, last, now);
     *out = taken;
 }
 
-// The same: each field is compared and put in turn, and the flag byte is set when all of them are known.
+// The same: each field is compared, put and kept in turn, and the flag byte is set when all of them are known.
 #[inline(always)]
-fn push_in_turn(out: &mut Vec<u8>, previous: &HeadState, now: &HeadState)
+fn push_in_turn(out: &mut Vec<u8>, last: &mut HeadState, now: &HeadState)
     requires { vec_len out.old + HEAD_BYTES ≤ vec_capacity out.old }
-    ensures items { out.new.items ≡ out.old.items ++ head_bytes previous.now now.now }
+    ensures items { out.new.items ≡ out.old.items ++ head_bytes last.old now.now }
+    ensures last { last.new ≡ now.now }
     ensures len { vec_len out.new ≤ vec_len out.old + HEAD_BYTES }
     ensures capacity { vec_capacity out.new ≡ vec_capacity out.old }
 {
     let place = out.len();
     out.push_reserved(0);
-    let mut flags = push_new32(out, METADATA, previous.metadata, now.metadata);
-    flags += push_sequence(out, previous, now);
-    flags += push_new64(out, THREAD, previous.thread, now.thread);
-    flags += push_new32(out, STACK, previous.stack, now.stack);
-    push_stamp(out, previous, now);
-    flags += push_new_id(out, ACTIVITY, &previous.activity, &now.activity);
-    flags += push_new_id(out, RELATED, &previous.related, &now.related);
+    let mut flags = push_new32(out, METADATA, &mut last.metadata, now.metadata);
+    flags += push_sequence(out, last, now);
+    flags += push_new64(out, THREAD, &mut last.thread, now.thread);
+    flags += push_new32(out, STACK, &mut last.stack, now.stack);
+    push_stamp(out, last.stamp, now.stamp);
+    flags += push_new_id(out, ACTIVITY, &mut last.activity, &now.activity);
+    flags += push_new_id(out, RELATED, &mut last.related, &now.related);
     flags += flag(SORTED, now.sorted);
-    flags += push_new32(out, SIZE, previous.size, now.size);
+    flags += push_new32(out, SIZE, &mut last.size, now.size);
     out[place] = flags;
+    last.number = now.number;
+    last.capture = now.capture;
+    last.processor = now.processor;
+    last.stamp = now.stamp;
+    last.sorted = now.sorted;
 }
 
 // Whether the blob says what the blob before it says, but for the stamp and the next number.
@@ -177,64 +183,70 @@ fn flag(worth: u8, set: bool) -> u8
     if set { worth } else { 0 }
 }
 
-// Appends a field where its value is new, and answers what its flag, which is worth this much, adds to the flag byte.
+// Appends a field where its value is new, and makes it the last one. It answers what the field's flag, which is worth
+// this much, adds to the flag byte.
 #[inline(always)]
-fn push_new32(out: &mut Vec<u8>, worth: u8, previous: u32, now: u32) -> u8
+fn push_new32(out: &mut Vec<u8>, worth: u8, last: &mut u32, now: u32) -> u8
     requires { vec_len out.old + 5 ≤ vec_capacity out.old }
-    ensures items { out.new.items ≡ out.old.items ++ if_there (short_var w32) (if_new nat_eq previous now) }
+    ensures items { out.new.items ≡ out.old.items ++ if_there (short_var w32) (if_new nat_eq last.old now) }
+    ensures last { last.new ≡ now }
     ensures len { vec_len out.new ≤ vec_len out.old + 5 }
     ensures capacity { vec_capacity out.new ≡ vec_capacity out.old }
-    ensures flag { result ≡ worth_of worth (is_some (if_new nat_eq previous now)) }
+    ensures flag { result ≡ worth_of worth (is_some (if_new nat_eq last.old now)) }
     ensures bound { result ≤ worth }
 {
-    if previous == now {
+    if *last == now {
         return 0;
     }
     push_var32(out, now);
+    *last = now;
     worth
 }
 
 #[inline(always)]
-fn push_new64(out: &mut Vec<u8>, worth: u8, previous: u64, now: u64) -> u8
+fn push_new64(out: &mut Vec<u8>, worth: u8, last: &mut u64, now: u64) -> u8
     requires { vec_len out.old + 10 ≤ vec_capacity out.old }
-    ensures items { out.new.items ≡ out.old.items ++ if_there (short_var w64) (if_new nat_eq previous now) }
+    ensures items { out.new.items ≡ out.old.items ++ if_there (short_var w64) (if_new nat_eq last.old now) }
+    ensures last { last.new ≡ now }
     ensures len { vec_len out.new ≤ vec_len out.old + 10 }
     ensures capacity { vec_capacity out.new ≡ vec_capacity out.old }
-    ensures flag { result ≡ worth_of worth (is_some (if_new nat_eq previous now)) }
+    ensures flag { result ≡ worth_of worth (is_some (if_new nat_eq last.old now)) }
     ensures bound { result ≤ worth }
 {
-    if previous == now {
+    if *last == now {
         return 0;
     }
     push_var64(out, now);
+    *last = now;
     worth
 }
 
 // The stamp's increment.
 #[inline(always)]
-fn push_stamp(out: &mut Vec<u8>, previous: &HeadState, now: &HeadState)
+fn push_stamp(out: &mut Vec<u8>, previous: u64, now: u64)
     requires { vec_len out.old + 10 ≤ vec_capacity out.old }
-    ensures items { out.new.items
-        ≡ out.old.items ++ short_var w64 ((now.now.stamp + 2 ^ 64 - previous.now.stamp) % 2 ^ 64) }
+    ensures items { out.new.items ≡ out.old.items ++ short_var w64 ((now + 2 ^ 64 - previous) % 2 ^ 64) }
     ensures len { vec_len out.new ≤ vec_len out.old + 10 }
     ensures capacity { vec_capacity out.new ≡ vec_capacity out.old }
 {
-    push_var64(out, now.stamp.wrapping_sub(previous.stamp));
+    push_var64(out, now.wrapping_sub(previous));
 }
 
 #[inline(always)]
-fn push_new_id(out: &mut Vec<u8>, worth: u8, previous: &[u8; 16], now: &[u8; 16]) -> u8
+fn push_new_id(out: &mut Vec<u8>, worth: u8, last: &mut [u8; 16], now: &[u8; 16]) -> u8
     requires { vec_len out.old + ID_BYTES ≤ vec_capacity out.old }
-    ensures items { out.new.items ≡ out.old.items ++ if_there (λ id. id) (if_new (pointwise nat_eq) previous.now now.now) }
+    ensures items { out.new.items ≡ out.old.items ++ if_there (λ id. id) (if_new (pointwise nat_eq) last.old now.now) }
+    ensures last { last.new ≡ now.now }
     ensures len { vec_len out.new ≤ vec_len out.old + ID_BYTES }
     ensures capacity { vec_capacity out.new ≡ vec_capacity out.old }
-    ensures flag { result ≡ worth_of worth (is_some (if_new (pointwise nat_eq) previous.now now.now)) }
+    ensures flag { result ≡ worth_of worth (is_some (if_new (pointwise nat_eq) last.old now.now)) }
     ensures bound { result ≤ worth }
 {
-    if is_same_id(previous, now) {
+    if is_same_id(last, now) {
         return 0;
     }
     push_id(out, now);
+    *last = *now;
     worth
 }
 
