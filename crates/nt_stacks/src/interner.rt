@@ -83,6 +83,23 @@ impl Interner {
         if let Some(id) = self.recent.find(bytes) {
             return Ok(Interned { id, is_new: false });
         }
+        self.id_in_map(alloc, bytes)
+    }
+
+    // The same, for a stack that was not asked for lately.
+    #[inline(never)]
+    fn id_in_map(&mut self, alloc: Global, bytes: &[u8]) -> Result<Interned, AllocError>
+        requires few { length self.old < MOST_STACKS }
+        requires some { 0 < length bytes.now }
+        ensures ok { OnOk result (self.new ≡ with_stack self.old bytes.now) }
+        ensures id { IfOk result (λ interned. interned.id ≡ stack_id self.new bytes.now) }
+        ensures is_new { IfOk result (λ interned. interned.is_new ≡ nat_lt (length self.old) interned.id) }
+        ensures count { IfOk result (λ interned. length self.new
+            ≡ length self.old + (if interned.is_new then 1 else 0)) }
+        ensures small { IfOk result (λ interned. interned.id ≤ length self.new) }
+        ensures equal { IfOk result (λ interned. IsOfNoOther self.new interned.id bytes.now) }
+        ensures err { OnErr result (self.new ≡ self.old) }
+    {
         if let Some(id) = self.ids.get(bytes) {
             let id = *id;
             self.recent.keep(alloc, bytes, id);

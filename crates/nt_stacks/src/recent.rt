@@ -1,5 +1,5 @@
 //! Stacks that were asked for lately.
-ghost use Rattle.std.specs.Prelude.{◌≡◌, ◌<◌, List, ℕ, [], IfSome, Some};
+ghost use Rattle.std.specs.Prelude.{◌≡◌, ◌<◌, List, ℕ, [], IfSome, IsTrue, Some};
 ghost use Rattle.nt_stacks.specs.Interning.{id_at, AreKnown};
 
 use crate::limits::{PLACE_SPREAD, PLACES, WORD_BYTES};
@@ -57,7 +57,7 @@ impl Recent {
             return None;
         }
         let kept = &self.places[place];
-        if kept.id > 0 && kept.bytes.as_slice() == bytes {
+        if kept.id > 0 && is_same(&kept.bytes, bytes) {
             Some(kept.id)
         } else {
             None
@@ -109,6 +109,24 @@ fn refill(kept: &mut Kept, bytes: &[u8], id: u32)
         Ok(()) => id,
         Err(AllocError) => 0,
     };
+}
+
+// Whether two stacks are the same. Frame by frame, as most have a few.
+#[inline(always)]
+fn is_same(kept: &[u8], bytes: &[u8]) -> bool
+    ensures { IsTrue result → kept.now ≡ bytes.now }
+{
+    if kept.len() != bytes.len() {
+        return false;
+    }
+    let mut at = 0;
+    while bytes.len() - at >= WORD_BYTES {
+        if LittleEndian::read_u64(&kept[at..]) != LittleEndian::read_u64(&bytes[at..]) {
+            return false;
+        }
+        at += WORD_BYTES;
+    }
+    at == bytes.len() || kept[at..] == bytes[at..]
 }
 
 // The place of a stack, by its first and its last frame.
