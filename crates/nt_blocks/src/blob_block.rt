@@ -1,5 +1,5 @@
 //! A body of blobs in the making.
-ghost use Rattle.std.specs.Prelude.{◌≡◌, ℕ, ◌+◌, ◌<◌, ◌≤◌, ◌++◌, ◌↔◌, List, [], ◌∷◌, length, IsTrue, IfOk, OnOk, OnErr};
+ghost use Rattle.std.specs.Prelude.{◌≡◌, ℕ, ◌+◌, ◌<◌, ◌≤◌, ◌++◌, ◌↔◌, List, [], ◌∷◌, length, IsTrue, IfOk, OnOk, OnErr, vec_len, vec_capacity};
 ghost use Rattle.nt_object.specs.declared.object.BlockKind.TheVariants as block;
 ghost use Rattle.ep_defs.specs.declared.item.Item.{Item};
 ghost use Rattle.nt_head.specs.Head.{IsHead};
@@ -15,7 +15,7 @@ use ep_defs::ranges::bytes_fit;
 use nt_head::limits::HEAD_BYTES;
 use nt_head::{HeadState, push_next};
 use nt_object::BlockKind;
-use pt_num::{put_u16, put_u64};
+use pt_num::{put_u16, put_u32, put_u64, take_u16, take_u32, take_u64};
 use std::alloc::{AllocError, Global};
 use std::marker::Model;
 
@@ -164,5 +164,82 @@ fn put_blob(
 {
     out.reserve(HEAD_BYTES + payload.len())?;
     push_next(out, last, head);
-    out.extend_from_slice(payload)
+    push_payload(out, payload);
+    Ok(())
+}
+
+// Appends a payload, for which there is room. Most have a few bytes, of which many are put in one piece, without a call.
+#[inline(always)]
+fn push_payload(out: &mut Vec<u8>, payload: &[u8])
+    requires { vec_len out.old + length payload.now ≤ vec_capacity out.old }
+    ensures { out.new.items ≡ out.old.items ++ payload.now }
+{
+    let rest = push_eight(out, payload);
+    if !rest.is_empty() {
+        push_rest(out, rest);
+    }
+}
+
+// Appends what is left of a payload.
+fn push_rest(out: &mut Vec<u8>, payload: &[u8])
+    requires { vec_len out.old + length payload.now ≤ vec_capacity out.old }
+    ensures { out.new.items ≡ out.old.items ++ payload.now }
+{
+    let rest = push_eight(out, payload);
+    let rest = push_eight(out, rest);
+    let rest = push_four(out, rest);
+    let rest = push_two(out, rest);
+    if !rest.is_empty() {
+        let Ok(()) = out.extend_from_slice(rest) else {
+            unreachable!()
+        };
+    }
+}
+
+// Appends the first eight bytes in one piece, if there are as many, and answers the others.
+#[inline(always)]
+fn push_eight<'a>(out: &mut Vec<u8>, bytes: &'a [u8]) -> &'a [u8]
+    requires { vec_len out.old + length bytes.now ≤ vec_capacity out.old }
+    ensures items { out.new.items ++ result.now ≡ out.old.items ++ bytes.now }
+    ensures room { vec_len out.new + length result.now ≤ vec_capacity out.new }
+{
+    let Some(word) = take_u64(bytes) else {
+        return bytes;
+    };
+    let Ok(()) = put_u64(out, word) else {
+        unreachable!()
+    };
+    &bytes[8..]
+}
+
+// The same of four bytes.
+#[inline(always)]
+fn push_four<'a>(out: &mut Vec<u8>, bytes: &'a [u8]) -> &'a [u8]
+    requires { vec_len out.old + length bytes.now ≤ vec_capacity out.old }
+    ensures items { out.new.items ++ result.now ≡ out.old.items ++ bytes.now }
+    ensures room { vec_len out.new + length result.now ≤ vec_capacity out.new }
+{
+    let Some(word) = take_u32(bytes) else {
+        return bytes;
+    };
+    let Ok(()) = put_u32(out, word) else {
+        unreachable!()
+    };
+    &bytes[4..]
+}
+
+// The same of two.
+#[inline(always)]
+fn push_two<'a>(out: &mut Vec<u8>, bytes: &'a [u8]) -> &'a [u8]
+    requires { vec_len out.old + length bytes.now ≤ vec_capacity out.old }
+    ensures items { out.new.items ++ result.now ≡ out.old.items ++ bytes.now }
+    ensures room { vec_len out.new + length result.now ≤ vec_capacity out.new }
+{
+    let Some(word) = take_u16(bytes) else {
+        return bytes;
+    };
+    let Ok(()) = put_u16(out, word) else {
+        unreachable!()
+    };
+    &bytes[2..]
 }
