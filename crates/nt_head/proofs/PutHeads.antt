@@ -1,5 +1,5 @@
 -- The fields of a header, one after another.
-use Rattle.std.proofs.Common.{◌≡◌, ℕ, ◌+◌, ◌-◌, ◌%◌, ◌^◌, Bool, true, false, eqb, nat_eq, is_some, List, [], ◌∷◌, ◌++◌, length, refl, ap, sym, ◌∙◌, append_assoc}
+use Rattle.std.proofs.Common.{◌≡◌, ℕ, ◌+◌, ◌-◌, ◌*◌, ◌/◌, ◌%◌, ◌^◌, ◌<◌, ◌≤◌, Bool, true, false, eqb, nat_eq, is_some, List, [], ◌∷◌, ◌++◌, length, refl, ap, sym, ◌∙◌, append_assoc, arith}
 use Rattle.std.proofs.lemmas.List.{append-nil}
 use Rattle.std.proofs.Math.ListN.{set}
 use Rattle.std.proofs.Math.Seq.{set-append_seam}
@@ -9,7 +9,8 @@ use Rattle.std.specs.Prelude.{not, ◌||◌}
 use Rattle.std.specs.Int.{w32, w64}
 use Rattle.std.specs.Cmp.Lexicographic.{pointwise, bytes_decides}
 use Rattle.std.proofs.lemmas.Bool.{and_parts, eqb-true, not_from_true, not-false, not-true, true≢false}
-use Rattle.pt_num.specs.Numbers.{short_var}
+use Rattle.pt_num.specs.Numbers.{short_groups, short_var}
+use Rattle.pt_num.proofs.Groups.{short_groups-last, short_groups-next}
 use Rattle.nt_head.specs.declared.head.HeadState.{HeadState}
 use Rattle.nt_head.specs.Head.{HeadFields, flag_byte}
 use Rattle.nt_head.specs.Head.{flag as worth_of}
@@ -119,3 +120,24 @@ nothing_else before now keeps =
     ((bytes_decides before.activity now.activity).0 parts.activity)
     ((bytes_decides before.related now.related).0 parts.related)
     (eqb-true before.size now.size parts.size)
+
+-- ---- a number of few groups
+
+-- A number of one group.
+pub one_group : (old new : List ℕ) (value : ℕ) → value < 128 → new ≡ old ++ value ∷ [] → new ≡ old ++ short_var w64 value
+one_group old new value few put = put ∙ ap (λ (bs : List ℕ). old ++ bs) (sym (short_groups-last 10 value (omega arith) few))
+
+-- A number of two groups has its low one first.
+pub two_groups : (old o1 new : List ℕ) (value : ℕ) → 128 ≤ value → value < 128 * 128 → o1 ≡ old ++ (128 + value % 128) ∷ [] → new ≡ o1 ++ value / 128 ∷ [] → new ≡ old ++ short_var w64 value
+two_groups old o1 new value many few put1 put2 =
+    let last : short_groups 9 (value / 128) ≡ value / 128 ∷ [] = short_groups-last 9 (value / 128) (omega arith) (omega arith) in
+    let whole : short_var w64 value ≡ (128 + value % 128) ∷ value / 128 ∷ [] = short_groups-next 10 9 value (omega arith) many ∙ ap (λ (bs : List ℕ). (128 + value % 128) ∷ bs) last in
+    rw (put2, put1, whole) (append_assoc old ((128 + value % 128) ∷ []) (value / 128 ∷ []))
+
+-- So has one of three.
+pub three_groups : (old o1 o2 new : List ℕ) (value : ℕ) → 128 * 128 ≤ value → value < 128 * 128 * 128 → o1 ≡ old ++ (128 + value % 128) ∷ [] → o2 ≡ o1 ++ (128 + value / 128 % 128) ∷ [] → new ≡ o2 ++ value / 128 / 128 ∷ [] → new ≡ old ++ short_var w64 value
+three_groups old o1 o2 new value many few put1 put2 put3 =
+    let last : short_groups 8 (value / 128 / 128) ≡ value / 128 / 128 ∷ [] = short_groups-last 8 (value / 128 / 128) (omega arith) (omega arith) in
+    let next : short_groups 9 (value / 128) ≡ (128 + value / 128 % 128) ∷ value / 128 / 128 ∷ [] = short_groups-next 9 8 (value / 128) (omega arith) (omega arith) ∙ ap (λ (bs : List ℕ). (128 + value / 128 % 128) ∷ bs) last in
+    let whole : short_var w64 value ≡ (128 + value % 128) ∷ (128 + value / 128 % 128) ∷ value / 128 / 128 ∷ [] = short_groups-next 10 9 value (omega arith) (omega arith) ∙ ap (λ (bs : List ℕ). (128 + value % 128) ∷ bs) next in
+    rw (put3, put2, put1, whole) (simp append_assoc)

@@ -16,6 +16,9 @@ use pt_num::{push_var32, push_var64};
 use std::alloc::AllocError;
 use std::mem;
 
+// What a byte of a number has seven bits of is below this.
+const GROUP: u64 = pt_num::limits::GROUP as u64;
+
 /// Appends the header that says `now` after `previous`, with the fewest fields and each number in its shortest form,
 /// at most 88 bytes, and answers how many.
 ///
@@ -229,7 +232,29 @@ fn push_stamp(out: &mut Vec<u8>, previous: u64, now: u64)
     ensures len { vec_len out.new ≤ vec_len out.old + 10 }
     ensures capacity { vec_capacity out.new ≡ vec_capacity out.old }
 {
-    push_var64(out, now.wrapping_sub(previous));
+    push_short(out, now.wrapping_sub(previous));
+}
+
+// Appends a number in its shortest form. One of at most three bytes, as most increments are, is put without a loop.
+#[inline(always)]
+fn push_short(out: &mut Vec<u8>, value: u64)
+    requires { vec_len out.old + 10 ≤ vec_capacity out.old }
+    ensures items { out.new.items ≡ out.old.items ++ short_var w64 value }
+    ensures len { vec_len out.new ≤ vec_len out.old + 10 }
+    ensures capacity { vec_capacity out.new ≡ vec_capacity out.old }
+{
+    if value < GROUP {
+        out.push_reserved(value as u8);
+    } else if value < GROUP * GROUP {
+        out.push_reserved((GROUP + value % GROUP) as u8);
+        out.push_reserved((value / GROUP) as u8);
+    } else if value < GROUP * GROUP * GROUP {
+        out.push_reserved((GROUP + value % GROUP) as u8);
+        out.push_reserved((GROUP + value / GROUP % GROUP) as u8);
+        out.push_reserved((value / GROUP / GROUP) as u8);
+    } else {
+        push_var64(out, value);
+    }
 }
 
 #[inline(always)]
