@@ -1,5 +1,5 @@
 -- Words that are read where they stand, by a table of digits.
-use Rattle.std.proofs.Common.{◌≡◌, ◌≢◌, ℕ, zero, suc, ◌+◌, ◌-◌, ◌*◌, ◌%◌, ◌^◌, ◌<◌, ◌≤◌, Bool, true, false, ◌&&◌, ◌||◌, not, ◌==◌, nat_lt, nat_le, nat_eq, List, [], ◌∷◌, ◌++◌, length, take, drop, get_or, Option, Some, None, Ok, unwrap_or, inl, inr, Bor, refl, sym, ap, ◌∙◌, subst, arith, if◌then◌else◌}
+use Rattle.std.proofs.Common.{◌≡◌, ℕ, zero, suc, ◌+◌, ◌-◌, ◌*◌, ◌^◌, ◌<◌, ◌≤◌, Bool, true, false, ◌&&◌, ◌||◌, not, ◌==◌, nat_lt, nat_le, nat_eq, List, [], ◌∷◌, ◌++◌, length, codes, replicate, take, drop, get_or, Option, Some, None, Ok, unwrap_or, inl, inr, Bor, refl, sym, ap, ◌∙◌, subst, arith, if◌then◌else◌}
 use Rattle.std.specs.Char.{digit_value, is_digit}
 use Rattle.std.specs.Cmp.Lexicographic.{pointwise}
 use Rattle.std.specs.Int.{is_in_range}
@@ -11,19 +11,21 @@ use Rattle.std.specs.declared.alloc.AllocError.{AllocError}
 use Rattle.std.specs.Str.Parse.{digits_value}
 use Rattle.std.proofs.Math.Nat.{min-le_left, min-le_right, pow-le-pow_right}
 use Rattle.std.proofs.Math.Seq.{take-add}
-use Rattle.std.proofs.lemmas.Bool.{and_from, and_left, and_parts, cond-true, cases_lt, lt-ltb, le-leb, ltb-true, eqb-true, false≢true, false_from_ne_true}
+use Rattle.std.proofs.lemmas.Bool.{and_from, and_left, and_parts, cond-true, cases_lt, lt-ltb, le-leb, leb-true, ltb-true, eqb-true, false≢true, false_from_ne_true}
 use Rattle.std.proofs.lemmas.Option.{same_Some}
 use Rattle.std.proofs.lemmas.Int.Digits.{digits_value_more, digits_value-lt}
-use Rattle.std.proofs.lemmas.List.{append_assoc, append-nil, length-take-le, length-append, take_all, take_more, take_rest, take-append-drop, drop_more, get_or-drop}
-use Rattle.std.proofs.lemmas.List.Elements.{All-append, All-get_or, All-head, All-push}
+use Rattle.std.proofs.lemmas.List.{append_assoc, length-take-le, take_all, take_more, take_rest, take-append-drop, drop_more}
+use Rattle.std.proofs.lemmas.List.Elements.{All-append, All-head, All-push}
 use Rattle.std.proofs.lemmas.List.Folds.{list_all_more}
 use Rattle.std.proofs.lemmas.List.Splits.{slice_split_at, slice_split_none}
 use Rattle.std.proofs.lemmas.List.Sums.{AllPass-from_list_all}
-use Rattle.hex.specs.Hex.{decode_of, digit_or_error, hex_digit_value, is_hex_digit, pair_value, ◌>>=◌}
+use Rattle.hex.specs.Hex.{decode_of, digit_or_error, hex_digit_value, is_hex_digit, pair_value}
 use Rattle.hex.proofs.HexLemmas.{decode_of-ok}
 use Rattle.ep_plan.specs.declared.limits.TheConstants.{DECIMAL_DIGITS, HEX_DIGITS}
-use Rattle.ep_plan.specs.declared.words.ahead.TheConstants.{DIGITS}
-use Rattle.ep_plan.specs.Words.{all_in, at_most, comma, frames_in, hex_in, number_in, numeral_in, parts_at, parts_behind, payload_in, space, with_first}
+use Rattle.ep_plan.specs.declared.words.ahead.TheConstants.{DIGITS, HIGH_DIGITS}
+use Rattle.ep_plan.specs.declared.verb.Verb.{Verb}
+use Rattle.ep_plan.specs.Lines.{form_of}
+use Rattle.ep_plan.specs.Words.{all_in, at_most, comma, frames_in, hex_in, id_in, number_in, numeral_in, parts_at, parts_behind, payload_in, space, with_first}
 use Rattle.ep_plan.specs.declared.cursor.Cursor.{Cursor}
 use Rattle.ep_plan.specs.Cursor.{IsNext, IsWordOf, TookWord}
 use Rattle.ep_plan.proofs.Numerals.{at_most-below, digits-from_test, numeral_in-true}
@@ -32,21 +34,21 @@ use Rattle.ep_plan.proofs.Separated.{dash_or-other}
 
 -- ---- the table of digits
 
--- The table's value of each byte, 255 for most, is the byte's value as a digit, or none, which computes.
+-- The table's value of each byte, 256 for most, is the byte's value as a digit, or none, which computes.
 abbrev is_right : ℕ → Bool
 is_right c =
     (not (nat_lt (get_or DIGITS c 0) 16) || ((unwrap_or (hex_digit_value c) 16 == get_or DIGITS c 0) && (digit_value c == get_or DIGITS c 0)))
 
-abbrev all_right : ℕ → Bool
-all_right zero = true
-all_right (suc n) = is_right n && all_right n
+abbrev all_below : (ℕ → Bool) → ℕ → Bool
+all_below test zero = true
+all_below test (suc n) = test n && all_below test n
 
-right_below : (n c : ℕ) → all_right n ≡ true → c < n → is_right c ≡ true
-right_below zero c h lt = absurd (omega arith)
-right_below (suc n) c h lt =
-    let parts = and_parts (is_right n) (all_right n) h in
+below : (test : ℕ → Bool) (n c : ℕ) → all_below test n ≡ true → c < n → test c ≡ true
+below test zero c h lt = absurd (omega arith)
+below test (suc n) c h lt =
+    let parts = and_parts (test n) (all_below test n) h in
     elim (cases_lt c n) [
-      | inl below ↦ right_below n c parts.1 below
+      | inl less ↦ below test n c parts.1 less
       | inr top ↦ let e : c ≡ n = omega arith in rw e parts.0
     ]
 
@@ -60,7 +62,41 @@ both_right d o v small h =
     some_is None e = absurd (omega (arith, e, small))
 
 pub in_table : (c : ℕ) → c < 256 → get_or DIGITS c 0 < 16 → (hex_digit_value c ≡ Some (get_or DIGITS c 0)) × (digit_value c ≡ get_or DIGITS c 0)
-in_table c byte small = both_right (get_or DIGITS c 0) (hex_digit_value c) (digit_value c) small (right_below 256 c refl byte)
+in_table c byte small = both_right (get_or DIGITS c 0) (hex_digit_value c) (digit_value c) small (below is_right 256 c refl byte)
+
+-- It is none from 16 on but 256.
+abbrev is_other : ℕ → Bool
+is_other c = nat_le (get_or DIGITS c 0) 256 && (not (nat_lt (get_or DIGITS c 0) 256) || nat_lt (get_or DIGITS c 0) 16)
+
+pub digit_most : (c : ℕ) → c < 256 → get_or DIGITS c 0 ≤ 256
+digit_most c byte =
+    leb-true (get_or DIGITS c 0) 256 (and_parts (nat_le (get_or DIGITS c 0) 256) _ (below is_other 256 c refl byte)).0
+
+pub digit_other : (c : ℕ) → c < 256 → get_or DIGITS c 0 < 256 → get_or DIGITS c 0 < 16
+digit_other c byte small =
+    let d = get_or DIGITS c 0 in
+    let h = (and_parts (nat_le d 256) (not (nat_lt d 256) || nat_lt d 16) (below is_other 256 c refl byte)).1 in
+    ltb-true d 16 (sym (ap (λ b. not b || nat_lt d 16) (lt-ltb d 256 small)) ∙ h)
+
+-- The table of first digits has 16 times the value.
+abbrev is_high : ℕ → Bool
+is_high c =
+    nat_le (get_or HIGH_DIGITS c 0) 256
+    && (not (nat_lt (get_or HIGH_DIGITS c 0) 256) || (unwrap_or (hex_digit_value c) 16 * 16 == get_or HIGH_DIGITS c 0))
+
+pub high_most : (c : ℕ) → c < 256 → get_or HIGH_DIGITS c 0 ≤ 256
+high_most c byte =
+    leb-true (get_or HIGH_DIGITS c 0) 256 (and_parts (nat_le (get_or HIGH_DIGITS c 0) 256) _ (below is_high 256 c refl byte)).0
+
+times_16 : (o : Option ℕ) (d : ℕ) → d < 256 → (not (nat_lt d 256) || (unwrap_or o 16 * 16 == d)) ≡ true → (digit : ℕ) × (o ≡ Some digit) × (digit * 16 ≡ d)
+times_16 o d small h = of_option o (eqb-true (unwrap_or o 16 * 16) d (sym (ap (λ b. not b || (unwrap_or o 16 * 16 == d)) (lt-ltb d 256 small)) ∙ h))
+  where
+    of_option : (o : Option ℕ) → unwrap_or o 16 * 16 ≡ d → (digit : ℕ) × (o ≡ Some digit) × (digit * 16 ≡ d)
+    of_option (Some digit) e = (digit, refl, e)
+    of_option None e = absurd (omega (arith, e, small))
+
+pub in_high_table : (c : ℕ) → c < 256 → get_or HIGH_DIGITS c 0 < 256 → (digit : ℕ) × (hex_digit_value c ≡ Some digit) × (digit * 16 ≡ get_or HIGH_DIGITS c 0)
+in_high_table c byte small = times_16 (hex_digit_value c) (get_or HIGH_DIGITS c 0) small (and_parts (nat_le (get_or HIGH_DIGITS c 0) 256) _ (below is_high 256 c refl byte)).1
 
 -- Two digits spell a byte.
 pub pair_of : (high low first second i : ℕ) → hex_digit_value high ≡ Some first → hex_digit_value low ≡ Some second → pair_value high low i ≡ Ok (first * 16 + second)
@@ -129,6 +165,15 @@ pub decimal_ahead : (most : ℕ) (text : List ℕ) (count : ℕ) → 0 < count �
 unfolding number_in
 decimal_ahead most text count some few within all small =
     ap (at_most most) (numeral 10 DECIMAL_DIGITS text count some few within all) ∙ at_most-below most (digits_value 10 (take count text)) small
+
+-- ---- a word that is known
+
+without_space : (word : List ℕ) → list_all (λ byte. not (byte == space)) word ≡ true → All (λ byte. (byte == space) ≡ false) word
+without_space word all k d within = negated (get_or word k d == space) (AllPass-from_list_all (λ byte. not (byte == space)) word all k d within)
+  where
+    negated : (b : Bool) → not b ≡ true → b ≡ false
+    negated true h = cc
+    negated false h = refl
 
 -- ---- a word behind which a line goes on
 
@@ -279,6 +324,25 @@ pub next_frames : (cursor : Cursor) (text : Bor (List ℕ)) (frames : List ℕ) 
 next_frames cursor text frames (Ok (Some count)) is word read = (record { text = text; rest = is; word = word }, read)
 next_frames cursor text frames (Ok None) is word read = tt
 next_frames cursor text frames (Err error) is word read = tt
+
+-- The verb that the next word names.
+pub next_verb : (cursor : Cursor) (text : Bor (List ℕ)) (result : Option (Verb × ℕ)) → cursor.rest ≡ Some text → IfSome result (λ found. IsWordOf text.now found.1) → IfSome result (λ found. take found.1 text.now ≡ (form_of found.0).name)
+    → IfSome result (λ found. (next : IsNext cursor found.1) × (take found.1 next.text.now ≡ (form_of found.0).name))
+next_verb cursor text (Some found) is word name = (record { text = text; rest = is; word = word }, name)
+next_verb cursor text None is word name = tt
+
+-- What the word `-` spells.
+pub dash_id : (word : List ℕ) → word ≡ codes "-" → id_in word ≡ Some (replicate 16 0)
+unfolding id_in
+dash_id word dash = rw dash refl
+
+pub dash_frames : (word : List ℕ) → word ≡ codes "-" → frames_in word ≡ Some []
+unfolding frames_in
+dash_frames word dash = rw dash refl
+
+pub dash_payload : (word : List ℕ) → word ≡ codes "-" → payload_in word ≡ Some []
+unfolding payload_in
+dash_payload word dash = rw dash refl
 
 -- The next word was passed over.
 pub passed : (old new : Cursor) (text : Bor (List ℕ)) (count : ℕ) → new.line ≡ old.line → new.past ≡ old.past → old.rest ≡ Some text

@@ -1,15 +1,20 @@
 -- What is wrong with a whole line.
-use Rattle.std.proofs.Common.{◌≡◌, ◌≢◌, ◌<◌, ◌≤◌, ◌+◌, ℕ, Bool, true, false, nat_lt, if◌then◌else◌, List, [], ◌∷◌, length, codes, Option, Some, None, refl, ap, ◌∙◌, arith}
+use Rattle.std.proofs.Common.{◌≡◌, ◌≢◌, ◌<◌, ◌≤◌, ◌+◌, ℕ, Bool, true, false, nat_lt, if◌then◌else◌, List, [], ◌∷◌, length, codes, Option, Some, None, Result, Ok, Err, IfOk, OnOk, refl, sym, ap, ◌∙◌, subst, arith}
 use Rattle.std.proofs.lemmas.Bool.Decides.{nat_tests}
 use Rattle.ep_defs.specs.declared.event.EventDef.{EventDef}
 use Rattle.ep_defs.specs.Event.{is_same_text}
 use Rattle.ep_plan.specs.declared.limits.TheConstants.{LINE_BYTES}
-use Rattle.ep_plan.specs.Lines.{Bad, bad_at, is_blank, bad_of, words_bad, event_bad, step_bad, Means, IsLine}
+use Rattle.ep_plan.specs.declared.cursor.Cursor.{Cursor}
+use Rattle.ep_plan.specs.declared.verb.Verb.{Verb}
+use Rattle.ep_plan.specs.declared.verb.Verb.TheVariants as verb
+use Rattle.ep_plan.specs.Lines.{Bad, bad_at, form_of, verb_in, is_blank, bad_of, words_bad, event_bad, step_bad, Means, IsLine, IsStepLine, Spells}
 use Rattle.ep_plan.specs.Words.{space, words_of}
-use Rattle.ep_plan.specs.Cursor.{has_word}
-use Rattle.ep_plan.proofs.Forms.{no-verb}
+use Rattle.ep_plan.specs.Cursor.{left, column_of, bad_form, has_word, BeginsAt, TookWord}
+use Rattle.ep_plan.proofs.Forms.{no-verb, verb-form}
 use Rattle.ep_plan.proofs.CursorWords.{parts-some}
 use Rattle.ep_plan.specs.declared.line.LineKind.TheVariants as kind
+use Rattle.ep_plan.specs.declared.line.Line.{Line}
+use Rattle.ep_plan.specs.declared.line.LineFault.{LineFault}
 use Rattle.ep_plan.specs.declared.line.Line.TheVariants as line
 
 pub long : (events : List EventDef) (stepped : Bool) (text : List ℕ) → LINE_BYTES < length text → bad_of events stepped text ≡ Some (bad_at 1 kind.Long)
@@ -51,3 +56,60 @@ no-first events stepped past ((byte ∷ word) ∷ words) some h = cc
 pub empty-first : (events : List EventDef) (stepped : Bool) (text : List ℕ) → length text ≤ LINE_BYTES → is_blank text ≡ false → has_word (words_of text) ≡ false → bad_of events stepped text ≡ Some (bad_at 1 kind.Word)
 empty-first events stepped text few other h =
     worded events stepped text (words_of text) few other refl ∙ no-first events stepped (length text + 1) (words_of text) (parts-some space text) h
+
+-- ---- a line that begins with a verb
+
+no-event : (verb : Verb) → is_same_text (form_of verb).name (codes "event") ≡ false
+no-event verb.Accept = refl
+no-event verb.Accept3 = refl
+no-event verb.Accept4 = refl
+no-event verb.Enter = refl
+no-event verb.Leave = refl
+no-event verb.Open = refl
+no-event verb.Begin = refl
+no-event verb.Show = refl
+no-event verb.End = refl
+no-event verb.Steal = refl
+no-event verb.Give = refl
+no-event verb.Point = refl
+no-event verb.Close = refl
+no-event verb.Finish = refl
+
+names-verb : (verb : Verb) → verb_in (form_of verb).name ≡ Some verb
+names-verb verb.Accept = refl
+names-verb verb.Accept3 = refl
+names-verb verb.Accept4 = refl
+names-verb verb.Enter = refl
+names-verb verb.Leave = refl
+names-verb verb.Open = refl
+names-verb verb.Begin = refl
+names-verb verb.Show = refl
+names-verb verb.End = refl
+names-verb verb.Steal = refl
+names-verb verb.Give = refl
+names-verb verb.Point = refl
+names-verb verb.Close = refl
+names-verb verb.Finish = refl
+
+-- Its words have to be of the verb's form.
+pub verb-first : (events : List EventDef) (stepped : Bool) (text : List ℕ) (old new : Cursor) (verb : Verb) → length text ≤ LINE_BYTES → is_blank text ≡ false → left old ≡ words_of text → column_of old ≡ 1 → old.past ≡ length text + 1
+    → TookWord old new (form_of verb).name → bad_of events stepped text ≡ bad_form new (form_of verb)
+verb-first events stepped text old new verb few other words column past took =
+    let name : List ℕ = (form_of verb).name in
+    let cut : words_of text ≡ name ∷ left new = sym words ∙ took.words in
+    let place : column_of old + length name + 1 ≡ length name + 2 = omega (arith, column) in
+    let begins : BeginsAt (length name + 2) new = subst (λ c. BeginsAt c new) place took.begins in
+    let end : length text + 1 ≡ new.past = sym (took.past ∙ past) in
+    worded events stepped text (name ∷ left new) few other cut
+    ∙ step-first events stepped (length text + 1) name (left new) (no-event verb)
+    ∙ ap (λ p. step_bad p name (left new)) end ∙ verb-form new name verb (names-verb verb) begins
+
+-- A good line of a step means the step that its words spell.
+pub step-line : (events : List EventDef) (stepped : Bool) (text : List ℕ) (words : List (List ℕ)) (bad : Option Bad) (r : Result Line LineFault) → is_blank text ≡ false → words_of text ≡ words → bad_of events stepped text ≡ bad
+    → IfOk r (IsStepLine words) → OnOk r (bad ≡ None) → IfOk r (λ read. IsLine events stepped text read)
+unfolding Means
+step-line events stepped text words bad (Ok read) other cut same spelled good =
+    let spells : List (List ℕ) → Type 0 = λ ws. Spells ws spelled.0 in
+    let means : Means text (line.Step spelled.0) = (other, subst spells (sym cut) spelled.2) in
+    record { good = same ∙ good; meaning = subst (Means text) (sym spelled.1) means }
+step-line events stepped text words bad (Err e) other cut same spelled good = tt

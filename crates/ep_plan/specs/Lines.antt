@@ -319,6 +319,10 @@ Spells words (step.Point session stamp) = SpellStamp (codes "point") words sessi
 Spells words (step.Close session thread) = SpellNumbers (codes "close") words session thread
 Spells words (step.Finish session stamp) = SpellStamp (codes "finish") words session stamp
 
+-- The line is that of a step which the words spell.
+abbrev pub IsStepLine : List (List ℕ) → Line → Type 0
+IsStepLine words read = (made : Step) × (read ≡ line.Step made) × Spells words made
+
 -- The line means this.
 unfoldable pub Means : List ℕ → Line → Type 0
 Means text line.Blank = is_blank text ≡ true

@@ -22,6 +22,6 @@ mod step;
 mod verb;
 mod words;
 
-pub use line::{Line, LineFault, LineKind, a_line_means_one_thing, read_line};
+pub use line::{Line, LineFault, LineKind, a_line_means_one_thing, read_line, read_short};
 pub use print::print_step;
 pub use words::{hexadecimal, number, provider, rule};

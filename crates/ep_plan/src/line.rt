@@ -1,5 +1,6 @@
 //! Reading a line.
-ghost use Rattle.std.specs.Prelude.{◌≡◌, ℕ, List, Some, None, Err, IfOk, IfErr};
+ghost use Rattle.std.specs.Prelude.{◌≡◌, ◌≤◌, ℕ, List, length, false, Some, None, Err, IfOk, IfErr};
+ghost use Rattle.ep_plan.specs.declared.limits.TheConstants.{LINE_BYTES};
 ghost use Rattle.ep_defs.specs.declared.event.EventDef.{EventDef};
 ghost use Rattle.ep_plan.specs.declared.line.Line.{Line};
 ghost use Rattle.ep_plan.specs.declared.line.Line.TheVariants.{Event};
@@ -10,7 +11,8 @@ ghost use Rattle.ep_plan.specs.Lines.{kind_name, bad_of, is_blank, IsLine, IsNex
 use crate::cursor::Cursor;
 use crate::event::read_event;
 use crate::limits::LINE_BYTES;
-use crate::step::read_step;
+use crate::step::{one_number, read_step, read_verb, two_numbers};
+use crate::verb::Verb;
 use ep_defs::EventDef;
 use ep_model::Step;
 use std::alloc::{AllocError, Global};
@@ -100,6 +102,50 @@ pub fn read_line(
     if is_blank(text) {
         return Ok(Line::Blank);
     }
+    let mut words = Cursor::new(line, text);
+    match words.verb() {
+        Some(verb) => read_verb(alloc, verb, &mut words),
+        None => read_other(alloc, text, line, events, stepped),
+    }
+}
+
+/// The step of a line that begins with `show` or `end`, if its numbers are good. Nearly all lines of a long schedule are
+/// such; of any other line nothing is said.
+#[inline(always)]
+pub fn read_short(text: &[u8]) -> Option<Step> {
+    if text.len() > LINE_BYTES {
+        return None;
+    }
+    let mut words = Cursor::new(0, text);
+    match words.verb()? {
+        Verb::Show => {
+            let (thread, session) = two_numbers(&mut words).ok()?;
+            Some(Step::Show { thread, session })
+        }
+        Verb::End => {
+            let thread = one_number(&mut words).ok()?;
+            Some(Step::End { thread })
+        }
+        _ => None,
+    }
+}
+
+// The same of a line that has words. It stands out of line, since few lines are read so.
+#[inline(never)]
+fn read_other(
+    alloc: Global,
+    text: &[u8],
+    line: u64,
+    events: &[EventDef],
+    stepped: bool,
+) -> Result<Line, LineFault>
+    requires short { length text.now ≤ LINE_BYTES }
+    requires words { is_blank text.now ≡ false }
+    ensures read { IfOk result (λ read. IsLine events.now stepped text.now read) }
+    ensures bad { (at column : ℕ) (kind : LineKind) → result ≡ Err (BadLine at column kind)
+        → (at ≡ line)
+        × (bad_of events.now stepped text.now ≡ Some (record { column = column; kind = kind })) }
+{
     let mut words = Cursor::new(line, text);
     let first = words.word()?;
     if first == b"event".as_slice() {

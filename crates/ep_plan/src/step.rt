@@ -1,11 +1,11 @@
 //! Reading the words of a step's line.
 ghost use Rattle.std.specs.Prelude.{◌≡◌, ◌+◌, ℕ, List, [], ◌∷◌, ◌++◌, length, codes, None, Some, IfOk, OnOk};
-ghost use Rattle.ep_plan.specs.Lines.{Number, Stamp, Rule as RulePart, accept_form, accept3_form, accept4_form, begin_parts, write_parts, more_than_one, form_of, write_of, step_bad, SpellNumber, SpellNumbers, SpellStamp, Spells};
+ghost use Rattle.ep_plan.specs.Lines.{Number, Stamp, Rule as RulePart, accept_form, accept3_form, accept4_form, begin_parts, write_parts, more_than_one, form_of, write_of, step_bad, SpellNumber, SpellNumbers, SpellStamp, Spells, IsStepLine};
 ghost use Rattle.ep_plan.specs.Words.{rule_in, all_in};
 ghost use Rattle.ep_plan.specs.Cursor.{left, bad_left, bad_form, BeginsAt, IfBad, IsBadAt};
 
 use crate::cursor::Cursor;
-use crate::line::{LineFault, LineKind};
+use crate::line::{Line, LineFault, LineKind};
 use crate::verb::Verb;
 use ep_defs::limits::RULES;
 use ep_defs::{Config, Items, Rule, RuleList, Write};
@@ -25,7 +25,36 @@ pub(crate) fn read_step(alloc: Global, first: &[u8], words: &mut Cursor) -> Resu
     }
 }
 
-// The words after a verb.
+/// The line of a step that a verb and the words after it spell. Each verb that comes often has an arm of its own, so that
+/// its step is made where it is answered.
+#[inline(always)]
+pub(crate) fn read_verb(alloc: Global, verb: Verb, words: &mut Cursor) -> Result<Line, LineFault>
+    ensures read { IfOk result (IsStepLine ((form_of verb).name ∷ left words.old)) }
+    ensures good { OnOk result (bad_form words.old (form_of verb) ≡ None) }
+    ensures bad { IfBad result (IsBadAt words.old (bad_form words.old (form_of verb))) }
+{
+    match verb {
+        Verb::Begin => {
+            let begin = read_begin(alloc, words)?;
+            Ok(Line::Step(begin))
+        }
+        Verb::Show => {
+            let (thread, session) = two_numbers(words)?;
+            Ok(Line::Step(Step::Show { thread, session }))
+        }
+        Verb::End => {
+            let ended = one_number(words)?;
+            Ok(Line::Step(Step::End { thread: ended }))
+        }
+        other => {
+            let step = read_words(alloc, other, words)?;
+            Ok(Line::Step(step))
+        }
+    }
+}
+
+// The step that the words after a verb spell.
+#[inline(never)]
 fn read_words(alloc: Global, verb: Verb, words: &mut Cursor) -> Result<Step, LineFault>
     ensures read { IfOk result (λ step. Spells ((form_of verb).name ∷ left words.old) step) }
     ensures good { OnOk result (bad_form words.old (form_of verb) ≡ None) }
@@ -55,7 +84,8 @@ fn read_words(alloc: Global, verb: Verb, words: &mut Cursor) -> Result<Step, Lin
 }
 
 // One number, and nothing more.
-fn one_number(words: &mut Cursor) -> Result<u32, LineFault>
+#[inline(always)]
+pub(crate) fn one_number(words: &mut Cursor) -> Result<u32, LineFault>
     ensures read { IfOk result (λ number. (name : List ℕ) → SpellNumber name (name ∷ left words.old) number) }
     ensures good { OnOk result (bad_left words.old (Number ∷ []) 0 ≡ None) }
     ensures bad { IfBad result (IsBadAt words.old (bad_left words.old (Number ∷ []) 0)) }
@@ -66,7 +96,8 @@ fn one_number(words: &mut Cursor) -> Result<u32, LineFault>
 }
 
 // Two numbers, and nothing more.
-fn two_numbers(words: &mut Cursor) -> Result<(u32, u32), LineFault>
+#[inline(always)]
+pub(crate) fn two_numbers(words: &mut Cursor) -> Result<(u32, u32), LineFault>
     ensures read { IfOk result (λ pair. (name : List ℕ)
         → SpellNumbers name (name ∷ left words.old) pair.0 pair.1) }
     ensures good { OnOk result (bad_left words.old (Number ∷ Number ∷ []) 0 ≡ None) }
@@ -92,6 +123,7 @@ fn number_and_stamp(words: &mut Cursor) -> Result<(u32, u64), LineFault>
 }
 
 // The words after `begin`.
+#[inline(never)]
 fn read_begin(alloc: Global, words: &mut Cursor) -> Result<Step, LineFault>
     ensures read { IfOk result (λ step. Spells (codes "begin" ∷ left words.old) step) }
     ensures good { OnOk result (bad_left words.old begin_parts 0 ≡ None) }
@@ -129,6 +161,7 @@ fn read_write(alloc: Global, words: &mut Cursor) -> Result<Write, LineFault>
 }
 
 // The words after `accept`: a session with stacks and without a rundown.
+#[inline(never)]
 fn read_accept(alloc: Global, words: &mut Cursor) -> Result<Step, LineFault>
     ensures read { IfOk result (λ step. Spells (codes "accept" ∷ left words.old) step) }
     ensures good { OnOk result (bad_form words.old accept_form ≡ None) }
@@ -149,6 +182,7 @@ fn read_accept(alloc: Global, words: &mut Cursor) -> Result<Step, LineFault>
 }
 
 // The words after `accept3`, which say whether the session has stacks; it has no rundown.
+#[inline(never)]
 fn read_accept3(alloc: Global, words: &mut Cursor) -> Result<Step, LineFault>
     ensures read { IfOk result (λ step. Spells (codes "accept3" ∷ left words.old) step) }
     ensures good { OnOk result (bad_form words.old accept3_form ≡ None) }
@@ -170,6 +204,7 @@ fn read_accept3(alloc: Global, words: &mut Cursor) -> Result<Step, LineFault>
 }
 
 // The words after `accept4`, which say whether the session has stacks and whether it has a rundown.
+#[inline(never)]
 fn read_accept4(alloc: Global, words: &mut Cursor) -> Result<Step, LineFault>
     ensures read { IfOk result (λ step. Spells (codes "accept4" ∷ left words.old) step) }
     ensures good { OnOk result (bad_form words.old accept4_form ≡ None) }

@@ -23,7 +23,7 @@ use crate::errors::{Reason, Refusal};
 use ep_core::{Machine, StepFault};
 use ep_defs::{EventDef, copies, standard_info};
 use ep_model::Step;
-use ep_plan::{Line, LineFault, a_line_means_one_thing, read_line};
+use ep_plan::{Line, LineFault, a_line_means_one_thing, read_line, read_short};
 use std::alloc::{AllocError, AllocFailed, Global};
 
 /// Why a line was not taken.
@@ -92,6 +92,9 @@ impl Schedule {
             → result ≡ Err (Refused refusal) → Refuses lines text.now refusal }
         ensures counted { lines_in self.new ≤ lines_in self.old + 1 }
     {
+        if let Some(step) = read_short(text) {
+            return self.take_step(alloc, step);
+        }
         let number = self.lines + 1;
         match read_line(alloc, text, number, &self.events, self.machine.is_some()) {
             Ok(Line::Blank) => {

@@ -61,8 +61,13 @@ impl Reader {
         ensures counted { OnOk result (used self.new ≤ used self.old + length text.now + 1) }
     {
         if self.refusal.is_none() && self.part.is_empty() && text.len() <= LINE_BYTES {
-            self.refusal = judged(self.alloc, &mut self.schedule, text)?;
-            return Ok(());
+            return match judged(self.alloc, &mut self.schedule, text)? {
+                Some(refusal) => {
+                    self.refusal = Some(refusal);
+                    Ok(())
+                }
+                None => Ok(()),
+            };
         }
         self.take_part(text)?;
         if self.refusal.is_some() {

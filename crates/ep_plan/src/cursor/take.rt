@@ -1,16 +1,17 @@
 //! Taking the words of a line, one after another, each as a part of the line.
-ghost use Rattle.std.specs.Prelude.{◌≡◌, ◌≢◌, ◌+◌, ◌^◌, ◌<◌, ◌≤◌, ℕ, List, [], length, take, false, Option, None, Some, IfOk, IfSome, OnOk};
+ghost use Rattle.std.specs.Prelude.{◌≡◌, ◌≢◌, ◌+◌, ◌^◌, ◌<◌, ◌≤◌, ℕ, List, [], length, take, codes, false, Option, None, Some, IfOk, IfSome, IsTrue, OnOk};
 ghost use Rattle.std.specs.Bool.{OnTrue, OnFalse};
 ghost use Rattle.ep_defs.specs.declared.limits.TheConstants.{EVENTS};
 ghost use Rattle.ep_plan.specs.declared.limits.TheConstants.{LINE_BYTES};
 ghost use Rattle.ep_plan.specs.declared.line.LineKind.TheVariants.{Word};
 ghost use Rattle.ep_plan.specs.declared.line.LineFault.TheVariants.{Bad as BadLine};
-ghost use Rattle.ep_plan.specs.Lines.{Part, Index, Number, Flag, Stamp, Provider, Name, Keywords, Fields as FieldsPart, Rule as RulePart, Id, Frames as FramesPart, Payload, number_of, flag_of, stamp_of};
+ghost use Rattle.ep_plan.specs.Lines.{Part, Index, Number, Flag, Stamp, Provider, Name, Keywords, Fields as FieldsPart, Rule as RulePart, Id, Frames as FramesPart, Payload, form_of, number_of, flag_of, stamp_of};
 ghost use Rattle.ep_plan.specs.Words.{words_of, number_in, hex_in, id_in, frames_in, payload_in, provider_in, event_name_in, rule_in, fields_in};
 ghost use Rattle.ep_plan.specs.Cursor.{left, column_of, bad_left, has_word, TookWord, Took, TakesPart, IsBad, IsBadAt, IfBad, IsNext, Reads, SpellsAll};
 
 use super::Cursor;
 use crate::line::{LineFault, LineKind};
+use crate::verb::Verb;
 use crate::words;
 use ep_defs::limits::EVENTS;
 use ep_defs::{Bytes, FieldList, Frames, Items, Rule, Units};
@@ -123,6 +124,7 @@ impl<'a> Cursor<'a> {
     }
 
     /// A number below 2 ^ 32.
+    #[inline(always)]
     pub(crate) fn number(&mut self) -> Result<u32, LineFault>
         ensures took { IfOk result (TakesPart Number number_of self.old self.new) }
         ensures bad { IfBad result (IsBad Number self.old) }
@@ -131,6 +133,15 @@ impl<'a> Cursor<'a> {
             self.pass(count);
             return Ok(number as u32);
         }
+        self.whole_number()
+    }
+
+    // The same, its word taken as a whole. It stands out of line, as the others do that few words need.
+    #[inline(never)]
+    fn whole_number(&mut self) -> Result<u32, LineFault>
+        ensures took { IfOk result (TakesPart Number number_of self.old self.new) }
+        ensures bad { IfBad result (IsBad Number self.old) }
+    {
         let number = self.part(LineKind::Number, |word| Ok(words::number(word, MOST)))?;
         Ok(number as u32)
     }
@@ -170,6 +181,41 @@ impl<'a> Cursor<'a> {
         self.rest = Some(&text[count + 1..]);
     }
 
+    /// The verb that the next word is the name of, if it is one of those with which nearly all lines begin.
+    #[inline(always)]
+    pub(crate) fn verb(&mut self) -> Option<Verb>
+        ensures { IfSome result (λ verb. TookWord self.old self.new (form_of verb).name) }
+    {
+        if let Some((verb, count)) = self.verb_ahead() {
+            self.pass(count);
+            return Some(verb);
+        }
+        None
+    }
+
+    // Such a verb, and the bytes of its name.
+    #[inline(always)]
+    fn verb_ahead(&self) -> Option<(Verb, usize)>
+        ensures { IfSome result (λ found. (next : IsNext self.now found.1)
+            × (take found.1 next.text.now ≡ (form_of found.0).name)) }
+    {
+        match self.rest {
+            Some(text) => words::verb_ahead(text),
+            None => None,
+        }
+    }
+
+    // Whether the next word is `-`.
+    #[inline(always)]
+    fn dash_ahead(&self) -> bool
+        ensures { IsTrue result → (next : IsNext self.now 1) × (take 1 next.text.now ≡ codes "-") }
+    {
+        match self.rest {
+            Some(text) => words::dash_ahead(text),
+            None => false,
+        }
+    }
+
     /// A flag, 0 or 1.
     pub(crate) fn flag(&mut self) -> Result<bool, LineFault>
         ensures took { IfOk result (TakesPart Flag flag_of self.old self.new) }
@@ -181,6 +227,7 @@ impl<'a> Cursor<'a> {
     }
 
     /// A stamp, a number below 2 ^ 64.
+    #[inline(always)]
     pub(crate) fn stamp(&mut self) -> Result<u64, LineFault>
         ensures took { IfOk result (TakesPart Stamp stamp_of self.old self.new) }
         ensures bad { IfBad result (IsBad Stamp self.old) }
@@ -189,6 +236,14 @@ impl<'a> Cursor<'a> {
             self.pass(count);
             return Ok(stamp);
         }
+        self.whole_stamp()
+    }
+
+    #[inline(never)]
+    fn whole_stamp(&mut self) -> Result<u64, LineFault>
+        ensures took { IfOk result (TakesPart Stamp stamp_of self.old self.new) }
+        ensures bad { IfBad result (IsBad Stamp self.old) }
+    {
         self.part(LineKind::Number, |word| Ok(words::number(word, u64::MAX)))
     }
 
@@ -202,6 +257,19 @@ impl<'a> Cursor<'a> {
 
     /// An id.
     pub(crate) fn id(&mut self) -> Result<[u8; 16], LineFault>
+        ensures took { IfOk result (TakesPart Id id_in self.old self.new) }
+        ensures bad { IfBad result (IsBad Id self.old) }
+    {
+        if self.dash_ahead() {
+            self.pass(1);
+            return Ok([0; 16]);
+        }
+        self.whole_id()
+    }
+
+    // The same, its word taken as a whole. It stands out of line, since few lines have one.
+    #[inline(never)]
+    fn whole_id(&mut self) -> Result<[u8; 16], LineFault>
         ensures took { IfOk result (TakesPart Id id_in self.old self.new) }
         ensures bad { IfBad result (IsBad Id self.old) }
     {
@@ -246,10 +314,22 @@ impl<'a> Cursor<'a> {
         ensures bad { IfBad result (IsBad FramesPart self.old) }
     {
         let mut frames = Vec::new(alloc);
+        if self.dash_ahead() {
+            self.pass(1);
+            return Ok(Items::new(frames));
+        }
         if let Some(count) = self.frames_ahead(&mut frames)? {
             self.pass(count);
             return Ok(Items::new(frames));
         }
+        self.whole_frames(alloc)
+    }
+
+    #[inline(never)]
+    fn whole_frames(&mut self, alloc: Global) -> Result<Frames, LineFault>
+        ensures took { IfOk result (TakesPart FramesPart frames_in self.old self.new) }
+        ensures bad { IfBad result (IsBad FramesPart self.old) }
+    {
         self.part(LineKind::Hex, |word| words::frames(alloc, word))
     }
 
@@ -270,10 +350,23 @@ impl<'a> Cursor<'a> {
         ensures took { IfOk result (TakesPart Payload payload_in self.old self.new) }
         ensures bad { IfBad result (IsBad Payload self.old) }
     {
+        if self.dash_ahead() {
+            self.pass(1);
+            let bytes = Vec::new(alloc);
+            return Ok(Items::new(bytes));
+        }
         if let Some(bytes) = self.bytes_ahead(alloc)? {
             self.rest = None;
             return Ok(bytes);
         }
+        self.whole_payload(alloc)
+    }
+
+    #[inline(never)]
+    fn whole_payload(&mut self, alloc: Global) -> Result<Bytes, LineFault>
+        ensures took { IfOk result (TakesPart Payload payload_in self.old self.new) }
+        ensures bad { IfBad result (IsBad Payload self.old) }
+    {
         self.part(LineKind::Hex, |word| words::payload(alloc, word))
     }
 

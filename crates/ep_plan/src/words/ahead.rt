@@ -1,42 +1,73 @@
 //! Words that are read where they stand: their digits are taken until another byte comes, and no end is looked for first.
 //!
 //! Nearly all words of a long schedule are read so. Where one can't be, nothing is said of it, and it is read as a whole.
-ghost use Rattle.std.specs.Prelude.{◌≡◌, ◌+◌, ◌*◌, ◌^◌, ◌<◌, ◌≤◌, ℕ, true, [], length, take, Ok, Some, IfOk, IfSome, IsTrue};
+ghost use Rattle.std.specs.Prelude.{◌≡◌, ◌+◌, ◌*◌, ◌^◌, ◌<◌, ◌≤◌, ℕ, true, [], length, take, codes, Ok, Some, IfOk, IfSome, IsTrue};
 ghost use Rattle.std.specs.Char.{digit_value, is_digit};
 ghost use Rattle.std.specs.List.{list_all};
 ghost use Rattle.std.specs.Str.Parse.{digits_value};
 ghost use Rattle.hex.specs.Hex.{decode_of, hex_digit_value, pair_value};
+ghost use Rattle.ep_plan.specs.Lines.{form_of};
 ghost use Rattle.ep_plan.specs.Words.{frames_in};
 ghost use Rattle.ep_plan.specs.Cursor.{IsWordOf, EndsAt};
 
 use crate::limits::HEX_DIGITS;
+use crate::verb::Verb;
 use ep_defs::{Bytes, Items};
 use std::alloc::{AllocError, Global};
 
-// The value of each byte as a hexadecimal digit of either case, or 255.
-const DIGITS: [u8; 256] = [
-    255, 255, 255, 255, 255, 255, 255, 255, 255, 255, 255, 255, 255, 255, 255, 255, 255, 255, 255,
-    255, 255, 255, 255, 255, 255, 255, 255, 255, 255, 255, 255, 255, 255, 255, 255, 255, 255, 255,
-    255, 255, 255, 255, 255, 255, 255, 255, 255, 255, 0, 1, 2, 3, 4, 5, 6, 7, 8, 9, 255, 255, 255,
-    255, 255, 255, 255, 10, 11, 12, 13, 14, 15, 255, 255, 255, 255, 255, 255, 255, 255, 255, 255,
-    255, 255, 255, 255, 255, 255, 255, 255, 255, 255, 255, 255, 255, 255, 255, 255, 10, 11, 12, 13,
-    14, 15, 255, 255, 255, 255, 255, 255, 255, 255, 255, 255, 255, 255, 255, 255, 255, 255, 255,
-    255, 255, 255, 255, 255, 255, 255, 255, 255, 255, 255, 255, 255, 255, 255, 255, 255, 255, 255,
-    255, 255, 255, 255, 255, 255, 255, 255, 255, 255, 255, 255, 255, 255, 255, 255, 255, 255, 255,
-    255, 255, 255, 255, 255, 255, 255, 255, 255, 255, 255, 255, 255, 255, 255, 255, 255, 255, 255,
-    255, 255, 255, 255, 255, 255, 255, 255, 255, 255, 255, 255, 255, 255, 255, 255, 255, 255, 255,
-    255, 255, 255, 255, 255, 255, 255, 255, 255, 255, 255, 255, 255, 255, 255, 255, 255, 255, 255,
-    255, 255, 255, 255, 255, 255, 255, 255, 255, 255, 255, 255, 255, 255, 255, 255, 255, 255, 255,
-    255, 255, 255, 255, 255, 255, 255, 255, 255, 255, 255, 255, 255, 255, 255, 255, 255, 255, 255,
-    255, 255, 255,
+// The value of each byte as a hexadecimal digit of either case, or 256.
+const DIGITS: [u16; 256] = [
+    256, 256, 256, 256, 256, 256, 256, 256, 256, 256, 256, 256, 256, 256, 256, 256, 256, 256, 256,
+    256, 256, 256, 256, 256, 256, 256, 256, 256, 256, 256, 256, 256, 256, 256, 256, 256, 256, 256,
+    256, 256, 256, 256, 256, 256, 256, 256, 256, 256, 0, 1, 2, 3, 4, 5, 6, 7, 8, 9, 256, 256, 256,
+    256, 256, 256, 256, 10, 11, 12, 13, 14, 15, 256, 256, 256, 256, 256, 256, 256, 256, 256, 256,
+    256, 256, 256, 256, 256, 256, 256, 256, 256, 256, 256, 256, 256, 256, 256, 256, 10, 11, 12, 13,
+    14, 15, 256, 256, 256, 256, 256, 256, 256, 256, 256, 256, 256, 256, 256, 256, 256, 256, 256,
+    256, 256, 256, 256, 256, 256, 256, 256, 256, 256, 256, 256, 256, 256, 256, 256, 256, 256, 256,
+    256, 256, 256, 256, 256, 256, 256, 256, 256, 256, 256, 256, 256, 256, 256, 256, 256, 256, 256,
+    256, 256, 256, 256, 256, 256, 256, 256, 256, 256, 256, 256, 256, 256, 256, 256, 256, 256, 256,
+    256, 256, 256, 256, 256, 256, 256, 256, 256, 256, 256, 256, 256, 256, 256, 256, 256, 256, 256,
+    256, 256, 256, 256, 256, 256, 256, 256, 256, 256, 256, 256, 256, 256, 256, 256, 256, 256, 256,
+    256, 256, 256, 256, 256, 256, 256, 256, 256, 256, 256, 256, 256, 256, 256, 256, 256, 256, 256,
+    256, 256, 256, 256, 256, 256, 256, 256, 256, 256, 256, 256, 256, 256, 256, 256, 256, 256, 256,
+    256, 256, 256,
 ];
 
-// The value of a byte as a hexadecimal digit, or 255.
+// The same where another digit follows: 16 times as much, or 256.
+const HIGH_DIGITS: [u16; 256] = [
+    256, 256, 256, 256, 256, 256, 256, 256, 256, 256, 256, 256, 256, 256, 256, 256, 256, 256, 256,
+    256, 256, 256, 256, 256, 256, 256, 256, 256, 256, 256, 256, 256, 256, 256, 256, 256, 256, 256,
+    256, 256, 256, 256, 256, 256, 256, 256, 256, 256, 0, 16, 32, 48, 64, 80, 96, 112, 128, 144,
+    256, 256, 256, 256, 256, 256, 256, 160, 176, 192, 208, 224, 240, 256, 256, 256, 256, 256, 256,
+    256, 256, 256, 256, 256, 256, 256, 256, 256, 256, 256, 256, 256, 256, 256, 256, 256, 256, 256,
+    256, 160, 176, 192, 208, 224, 240, 256, 256, 256, 256, 256, 256, 256, 256, 256, 256, 256, 256,
+    256, 256, 256, 256, 256, 256, 256, 256, 256, 256, 256, 256, 256, 256, 256, 256, 256, 256, 256,
+    256, 256, 256, 256, 256, 256, 256, 256, 256, 256, 256, 256, 256, 256, 256, 256, 256, 256, 256,
+    256, 256, 256, 256, 256, 256, 256, 256, 256, 256, 256, 256, 256, 256, 256, 256, 256, 256, 256,
+    256, 256, 256, 256, 256, 256, 256, 256, 256, 256, 256, 256, 256, 256, 256, 256, 256, 256, 256,
+    256, 256, 256, 256, 256, 256, 256, 256, 256, 256, 256, 256, 256, 256, 256, 256, 256, 256, 256,
+    256, 256, 256, 256, 256, 256, 256, 256, 256, 256, 256, 256, 256, 256, 256, 256, 256, 256, 256,
+    256, 256, 256, 256, 256, 256, 256, 256, 256, 256, 256, 256, 256, 256, 256, 256, 256, 256, 256,
+    256, 256, 256, 256, 256, 256, 256, 256,
+];
+
+// The value of a byte as a hexadecimal digit, or 256.
 #[inline(always)]
-fn digit_of(byte: u8) -> u8
-    ensures { result < 16 → (hex_digit_value byte ≡ Some result) × (digit_value byte ≡ result) }
+fn digit_of(byte: u8) -> u16
+    ensures digit { result < 16 → (hex_digit_value byte ≡ Some result) × (digit_value byte ≡ result) }
+    ensures other { result < 256 → result < 16 }
+    ensures most { result ≤ 256 }
 {
     DIGITS[byte as usize]
+}
+
+// 16 times the value of a byte as a hexadecimal digit, or 256.
+#[inline(always)]
+fn high_digit_of(byte: u8) -> u16
+    ensures digit { result < 256 → (digit : ℕ) × (hex_digit_value byte ≡ Some digit) × (digit * 16 ≡ result) }
+    ensures most { result ≤ 256 }
+{
+    HIGH_DIGITS[byte as usize]
 }
 
 /// The number that the digits at the front of a text spell, of which at most so many are taken, and how many they are.
@@ -60,6 +91,34 @@ pub(crate) fn leading(text: &[u8], base: u64, places: usize) -> (u64, usize)
         value = value * base + digit;
     }
     (value, most)
+}
+
+/// Whether the first word of a text is `-`.
+#[inline(always)]
+pub(crate) fn dash_ahead(text: &[u8]) -> bool
+    ensures word { IsTrue result → IsWordOf text.now 1 }
+    ensures dash { IsTrue result → take 1 text.now ≡ codes "-" }
+{
+    match text {
+        [b'-'] | [b'-', b' ', ..] => true,
+        _ => false,
+    }
+}
+
+/// The verb that a text begins with, and its bytes, if it is one of those with which nearly all lines begin.
+#[inline(always)]
+pub(crate) fn verb_ahead(text: &[u8]) -> Option<(Verb, usize)>
+    ensures word { IfSome result (λ found. IsWordOf text.now found.1) }
+    ensures name { IfSome result (λ found. take found.1 text.now ≡ (form_of found.0).name) }
+{
+    match text {
+        [b's', b'h', b'o', b'w', b' ', ..] => Some((Verb::Show, 4)),
+        [b'e', b'n', b'd', b' ', ..] => Some((Verb::End, 3)),
+        [b'b', b'e', b'g', b'i', b'n', b' ', ..] => Some((Verb::Begin, 5)),
+        [b's', b't', b'e', b'a', b'l', b' ', ..] => Some((Verb::Steal, 5)),
+        [b'g', b'i', b'v', b'e', b' ', ..] => Some((Verb::Give, 4)),
+        _ => None,
+    }
 }
 
 /// Whether a word ends after so many bytes of a text, at a space or at the text's end.
@@ -130,11 +189,6 @@ fn spelled(digits: &[u8], out: &mut [u8]) -> bool
 fn pair(high: u8, low: u8) -> Option<u8>
     ensures { IfSome result (λ byte. (at : ℕ) → pair_value high low at ≡ Ok byte) }
 {
-    let first = digit_of(high);
-    let second = digit_of(low);
-    if first < 16 && second < 16 {
-        Some(first * 16 + second)
-    } else {
-        None
-    }
+    let value = high_digit_of(high) + digit_of(low);
+    if value < 256 { Some(value as u8) } else { None }
 }

@@ -1,4 +1,4 @@
-use Rattle.std.proofs.Common.{◌+◌, ◌<◌, ℕ, List, ◌∷◌, length, take, sym, ap, ◌∙◌, refl, arith}
+use Rattle.std.proofs.Common.{◌+◌, ℕ, List, ◌∷◌, length, take, sym, ap, ◌∙◌, refl, arith}
 use Rattle.std.proofs.lemmas.List.{take_rest, length-drop}
 use Rattle.ep_plan.specs.Words.{parts_at, space}
 use Rattle.ep_plan.proofs.Ahead.{passed, whole_word, first_word, word_length}

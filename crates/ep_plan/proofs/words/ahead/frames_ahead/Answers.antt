@@ -1,5 +1,4 @@
-use Rattle.std.proofs.Common.{◌+◌, ℕ, List, Some, take, ap, sym, ◌∙◌, subst, arith, ◌≡◌}
-use Rattle.ep_plan.specs.Words.{frames_in}
+use Rattle.std.proofs.Common.{◌+◌, Some, ap, sym, ◌∙◌, subst, arith}
 use Rattle.ep_plan.proofs.Ahead.{FramesSoFar, frame_more, frame_last, one_frame}
 use Rattle.ep_plan.proofs.words.ahead.frames_ahead.Goals as goal
 

@@ -1,5 +1,5 @@
 -- A line is judged where it stands in a piece, or behind the part of it that came before.
-use Rattle.std.proofs.Common.{◌≡◌, [], ◌∷◌, ◌++◌, ◌∙◌, ap, not, length, sym, subst, arith}
+use Rattle.std.proofs.Common.{◌≡◌, [], ◌∷◌, ◌++◌, Some, ◌∙◌, ap, not, length, sym, subst, arith}
 use Rattle.std.specs.Prelude.{vec_len}
 use Rattle.std.proofs.lemmas.Bool.{eqb-true}
 use Rattle.ep_model.proofs.Lists.{none_is}
@@ -8,8 +8,8 @@ use Rattle.pt_replay.specs.Reading.{AreGoodSoFar, IsSoFar}
 use Rattle.pt_replay.proofs.ReadSoFar.{so_far-good, read-whole, refused-on}
 use Rattle.pt_replay.proofs.text.Reader.take_line.Goals as goal
 
-pub returns-then-text-le-LINE_BYTES-clause-read : goal.returns-then-text-le-LINE_BYTES-clause-read
-returns-then-text-le-LINE_BYTES-clause-read c = λ bytes read.
+pub returns-in-Some-clause-read : goal.returns-in-Some-clause-read
+returns-in-Some-clause-read c = λ bytes read.
     let reader = c.args.self.now in
     let text = c.args.text.now in
     let none = none_is reader.refusal (c.is_none.ensures ∙ ap not c.if-is_none.true) in
@@ -17,9 +17,24 @@ returns-then-text-le-LINE_BYTES-clause-read c = λ bytes read.
     let none_left : length reader.part.items ≡ 0 = omega (arith, empty) in
     let nothing : reader.part.items ≡ [] = nil_from_length reader.part.items none_left in
     let good = subst (λ part. AreGoodSoFar bytes reader.schedule part) nothing (so_far-good bytes reader.schedule reader.part.items reader.refusal none read) in
-    let judged = c.in_ok-self.ensures.judged good.lines good.stands in
-    subst (λ part. IsSoFar ((bytes ++ text) ++ 10 ∷ []) c.judged.new.schedule part c.in_ok-self.field-0) (sym nothing)
-    (read-whole bytes reader.schedule good text c.requires.no_feed (omega (arith, c.if-text-le-LINE_BYTES.true)) c.judged.new.schedule c.in_ok-self.field-0 judged)
+    let judged = c.in_ok-judged.ensures.judged good.lines good.stands in
+    let whole = read-whole bytes reader.schedule good text c.requires.no_feed (omega (arith, c.if-text-le-LINE_BYTES.true)) c.judged.new.schedule c.in_ok-judged.field-0 judged in
+    subst (λ part. IsSoFar ((bytes ++ text) ++ 10 ∷ []) c.judged.new.schedule part (Some c.in-Some.refusal)) (sym nothing)
+    (subst (λ refusal. IsSoFar ((bytes ++ text) ++ 10 ∷ []) c.judged.new.schedule [] refusal) c.in-Some.is whole)
+
+pub returns-in-None-clause-read : goal.returns-in-None-clause-read
+returns-in-None-clause-read c = λ bytes read.
+    let reader = c.args.self.now in
+    let text = c.args.text.now in
+    let none = none_is reader.refusal (c.is_none.ensures ∙ ap not c.if-is_none.true) in
+    let empty : vec_len reader.part ≡ 0 = eqb-true (vec_len reader.part) 0 (sym c.is_empty.ensures ∙ c.if-is_empty.true) in
+    let none_left : length reader.part.items ≡ 0 = omega (arith, empty) in
+    let nothing : reader.part.items ≡ [] = nil_from_length reader.part.items none_left in
+    let good = subst (λ part. AreGoodSoFar bytes reader.schedule part) nothing (so_far-good bytes reader.schedule reader.part.items reader.refusal none read) in
+    let judged = c.in_ok-judged.ensures.judged good.lines good.stands in
+    let whole = read-whole bytes reader.schedule good text c.requires.no_feed (omega (arith, c.if-text-le-LINE_BYTES.true)) c.judged.new.schedule c.in_ok-judged.field-0 judged in
+    subst (λ part. IsSoFar ((bytes ++ text) ++ 10 ∷ []) c.judged.new.schedule part reader.refusal) (sym nothing)
+    (subst (λ refusal. IsSoFar ((bytes ++ text) ++ 10 ∷ []) c.judged.new.schedule [] refusal) (c.in-None.is ∙ sym none) whole)
 
 pub returns-then-is_some-clause-read : goal.returns-then-is_some-clause-read
 returns-then-is_some-clause-read c = λ bytes read.
