@@ -166,15 +166,6 @@ unfolding number_in
 decimal_ahead most text count some few within all small =
     ap (at_most most) (numeral 10 DECIMAL_DIGITS text count some few within all) ∙ at_most-below most (digits_value 10 (take count text)) small
 
--- ---- a word that is known
-
-without_space : (word : List ℕ) → list_all (λ byte. not (byte == space)) word ≡ true → All (λ byte. (byte == space) ≡ false) word
-without_space word all k d within = negated (get_or word k d == space) (AllPass-from_list_all (λ byte. not (byte == space)) word all k d within)
-  where
-    negated : (b : Bool) → not b ≡ true → b ≡ false
-    negated true h = cc
-    negated false h = refl
-
 -- ---- a word behind which a line goes on
 
 -- The text is its first word, if nothing is behind it.

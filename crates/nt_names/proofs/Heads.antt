@@ -1,46 +1,17 @@
 -- What is read of a header, field by field.
-use Rattle.std.proofs.Common.{◌≡◌, ℕ, suc, ◌+◌, ◌-◌, ◌<◌, ◌≤◌, Bool, true, false, List, ◌∷◌, length, get_or, take, drop, None, Ok, refl, ap, sym, ◌∙◌, arith, drop-cons}
+use Rattle.std.proofs.Common.{◌≡◌, ℕ, ◌+◌, ◌-◌, ◌<◌, ◌≤◌, Bool, true, false, List, length, take, drop, None, Ok, refl, ap, sym, ◌∙◌}
 use Rattle.std.specs.Prelude.{unwrap_or}
 use Rattle.std.proofs.Math.Nat.{div-eq_of_lt}
 use Rattle.std.specs.Option.{option_map_or}
-use Rattle.std.specs.Int.{w32, w64}
-use Rattle.pt_num.specs.declared.limits.TheConstants.{GROUP}
 use Rattle.pt_num.specs.Steps.{◌>>=◌}
-use Rattle.pt_num.specs.Fields.{Field, Short, bytes_at, var_at}
-use Rattle.pt_num.proofs.Reading.{group_ends}
+use Rattle.pt_num.specs.Fields.{Field, Short, bytes_at}
 use Rattle.nt_head.specs.declared.limits.TheConstants.{ID_BYTES}
 use Rattle.nt_head.specs.declared.head.HeadState.{HeadState}
 use Rattle.nt_head.specs.Head.{HeadFields, number_after, state_after}
-use Rattle.nt_head.specs.Places.{Reads}
 use Rattle.nt_head.specs.Reading.{has_flag, if_set}
 use Rattle.nt_head.proofs.Steps.{Carries, id_read, new_read, stop_flags}
 use Rattle.nt_names.specs.declared.head.Head.{Head}
 use Rattle.nt_names.specs.state.Heads.{Cuts, CutsHead, Passes, head_of}
-
--- ---- a varuint of one byte
-
-front : (bytes : List ℕ) (at : ℕ) → at < length bytes → drop at bytes ≡ get_or bytes at 0 ∷ drop (at + 1) bytes
-front bytes at there =
-    let next : at + 1 ≡ suc at = omega arith in
-    rw next (drop-cons bytes at 0 there)
-
-pub one_32 : (bytes : List ℕ) (at : ℕ) → at < length bytes → get_or bytes at 0 < GROUP → Reads (var_at w32) bytes at (at + 1) (get_or bytes at 0)
-one_32 bytes at there low =
-    let is = front bytes at there in
-    let more : 4 ≡ 0 → get_or bytes at 0 ≤ 15 = λ none. omega (arith, none) in
-    record {
-      within = omega arith;
-      read = ap (var_at w32) is ∙ group_ends (get_or bytes at 0 ∷ drop (at + 1) bytes) (drop (at + 1) bytes) 4 15 (get_or bytes at 0) more low;
-    }
-
-pub one_64 : (bytes : List ℕ) (at : ℕ) → at < length bytes → get_or bytes at 0 < GROUP → Reads (var_at w64) bytes at (at + 1) (get_or bytes at 0)
-one_64 bytes at there low =
-    let is = front bytes at there in
-    let more : 9 ≡ 0 → get_or bytes at 0 ≤ 1 = λ none. omega (arith, none) in
-    record {
-      within = omega arith;
-      read = ap (var_at w64) is ∙ group_ends (get_or bytes at 0 ∷ drop (at + 1) bytes) (drop (at + 1) bytes) 9 1 (get_or bytes at 0) more low;
-    }
 
 -- ---- what is passed over
 

@@ -120,17 +120,6 @@ fielded-more fields payload left rest field before held start digits mid end lab
       put = placed-more (text ++ going.piece) label start digits end old placed new first more name keeps;
     }
 
-pub fielded-all : (fields : List FieldDef) (payload : List ℕ) (left : List FieldDef) (before start end : ℕ) (old new : List ℕ)
-    → Fielded fields payload left before start end old new → left ≡ [] → before ≡ 0 → PlacesFields fields payload start end old new
-fielded-all fields payload left before start end old new going none zero =
-    let all = ends-all fields payload left before going.done going.values going.ends none zero in (
-      going.values,
-      going.piece,
-      all.1,
-      subst (λ (fs : List FieldDef). AreFields 0 fs going.values going.piece) all.0 going.are,
-      going.put,
-    )
-
 -- ---- members of an object
 
 -- The comma before the first member of some fields.

@@ -1,4 +1,4 @@
-use Rattle.nt_names.proofs.Heads.{one_32}
+use Rattle.nt_head.proofs.ShortVars.{one_32}
 use Rattle.nt_names.proofs.head.next32.Goals as goal
 
 pub returns-then-bytes-at-lt-GROUP-clause-some : goal.returns-then-bytes-at-lt-GROUP-clause-some

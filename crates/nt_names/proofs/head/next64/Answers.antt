@@ -1,4 +1,4 @@
-use Rattle.nt_names.proofs.Heads.{one_64}
+use Rattle.nt_head.proofs.ShortVars.{one_64}
 use Rattle.nt_names.proofs.head.next64.Goals as goal
 
 pub returns-then-bytes-at-lt-GROUP-clause-some : goal.returns-then-bytes-at-lt-GROUP-clause-some
