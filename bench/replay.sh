@@ -66,7 +66,6 @@ def of_gen(rounds):
     providers = ["Sample-Web"] * 3 + ["Sample-Store"] * 3 + ["Sample-Jobs"] * 2
     numbers, levels, keywords = (1, 2, 3, 1, 2, 3, 1, 2), (4, 4, 2, 5, 4, 0, 4, 3), (1, 1, 2, 1, 2, 0, 3, 4)
     fields = {2: "index:9,thread:12", 6: "-"}
-    of_both = (6,)
     for event, (provider, number, level, keyword, name) in enumerate(zip(providers, numbers, levels, keywords, names), 1):
         yield f"event {event} {provider} {number} 0 {level} {keyword:x} {name} {fields.get(event, 'index:9')}"
     yield "accept 1 4 " + " ".join(f"Sample-{name}:{'f' * 16}:5" for name in ("Web", "Store", "Jobs"))
@@ -80,7 +79,7 @@ def of_gen(rounds):
         frames = ",".join(f"{4194304 + 4096 * (index % 16) + 16 * frame:x}" for frame in range(index % 4))
         activity = (thread.to_bytes(8, "little") + index.to_bytes(8, "little")).hex() if event <= 3 else "-"
         yield from (f"begin {thread} {write} {event} {activity} - {frames or '-'} {payload or '-'}", f"show {thread} 1")
-        if event in of_both:
+        if event == 6:
             yield f"show {thread} 2"
         yield f"end {thread}"
         if write % 4096 == 4095:
@@ -129,7 +128,7 @@ def put(schedule, rounds, name):
 
 def instructions_of(source, *words):
     """The instructions of a whole run, as callgrind counts them."""
-    words = ["valgrind", "--tool=callgrind", f"--callgrind-out-file={work}/callgrind", *words or (program, "replay")]
+    words = ["valgrind", "--tool=callgrind", f"--callgrind-out-file={work}/callgrind", *(words or (program, "replay"))]
     return int(re.search(r"Collected : (\d+)", run(words, source).stderr.decode()).group(1))
 
 
