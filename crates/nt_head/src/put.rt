@@ -12,7 +12,7 @@ ghost use Rattle.nt_head.specs.Head.{flag as worth_of};
 use crate::flags::{ACTIVITY, METADATA, RELATED, SEQUENCE, SIZE, SORTED, STACK, THREAD};
 use crate::head::{HeadState, state_fits};
 use crate::limits::{HEAD_BYTES, ID_BYTES};
-use pt_num::{push_var32, push_var64};
+use pt_num::{is_same_id, push_var32, push_var64};
 use std::alloc::AllocError;
 use std::mem;
 
@@ -166,13 +166,6 @@ fn has_sequence(previous: &HeadState, now: &HeadState) -> bool
     now.metadata != 0 && now.number != previous.number.wrapping_add(1)
         || now.capture != previous.capture
         || now.processor != previous.processor
-}
-
-#[inline(always)]
-fn is_same_id(previous: &[u8; 16], now: &[u8; 16]) -> bool
-    ensures { result ≡ pointwise nat_eq previous.now now.now }
-{
-    previous == now
 }
 
 #[inline(always)]

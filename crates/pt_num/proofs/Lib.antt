@@ -6,5 +6,6 @@ pub mod Joined
 pub mod Kept
 pub mod Lengths
 pub mod Reading
+pub mod SameBytes
 pub mod Steps
 pub mod TextForms
