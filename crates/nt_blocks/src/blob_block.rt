@@ -168,13 +168,19 @@ fn put_blob(
     Ok(())
 }
 
-// Appends a payload, for which there is room. Most have a few bytes, of which many are put in one piece, without a call.
+// Appends a payload, for which there is room. Most have a few bytes: four, eight or twelve are put without a call.
 #[inline(always)]
 fn push_payload(out: &mut Vec<u8>, payload: &[u8])
     requires { vec_len out.old + length payload.now ≤ vec_capacity out.old }
     ensures { out.new.items ≡ out.old.items ++ payload.now }
 {
     let rest = push_eight(out, payload);
+    // Where eight bytes or more are left, they go out by eight first.
+    let rest = if rest.len() < 8 {
+        push_four(out, rest)
+    } else {
+        rest
+    };
     if !rest.is_empty() {
         push_rest(out, rest);
     }
