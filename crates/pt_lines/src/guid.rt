@@ -1,5 +1,6 @@
 //! Sixteen bytes as a UUID.
-ghost use Rattle.std.specs.Prelude.{◌≡◌, ◌+◌, ◌≤◌, ◌++◌, length, drop};
+ghost use Rattle.std.specs.Prelude.{◌≡◌, ◌+◌, ◌≤◌, ◌++◌, length, drop, replicate};
+ghost use Rattle.ep_defs.specs.Event.{is_same_text};
 ghost use Rattle.uuid.specs.Parts.{swap_fields};
 ghost use Rattle.uuid.specs.Text.{hyphenated_text, lower};
 ghost use Rattle.pt_lines.specs.state.Halves.{back_digits, front_digits};
@@ -8,12 +9,20 @@ ghost use Rattle.pt_lines.specs.declared.guid.TheConstants.{GUID_BYTES};
 use crate::place::place_word;
 use crate::text::{high_text, low_text};
 use ep_defs::ranges::bytes_fit;
+use pt_num::is_same_id;
 
 /// How many bytes the text has.
 pub const GUID_BYTES: usize = 36;
 
 // How many bytes a half of it has.
 const HALF_BYTES: usize = 18;
+
+/// Whether sixteen bytes are zeros, those of no activity.
+pub fn is_none(bytes: &[u8; 16]) -> bool
+    ensures { result ≡ is_same_text bytes.now (replicate 16 0) }
+{
+    is_same_id(bytes, &[0; 16])
+}
 
 /// Writes sixteen bytes as a UUID, of which the first three parts have their low byte first.
 pub fn place_guid(text: &mut [u8], end: usize, bytes: &[u8; 16]) -> usize
@@ -24,7 +33,7 @@ pub fn place_guid(text: &mut [u8], end: usize, bytes: &[u8; 16]) -> usize
     ensures len { length text.new ≡ length text.old }
 {
     // Most events belong to no activity, and nearly all are related to none.
-    if *bytes == [0; 16] {
+    if is_none(bytes) {
         return place_word(text, end, b"00000000-0000-0000-0000-000000000000");
     }
     bytes_fit(bytes);

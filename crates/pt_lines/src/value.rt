@@ -1,11 +1,10 @@
 //! The value of a field.
-ghost use Rattle.std.specs.Prelude.{◌≡◌, ◌<◌, ◌^◌, ◌++◌, length, replicate, OnOk};
+ghost use Rattle.std.specs.Prelude.{◌≡◌, ◌<◌, ◌^◌, ◌++◌, length, OnOk};
 ghost use Rattle.std.specs.Fmt.{decimal, signed_decimal};
 ghost use Rattle.std.specs.Float.{binary32, binary64};
 ghost use Rattle.hex.specs.Hex.{encode_lower};
 ghost use Rattle.uuid.specs.Parts.{swap_fields};
 ghost use Rattle.uuid.specs.Text.{hyphenated_text, lower};
-ghost use Rattle.ep_defs.specs.Event.{is_same_text};
 ghost use Rattle.nt_fields.specs.Taking.{value_in, StandsIn};
 ghost use Rattle.pt_lines.specs.Texts.{IsShown, IsFloat, truth_text, digits_in, day_text, clock_text, date_text};
 ghost use Rattle.pt_lines.specs.Appends.{Appends};
@@ -119,13 +118,6 @@ pub fn put_guid(out: &mut Vec<u8>, bytes: &[u8; 16]) -> Result<(), AllocError>
     let mut text = [0; GUID_BYTES];
     let start = place_guid(&mut text, GUID_BYTES, bytes);
     out.extend_from_slice(&text[start..])
-}
-
-/// Whether sixteen bytes are zeros, those of no activity.
-pub fn is_none(bytes: &[u8; 16]) -> bool
-    ensures { result ≡ is_same_text bytes.now (replicate 16 0) }
-{
-    *bytes == [0; 16]
 }
 
 /// Appends a date.

@@ -17,6 +17,7 @@ ghost use Rattle.pt_lines.specs.state.Ending.{IsPlacedEnd};
 
 use crate::chromium::moment::{TIME_BYTES, few_nanoseconds, place_time, put_moment, put_time};
 use crate::chromium::phase::{end_of, put_phase};
+use crate::guid::is_none;
 use crate::json::fields::{OPENING, put_payload};
 use crate::json::line::put_error as put_error_object;
 use crate::json::value::put_integer;
@@ -25,7 +26,6 @@ use crate::origin::Origin;
 use crate::place::{place_member, place_word};
 use crate::plain::place_members;
 use crate::text::put_quoted;
-use crate::value::is_none;
 use ep_defs::EventDef;
 use pt_print::put_word;
 use std::alloc::{AllocError, Global};

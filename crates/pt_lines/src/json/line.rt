@@ -10,14 +10,13 @@ ghost use Rattle.pt_lines.specs.Appends.{Appends, Tells};
 ghost use Rattle.pt_lines.specs.state.Nest.{comma};
 ghost use Rattle.pt_lines.specs.state.Pieces.{activities_text, alone_text, described_text};
 
-use crate::guid::{GUID_BYTES, place_guid};
+use crate::guid::{GUID_BYTES, is_none, place_guid};
 use crate::json::fields::put_fields;
 use crate::json::stack::width_of;
 use crate::json::value::{put_integer, put_plain};
 use crate::line::EventLine;
 use crate::place::{place_member, place_word};
 use crate::text::put_quoted;
-use crate::value::is_none;
 use ep_defs::EventDef;
 use pt_print::put_word;
 use std::alloc::{AllocError, Global};

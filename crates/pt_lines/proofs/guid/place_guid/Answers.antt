@@ -7,9 +7,9 @@ use Rattle.pt_lines.proofs.Halves.{halves}
 use Rattle.pt_lines.proofs.Uuids.{zeros-text}
 use Rattle.pt_lines.proofs.guid.place_guid.Goals as goal
 
-pub returns-then-eq-clause-written : goal.returns-then-eq-clause-written
-returns-then-eq-clause-written c =
-    let zeros : c.args.bytes.now ≡ replicate 16 0 = text-means c.args.bytes.now (replicate 16 0) (sym c.eq.ensures ∙ c.if-eq.true) in
+pub returns-then-is_none-clause-written : goal.returns-then-is_none-clause-written
+returns-then-is_none-clause-written c =
+    let zeros : c.args.bytes.now ≡ replicate 16 0 = text-means c.args.bytes.now (replicate 16 0) (sym c.is_none.ensures ∙ c.if-is_none.true) in
     c.place_word.ensures.written
     ∙ ap (λ (xs : List ℕ). xs ++ drop c.args.end c.args.text.now) (zeros-text ∙ sym (ap (λ (bytes : List ℕ). hyphenated_text lower (swap_fields bytes)) zeros))
 
