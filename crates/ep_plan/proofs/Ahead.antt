@@ -19,9 +19,9 @@ use Rattle.std.proofs.lemmas.List.Elements.{All-append, All-head, All-push}
 use Rattle.std.proofs.lemmas.List.Folds.{list_all_more}
 use Rattle.std.proofs.lemmas.List.Splits.{slice_split_at, slice_split_none}
 use Rattle.std.proofs.lemmas.List.Sums.{AllPass-from_list_all}
-use Rattle.hex.specs.Hex.{decode_of, digit_or_error, hex_digit_value, is_hex_digit, pair_value}
-use Rattle.hex.proofs.HexLemmas.{decode_of-ok}
-use Rattle.ep_plan.specs.declared.limits.TheConstants.{DECIMAL_DIGITS, HEX_DIGITS}
+use Rattle.hex.specs.Hex.{decode_of, decode_sized, digit_or_error, hex_digit_value, is_hex_digit, pair_value}
+use Rattle.hex.proofs.HexLemmas.{decode_of-ok, decode_sized-twice}
+use Rattle.ep_plan.specs.declared.limits.TheConstants.{DECIMAL_DIGITS, HEX_DIGITS, ID_DIGITS}
 use Rattle.ep_plan.specs.declared.words.ahead.TheConstants.{DIGITS, HIGH_DIGITS}
 use Rattle.ep_plan.specs.declared.verb.Verb.{Verb}
 use Rattle.ep_plan.specs.Lines.{form_of}
@@ -207,6 +207,18 @@ digits_payload text bytes some decodes =
     sym (dash_or-other [] read text (45 ∷ []) refl (sym (no_dash text (hex_no 45 text refl (decode_of-ok text bytes decodes).1))))
     ∙ cond-true (nat_lt 0 (length text)) (result_ok (decode_of text)) None (lt-ltb 0 (length text) some) ∙ ap result_ok decodes
 
+-- 32 of them are one word too, which spells an id.
+pub id_word : (text id : List ℕ) → ID_DIGITS ≤ length text → decode_of (take ID_DIGITS text) ≡ Ok id → (ID_DIGITS < length text → get_or text ID_DIGITS 0 ≡ space) → IsWordOf text ID_DIGITS
+id_word text id within decodes ends =
+    record { some = omega arith; within = within; whole = hex_no space (take ID_DIGITS text) refl (decode_of-ok (take ID_DIGITS text) id decodes).1; ends = ends }
+
+pub digits_id : (digits id : List ℕ) → length digits ≡ ID_DIGITS → decode_of digits ≡ Ok id → id_in digits ≡ Some id
+unfolding id_in
+digits_id digits id many decodes =
+    let read : List ℕ → Option (List ℕ) = λ digits. result_ok (decode_sized digits 16) in
+    sym (dash_or-other (replicate 16 0) read digits (45 ∷ []) refl (sym (no_dash digits (hex_no 45 digits refl (decode_of-ok digits id decodes).1))))
+    ∙ ap result_ok (decode_sized-twice digits 16 many ∙ decodes)
+
 -- ---- return addresses
 
 -- So many bytes of a text are whole return addresses, each with its comma.
@@ -321,6 +333,12 @@ pub next_verb : (cursor : Cursor) (text : Bor (List ℕ)) (result : Option (Verb
     → IfSome result (λ found. (next : IsNext cursor found.1) × (take found.1 next.text.now ≡ (form_of found.0).name))
 next_verb cursor text (Some found) is word name = (record { text = text; rest = is; word = word }, name)
 next_verb cursor text None is word name = tt
+
+-- The id of the next word.
+pub next_id : (cursor : Cursor) (text : Bor (List ℕ)) (result : Option (List ℕ)) → cursor.rest ≡ Some text → IfSome result (λ id. IsWordOf text.now ID_DIGITS) → IfSome result (λ id. id_in (take ID_DIGITS text.now) ≡ Some id)
+    → IfSome result (λ id. (next : IsNext cursor ID_DIGITS) × (id_in (take ID_DIGITS next.text.now) ≡ Some id))
+next_id cursor text (Some id) is word read = (record { text = text; rest = is; word = word }, read)
+next_id cursor text None is word read = tt
 
 -- What the word `-` spells.
 pub dash_id : (word : List ℕ) → word ≡ codes "-" → id_in word ≡ Some (replicate 16 0)

@@ -1,17 +1,24 @@
 -- What is wrong with a whole line.
-use Rattle.std.proofs.Common.{◌≡◌, ◌≢◌, ◌<◌, ◌≤◌, ◌+◌, ℕ, Bool, true, false, nat_lt, if◌then◌else◌, List, [], ◌∷◌, length, codes, Option, Some, None, refl, sym, ap, ◌∙◌, subst, arith}
+use Rattle.std.proofs.Common.{◌≡◌, ◌≢◌, ◌<◌, ◌≤◌, ◌+◌, ℕ, Bool, true, false, nat_lt, if◌then◌else◌, List, [], ◌∷◌, length, ◌==◌, codes, Option, Some, None, refl, sym, ap, ◌∙◌, subst, arith}
+use Rattle.std.specs.Bool.{OnTrue, then_some}
+use Rattle.std.specs.List.{onto_first}
+use Rattle.std.specs.Prelude.{IfSome}
+use Rattle.std.proofs.lemmas.Bool.{true≢false}
 use Rattle.std.proofs.lemmas.Bool.Decides.{nat_tests}
+use Rattle.std.proofs.lemmas.List.Splits.{slice_split-cons_yes, slice_split-cons_no}
 use Rattle.ep_defs.specs.declared.event.EventDef.{EventDef}
 use Rattle.ep_defs.specs.Event.{is_same_text}
+use Rattle.ep_model.specs.declared.step.Step.{Step}
 use Rattle.ep_plan.specs.declared.limits.TheConstants.{LINE_BYTES}
 use Rattle.ep_plan.specs.declared.cursor.Cursor.{Cursor}
 use Rattle.ep_plan.specs.declared.verb.Verb.{Verb}
 use Rattle.ep_plan.specs.declared.verb.Verb.TheVariants as verb
-use Rattle.ep_plan.specs.Lines.{Bad, bad_at, form_of, verb_in, is_blank, bad_of, words_bad, event_bad, step_bad, Means, IsLine}
+use Rattle.ep_plan.specs.Lines.{Bad, bad_at, form_of, verb_in, is_blank, bad_of, words_bad, event_bad, step_bad, Spells, Means, IsLine}
 use Rattle.ep_plan.specs.Words.{space, words_of}
 use Rattle.ep_plan.specs.Cursor.{left, column_of, bad_form, has_word, BeginsAt, TookWord}
 use Rattle.ep_plan.proofs.Forms.{no-verb, verb-form}
 use Rattle.ep_plan.proofs.CursorWords.{parts-some}
+use Rattle.ep_plan.proofs.Separated.{parts-cons}
 use Rattle.ep_plan.specs.declared.line.LineKind.TheVariants as kind
 use Rattle.ep_plan.specs.declared.line.Line.TheVariants as line
 
@@ -101,3 +108,37 @@ verb-first events stepped text old new verb few other words column past took =
     worded events stepped text (name ∷ left new) few other cut
     ∙ step-first events stepped (length text + 1) name (left new) (no-event verb)
     ∙ ap (λ p. step_bad p name (left new)) end ∙ verb-form new name verb (names-verb verb) begins
+
+-- It is good, and means the step that its words spell, if they are good.
+pub verb-line : (events : List EventDef) (stepped : Bool) (text : List ℕ) (old new : Cursor) (verb : Verb) (made : Step) → length text ≤ LINE_BYTES → is_blank text ≡ false → left old ≡ words_of text → column_of old ≡ 1 → old.past ≡ length text + 1
+    → TookWord old new (form_of verb).name → bad_form new (form_of verb) ≡ None → Spells ((form_of verb).name ∷ left new) made → IsLine events stepped text (line.Step made)
+unfolding Means
+verb-line events stepped text old new verb made few other words column past took good spells =
+    let cut : words_of text ≡ (form_of verb).name ∷ left new = sym words ∙ took.words in
+    record {
+      good = verb-first events stepped text old new verb few other words column past took ∙ good;
+      meaning = (other, subst (λ ws. Spells ws made) (sym cut) spells);
+    }
+
+-- A line whose first word is no comment is none.
+pub begins-word : (text name : List ℕ) (words : List (List ℕ)) → words_of text ≡ name ∷ words → is_blank name ≡ false → is_blank text ≡ false
+begins-word [] name words cut other =
+    let none : [] ≡ name = cc in
+    absurd (true≢false (ap is_blank none ∙ other))
+begins-word (byte ∷ text) name words cut other = by_test (byte == space) refl
+  where
+    by_test : (b : Bool) → (byte == space) ≡ b → is_blank (byte ∷ text) ≡ false
+    by_test true same_byte =
+        let first = sym (slice_split-cons_yes (λ byte. byte == space) byte text same_byte) ∙ cut in
+        let none : [] ≡ name = cc in
+        absurd (true≢false (ap is_blank none ∙ other))
+    by_test false apart =
+        let more = parts-cons space text in
+        let first = ap (onto_first byte) (sym more.2) ∙ sym (slice_split-cons_no (λ byte. byte == space) byte text apart) ∙ cut in
+        let same : byte ∷ more.0 ≡ name = cc in
+        ap is_blank same ∙ other
+
+-- What is answered where nothing is left.
+pub if-over : {A : Type 0} (P : A → Type 0) (b : Bool) (x : A) (result : Option A) {Over : Type 0} → result ≡ then_some b x → OnTrue b Over → (Over → P x) → IfSome result P
+if-over P true x result is over holds = subst (λ r. IfSome r P) (sym is) (holds over)
+if-over P false x result is over holds = subst (λ r. IfSome r P) (sym is) tt

@@ -14,6 +14,8 @@ use Rattle.ep_plan.specs.declared.line.Line.TheVariants as line
 use Rattle.ep_plan.specs.declared.limits.TheConstants.{LINE_BYTES}
 use Rattle.ep_plan.specs.declared.line.LineKind.{LineKind}
 use Rattle.ep_plan.specs.declared.line.LineKind.TheVariants as kind
+use Rattle.ep_plan.specs.declared.short.ShortStep.{ShortStep}
+use Rattle.ep_plan.specs.declared.short.ShortStep.TheVariants as short
 use Rattle.ep_plan.specs.declared.verb.Verb.{Verb}
 use Rattle.ep_plan.specs.declared.verb.Verb.TheVariants as verb
 use Rattle.ep_plan.specs.Words.{hash, words_of, number_in, hex_in, id_in, frames_in, payload_in, provider_in, event_name_in, rule_in, fields_in, all_in}
@@ -331,3 +333,8 @@ Means text (line.Step made) = (is_blank text ≡ false) × Spells (words_of text
 pub record IsLine (events : List EventDef) (stepped : Bool) (text : List ℕ) (line : Line) : Type 0 where
   pub good : bad_of events stepped text ≡ None
   pub meaning : Means text line
+
+-- The step of a line that is read by its numbers alone.
+abbrev pub step_of : ShortStep → Step
+step_of (short.Show thread session) = step.Show thread session
+step_of (short.End thread) = step.End thread

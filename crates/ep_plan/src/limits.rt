@@ -8,3 +8,6 @@ pub const DECIMAL_DIGITS: usize = 20;
 
 /// The digits of a hexadecimal number.
 pub const HEX_DIGITS: usize = 16;
+
+/// The digits of an id.
+pub const ID_DIGITS: usize = 32;

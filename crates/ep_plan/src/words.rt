@@ -9,7 +9,9 @@ mod numbers;
 mod rules;
 mod split;
 
-pub(crate) use ahead::{bytes_ahead, dash_ahead, ends, frames_ahead, leading, verb_ahead};
+pub(crate) use ahead::{
+    bytes_ahead, dash_ahead, ends, frames_ahead, id_ahead, leading, verb_ahead,
+};
 pub(crate) use field_list::fields;
 pub(crate) use frame_list::{frames, put_frames};
 pub(crate) use hex_bytes::{id, payload, put_id, put_payload};

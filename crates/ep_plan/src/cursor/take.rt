@@ -2,7 +2,7 @@
 ghost use Rattle.std.specs.Prelude.{◌≡◌, ◌≢◌, ◌+◌, ◌^◌, ◌<◌, ◌≤◌, ℕ, List, [], length, take, codes, false, Option, None, Some, IfOk, IfSome, IsTrue, OnOk};
 ghost use Rattle.std.specs.Bool.{OnTrue, OnFalse};
 ghost use Rattle.ep_defs.specs.declared.limits.TheConstants.{EVENTS};
-ghost use Rattle.ep_plan.specs.declared.limits.TheConstants.{LINE_BYTES};
+ghost use Rattle.ep_plan.specs.declared.limits.TheConstants.{LINE_BYTES, ID_DIGITS};
 ghost use Rattle.ep_plan.specs.declared.line.LineKind.TheVariants.{Word};
 ghost use Rattle.ep_plan.specs.declared.line.LineFault.TheVariants.{Bad as BadLine};
 ghost use Rattle.ep_plan.specs.Lines.{Part, Index, Number, Flag, Stamp, Provider, Name, Keywords, Fields as FieldsPart, Rule as RulePart, Id, Frames as FramesPart, Payload, form_of, number_of, flag_of, stamp_of};
@@ -10,6 +10,7 @@ ghost use Rattle.ep_plan.specs.Words.{words_of, number_in, hex_in, id_in, frames
 ghost use Rattle.ep_plan.specs.Cursor.{left, column_of, bad_left, has_word, TookWord, Took, TakesPart, IsBad, IsBadAt, IfBad, IsNext, Reads, SpellsAll};
 
 use super::Cursor;
+use crate::limits::ID_DIGITS;
 use crate::line::{LineFault, LineKind};
 use crate::verb::Verb;
 use crate::words;
@@ -128,15 +129,35 @@ impl<'a> Cursor<'a> {
         ensures took { IfOk result (TakesPart Number number_of self.old self.new) }
         ensures bad { IfBad result (IsBad Number self.old) }
     {
-        if let Some((number, count)) = self.number_ahead(MOST) {
-            self.pass(count);
-            return Ok(number as u32);
+        match self.short_number() {
+            Some(number) => Ok(number),
+            None => self.whole_number(),
         }
+    }
+
+    /// A number below 2 ^ 32, if it has few digits. Else nothing is taken.
+    #[inline(always)]
+    pub(crate) fn short_number(&mut self) -> Option<u32>
+        ensures took { IfSome result (TakesPart Number number_of self.old self.new) }
+        ensures none { result ≡ None → self.new ≡ self.old }
+    {
+        let (number, count) = self.number_ahead(MOST)?;
+        self.pass(count);
+        Some(number as u32)
+    }
+
+    // A number whose word is taken as a whole. It stands out of line, since few numbers are read so.
+    #[inline(never)]
+    fn whole_number(&mut self) -> Result<u32, LineFault>
+        ensures took { IfOk result (TakesPart Number number_of self.old self.new) }
+        ensures bad { IfBad result (IsBad Number self.old) }
+    {
         let number = self.part(LineKind::Number, |word| Ok(words::number(word, MOST)))?;
         Ok(number as u32)
     }
 
     // The number that the next word spells, and the word's bytes, if it has few digits and is at most `most`.
+    #[inline(always)]
     fn number_ahead(&self, most: u64) -> Option<(u64, usize)>
         ensures word { IfSome result (λ read. (next : IsNext self.now read.1)
             × (number_in most (take read.1 next.text.now) ≡ Some read.0)) }
@@ -157,6 +178,7 @@ impl<'a> Cursor<'a> {
     }
 
     // Passes over the next word, which has so many bytes.
+    #[inline(always)]
     fn pass(&mut self, count: usize)
         requires { IsNext self.old count }
         ensures { (next : IsNext self.old count) → TookWord self.old self.new (take count next.text.now) }
@@ -225,6 +247,14 @@ impl<'a> Cursor<'a> {
             self.pass(count);
             return Ok(stamp);
         }
+        self.whole_stamp()
+    }
+
+    #[inline(never)]
+    fn whole_stamp(&mut self) -> Result<u64, LineFault>
+        ensures took { IfOk result (TakesPart Stamp stamp_of self.old self.new) }
+        ensures bad { IfBad result (IsBad Stamp self.old) }
+    {
         self.part(LineKind::Number, |word| Ok(words::number(word, u64::MAX)))
     }
 
@@ -237,6 +267,7 @@ impl<'a> Cursor<'a> {
     }
 
     /// An id.
+    #[inline(always)]
     pub(crate) fn id(&mut self) -> Result<[u8; 16], LineFault>
         ensures took { IfOk result (TakesPart Id id_in self.old self.new) }
         ensures bad { IfBad result (IsBad Id self.old) }
@@ -245,10 +276,35 @@ impl<'a> Cursor<'a> {
             self.pass(1);
             return Ok([0; 16]);
         }
+        self.spelled_id()
+    }
+
+    // An id that is spelled by digits. It stands out of line, since most ids are `-`.
+    #[inline(never)]
+    fn spelled_id(&mut self) -> Result<[u8; 16], LineFault>
+        ensures took { IfOk result (TakesPart Id id_in self.old self.new) }
+        ensures bad { IfBad result (IsBad Id self.old) }
+    {
+        if let Some(id) = self.id_ahead() {
+            self.pass(ID_DIGITS);
+            return Ok(id);
+        }
         self.whole_id()
     }
 
-    // The same, its word taken as a whole. It stands out of line, since few lines have one.
+    // The id that the next word spells, if it has digits alone.
+    #[inline(always)]
+    fn id_ahead(&self) -> Option<[u8; 16]>
+        ensures { IfSome result (λ id. (next : IsNext self.now ID_DIGITS)
+            × (id_in (take ID_DIGITS next.text.now) ≡ Some id)) }
+    {
+        match self.rest {
+            Some(text) => words::id_ahead(text),
+            None => None,
+        }
+    }
+
+    // The same, its word taken as a whole. It stands out of line, since hardly a word is read so.
     #[inline(never)]
     fn whole_id(&mut self) -> Result<[u8; 16], LineFault>
         ensures took { IfOk result (TakesPart Id id_in self.old self.new) }

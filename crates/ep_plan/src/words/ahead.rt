@@ -7,10 +7,11 @@ ghost use Rattle.std.specs.List.{list_all};
 ghost use Rattle.std.specs.Str.Parse.{digits_value};
 ghost use Rattle.hex.specs.Hex.{decode_of, hex_digit_value, pair_value};
 ghost use Rattle.ep_plan.specs.Lines.{form_of};
-ghost use Rattle.ep_plan.specs.Words.{frames_in};
+ghost use Rattle.ep_plan.specs.declared.limits.TheConstants.{ID_DIGITS};
+ghost use Rattle.ep_plan.specs.Words.{frames_in, id_in};
 ghost use Rattle.ep_plan.specs.Cursor.{IsWordOf, EndsAt};
 
-use crate::limits::HEX_DIGITS;
+use crate::limits::{HEX_DIGITS, ID_DIGITS};
 use crate::verb::Verb;
 use ep_defs::{Bytes, Items};
 use std::alloc::{AllocError, Global};
@@ -130,6 +131,23 @@ pub(crate) fn ends(text: &[u8], count: usize) -> bool
     count == text.len() || text[count] == b' '
 }
 
+/// The id that the first word of a text spells, if it has digits alone.
+#[inline(always)]
+pub(crate) fn id_ahead(text: &[u8]) -> Option<[u8; 16]>
+    ensures word { IfSome result (λ id. IsWordOf text.now ID_DIGITS) }
+    ensures id { IfSome result (λ id. id_in (take ID_DIGITS text.now) ≡ Some id) }
+{
+    if text.len() < ID_DIGITS || !ends(text, ID_DIGITS) {
+        return None;
+    }
+    let mut id = [0; 16];
+    if spelled(&text[..ID_DIGITS], &mut id) {
+        Some(id)
+    } else {
+        None
+    }
+}
+
 /// Appends the return addresses at the front of a text, if they are a word with another behind it, and answers how many
 /// bytes it has.
 pub(crate) fn frames_ahead(text: &[u8], frames: &mut Vec<u64>) -> Result<Option<usize>, AllocError>
@@ -171,6 +189,7 @@ pub(crate) fn bytes_ahead(alloc: Global, text: &[u8]) -> Result<Option<Bytes>, A
 }
 
 // Whether there are digits alone, which spell the bytes that are put then.
+#[inline(always)]
 fn spelled(digits: &[u8], out: &mut [u8]) -> bool
     requires { length digits.now ≡ 2 * length out.old }
     ensures { IsTrue result → decode_of digits.now ≡ Ok out.new }

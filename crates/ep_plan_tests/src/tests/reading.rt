@@ -1,7 +1,7 @@
 //! Lines that are read, or refused at their first bad word.
 use ep_defs::EventDef;
 use ep_model::Step;
-use ep_plan::{Line, LineFault, read_line};
+use ep_plan::{Line, LineFault, read_line, read_short};
 use std::alloc::{AllocError, Global};
 
 // In each row of these tables how the line prints once it is read, or its number, column and kind, and a bar stand in front
@@ -34,6 +34,32 @@ const GOOD: &str = "Blank|\n\
     Step(Begin { thread: 1, stamp: 5, write: Write { event: 2, activity: [0, 0, 0, 0, 0, 0, 0, 0, 0, 0, 0, 0, 0, 0, 0, 0], related: [0, 0, 0, 0, 0, 0, 0, 0, 0, 0, 0, 0, 0, 0, 0, 0], frames: Items { items: [18446744073709551615, 1] }, payload: Items { items: [] } } })|begin 1 5 2 - - ffffffffffffffff,1 -\n\
     Event { index: 1, def: EventDef { provider: Items { items: [80] }, id: 2, version: 3, level: 4, keywords: 3855, name: Items { items: [] }, fields: Items { items: [] } } }|event 1 P 2 3 4 F0f - -\n\
     Event { index: 1, def: EventDef { provider: Items { items: [77, 121, 45, 80, 44, 49] }, id: 2, version: 3, level: 4, keywords: 0, name: Items { items: [45, 45] }, fields: Items { items: [FieldDef { depth: 0, code: 3, name: Items { items: [120] } }, FieldDef { depth: 0, code: 18, name: Items { items: [121, 122] } }] } } }|event 01 My-P,1 2 3 4 0 -- x:3,yz:018";
+
+// How the line prints that is read by its numbers alone.
+const SHORT: &str = "Some(Show { thread: 1, session: 2 })|show 1 2\n\
+    Some(Show { thread: 4294967295, session: 0 })|show 4294967295 00\n\
+    Some(End { thread: 4294967295 })|end 4294967295\n\
+    None|show x 2\n\
+    None|show 1 4294967296\n\
+    None|show 1\n\
+    None|show 1 \n\
+    None|show 1 2 \n\
+    None|show 1 2 3\n\
+    None|show 1  2\n\
+    None|show\n\
+    None|shows 1 2\n\
+    None|end 4294967296\n\
+    None|end -\n\
+    None|end \n\
+    None|end 1 2\n\
+    None| end 1\n\
+    None|begin 1 5 2 - - - -\n\
+    None|steal 1 2\n\
+    None|give 9\n\
+    None|enter 9\n\
+    None|event 1 P 1 0 4 1 E -\n\
+    None|# end 1\n\
+    None|";
 
 const BAD_STEPS: &str = "7 1 Word| \n\
     7 1 Word| #\n\
@@ -250,6 +276,28 @@ fn differs_at(alloc: Global, table: &str, events: &[EventDef], stepped: bool) ->
     0
 }
 
+// The same of lines that are read by their numbers alone.
+fn short_differs_at(alloc: Global) -> usize {
+    for (place, row) in SHORT.split('\n').enumerate() {
+        if !agrees_short(alloc, row) {
+            return place.saturating_add(1);
+        }
+    }
+    0
+}
+
+fn agrees_short(alloc: Global, row: &str) -> bool {
+    match row.split_once('|') {
+        Some((answer, line)) => is(short_text(alloc, line.as_bytes()), answer),
+        None => false,
+    }
+}
+
+fn short_text(alloc: Global, line: &[u8]) -> Result<String, AllocError> {
+    let short = read_short(line);
+    format!(in alloc; "{short:?}")
+}
+
 // Appends the definition that the line spells.
 fn define(alloc: Global, events: &mut Vec<EventDef>, line: &str) -> Result<(), AllocError> {
     if let Ok(Line::Event { def, .. }) = read(alloc, line.as_bytes(), events, false) {
@@ -332,6 +380,11 @@ fn limits() -> &'static [Limit] {
 #[test]
 fn good_lines_are_read(rt: HostRuntime) {
     assert_eq!(rt; differs_at(rt.alloc(), GOOD, &[], false), 0);
+}
+
+#[test]
+fn a_show_and_an_end_are_read_by_their_numbers_alone(rt: HostRuntime) {
+    assert_eq!(rt; short_differs_at(rt.alloc()), 0);
 }
 
 #[test]

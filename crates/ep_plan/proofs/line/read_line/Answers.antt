@@ -1,8 +1,8 @@
-use Rattle.std.proofs.Common.{◌≡◌, ℕ, List, Some, sym, ap, ◌∙◌, subst}
+use Rattle.std.proofs.Common.{◌≡◌, Some, sym, ap, ◌∙◌}
 use Rattle.std.proofs.lemmas.Result.{err_from_is_err_and}
-use Rattle.ep_plan.specs.Lines.{bad_at, Means, Spells}
+use Rattle.ep_plan.specs.Lines.{bad_at}
 use Rattle.ep_plan.proofs.CursorWords.{through}
-use Rattle.ep_plan.proofs.WholeLines.{long, blank-line, verb-first}
+use Rattle.ep_plan.proofs.WholeLines.{long, blank-line, verb-first, verb-line}
 use Rattle.ep_plan.specs.declared.line.LineKind.TheVariants as kind
 use Rattle.ep_plan.proofs.line.read_line.Goals as goal
 
@@ -25,14 +25,6 @@ returns-in_err-read_words-in-Some-clause-bad c = λ at column why e.
     )
 
 pub returns-in_ok-read_words-in-Some-clause-read : goal.returns-in_ok-read_words-in-Some-clause-read
-unfolding Means
 returns-in_ok-read_words-in-Some-clause-read c =
-    let took = c.in-Some.ensures in
     let read = c.in_ok-read_words-in-Some.ensures in
-    let cut = sym c.new-words.ensures.words ∙ took.words in
-    let spells : List (List ℕ) → Type 0 = λ words. Spells words c.in_ok-read_words-in-Some.field-0 in
-    record {
-      good = verb-first c.args.events.now c.args.stepped c.args.text.now c.new-words.result c.verb.new.self c.in-Some.verb c.if-text-gt-LINE_BYTES.false (sym c.if-is_blank.ensures) c.new-words.ensures.words c.new-words.ensures.column c.new-words.ensures.past took
-          ∙ read.good;
-      meaning = (sym c.if-is_blank.ensures, subst spells (sym cut) read.read);
-    }
+    verb-line c.args.events.now c.args.stepped c.args.text.now c.new-words.result c.verb.new.self c.in-Some.verb c.in_ok-read_words-in-Some.field-0 c.if-text-gt-LINE_BYTES.false (sym c.if-is_blank.ensures) c.new-words.ensures.words c.new-words.ensures.column c.new-words.ensures.past c.in-Some.ensures read.good read.read

@@ -1,26 +1,15 @@
-use Rattle.std.proofs.Common.{◌-◌, ◌^◌, rules, refl, ap, arith}
-use Rattle.std.proofs.lemmas.Result.{err_from_is_err_and}
-use Rattle.ep_plan.specs.declared.line.LineKind.TheVariants as kind
-use Rattle.ep_plan.specs.Lines.{Number, number_of, unless}
-use Rattle.ep_plan.proofs.Numerals.{number_in-le}
-use Rattle.ep_plan.proofs.CursorWords.{through, took-part}
+use Rattle.std.proofs.Common.{IfOk, subst}
+use Rattle.ep_plan.specs.declared.cursor.Cursor.{Cursor}
+use Rattle.ep_plan.specs.Lines.{Number, number_of}
+use Rattle.ep_plan.specs.Cursor.{TakesPart, IsBad, IfBad}
 use Rattle.ep_plan.proofs.cursor.Cursor.number.Goals as goal
 
-pub returns-in-Some-clause-took : goal.returns-in-Some-clause-took
-returns-in-Some-clause-took c =
-    let found = c.in-Some.ensures.word in
-    (_, took-part Number _ _ _ (c.pass.ensures found.0) (ap (λ o. unless o kind.Number) found.1), found.1)
+pub returns-in-None-clause-took : goal.returns-in-None-clause-took
+returns-in-None-clause-took c =
+    let Takes : Cursor → Type 0 = λ cursor. IfOk c.whole_number.result (TakesPart Number number_of cursor c.whole_number.new.self) in
+    subst Takes (c.short_number.ensures.none c.in-None.is) c.whole_number.ensures.took
 
-pub returns-in_err-number-clause-bad : goal.returns-in_err-number-clause-bad
-returns-in_err-number-clause-bad c = λ line column kind e.
-    c.in_err-number.ensures.bad Number number_of (record { fault = λ word. refl; value = λ word result gives. search rules }) line column kind
-    (through c.from_residual.result c.in_err-number.field-0.0 (err_from_is_err_and c.from_residual.result c.from_residual.ensures.1) line column kind e)
-
-pub overflow_cast-result : goal.overflow_cast-result
-overflow_cast-result c = omega (arith, c.in-Some.ensures.most)
-
-pub overflow_cast-result-2 : goal.overflow_cast-result-2
-overflow_cast-result-2 c =
-    let took = c.in_ok-number.ensures.took Number number_of (record { fault = λ word. refl; value = λ word result gives. search rules }) in
-    let most = number_in-le (2 ^ 32 - 1) took.0 c.in_ok-number.number took.2 in
-    omega arith
+pub returns-in-None-clause-bad : goal.returns-in-None-clause-bad
+returns-in-None-clause-bad c =
+    let Bad : Cursor → Type 0 = λ cursor. IfBad c.whole_number.result (IsBad Number cursor) in
+    subst Bad (c.short_number.ensures.none c.in-None.is) c.whole_number.ensures.bad

@@ -1,6 +1,6 @@
-use Rattle.std.proofs.Common.{rules, refl, ap}
+use Rattle.std.proofs.Common.{ap}
 use Rattle.ep_plan.specs.declared.line.LineKind.TheVariants as kind
-use Rattle.ep_plan.specs.Lines.{Stamp, stamp_of, unless}
+use Rattle.ep_plan.specs.Lines.{Stamp, unless}
 use Rattle.ep_plan.proofs.CursorWords.{took-part}
 use Rattle.ep_plan.proofs.cursor.Cursor.stamp.Goals as goal
 
@@ -8,6 +8,3 @@ pub returns-in-Some-clause-took : goal.returns-in-Some-clause-took
 returns-in-Some-clause-took c =
     let found = c.in-Some.ensures.word in
     (_, took-part Stamp _ _ _ (c.pass.ensures found.0) (ap (λ o. unless o kind.Number) found.1), found.1)
-
-pub returns-clause-bad : goal.returns-clause-bad
-returns-clause-bad c = c.part.ensures.bad Stamp stamp_of (record { fault = λ word. refl; value = λ word result gives. search rules })
