@@ -14,6 +14,7 @@ pub mod Ties
 pub mod TiedComings
 pub mod Opened
 mod Near
+mod Falling
 pub mod Turning
 pub mod Telling
 mod Ready

@@ -29,6 +29,7 @@ use Rattle.ep_tables.specs.Tables.{TablesFollow, PresentFollows, IsGone, row_of,
 use Rattle.ep_tables.specs.Can.{HasRow, HasPlace, IsQuiet, CanOpenOn, CanShowTo, IsOn, HasEmptyHand, IsNowhere, CanMake}
 use Rattle.ep_tables.proofs.Pasts.{open_there}
 use Rattle.ep_tables.proofs.Found.{All-at, RowFound, row_found, no_row, no_place, there_found, in_write_found, SessionFound, on_found, owed_found}
+use Rattle.ep_tables.proofs.Judging.{not_next}
 use Rattle.ep_tables.proofs.Slots.{has_due_found}
 
 -- ---- threads
@@ -137,7 +138,8 @@ can_make events past tables (step.Accept s config) counted h none =
     let o = none_there (objections events past (step.Accept s config)) none in
     let few = leb-false 64 (length (present past)) o.1.1.0 in
     let count = ap length h.present_are ∙ length-map tables.present.items number_of in
-    (not-false _ o.1.0, omega (arith, few, count))
+    let above = leb-false s tables.last_session (not_next 0 s tables.last_session _ (h.last_session s) (omega arith) ∙ o.0) in
+    (above, not-false _ o.1.0, omega (arith, few, count))
 can_make events past tables (step.Enter t) counted h none = tt
 can_make events past tables (step.Leave t) counted h none =
     let o = none_there (objections events past (step.Leave t)) none in

@@ -66,7 +66,8 @@ IsNowhere tables present = (r : ℕ) → IsRow THREADS r → slot_of ((told_of t
 
 -- What a step that can be made finds in the tables.
 abbrev pub CanMake : Step → Tables → Type 0
-CanMake (step.Accept s config) tables = IsTrue (is_valid_config config) × (length tables.present.items < SESSIONS)
+CanMake (step.Accept s config) tables =
+    (tables.last_session < s) × IsTrue (is_valid_config config) × (length tables.present.items < SESSIONS)
 CanMake (step.Enter t) tables = Unit {0}
 CanMake (step.Leave t) tables = HasRow tables t IsQuiet
 CanMake (step.Open s t) tables = HasPlace tables s (λ present. HasRow tables t (CanOpenOn t present))

@@ -1,3 +1,4 @@
+pub mod Falling
 pub mod Tables
 pub mod Can
 pub mod Judged

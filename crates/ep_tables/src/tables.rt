@@ -1,5 +1,5 @@
 //! The tables of sessions, threads and rows.
-ghost use Rattle.std.specs.Prelude.{◌≡◌, ◌<◌, ◌%◌, ℕ, Some, is_none, is_some, IfSome, slice_get, vec_len};
+ghost use Rattle.std.specs.Prelude.{◌≡◌, ◌+◌, ◌<◌, ◌%◌, ℕ, Some, is_none, is_some, IfSome, IsTrue, map, slice_get, vec_len};
 ghost use Rattle.std.specs.BTreeMap.{get};
 ghost use Rattle.std.specs.Ordering.{nat_cmp};
 ghost use Rattle.ep_defs.specs.Definitions.{definition_at};
@@ -7,6 +7,7 @@ ghost use Rattle.ep_defs.specs.declared.limits.TheConstants.{SESSIONS as SLOTS, 
 ghost use Rattle.ep_model.specs.History.{is_there};
 ghost use Rattle.ep_stream.specs.Rows.{IsRow};
 ghost use Rattle.ep_tables.specs.declared.judged.OnRow.{OnRow};
+ghost use Rattle.ep_tables.specs.Falling.{falls};
 
 mod judge;
 mod sessions;
@@ -59,6 +60,7 @@ pub struct Tables {
     ghost places: { vec_len near ≡ ROWS },
     ghost known: { (place : ℕ) (on : OnRow) → slice_get near.items place ≡ Some on
         → (on.thread % ROWS ≡ place) × (get nat_cmp threads on.thread ≡ Some on.row) },
+    ghost falling: { IsTrue (falls (last_session + 1) (map (λ present. present.number) present.items)) },
 }
 
 impl Tables {
@@ -113,6 +115,19 @@ impl Tables {
     /// The place of a session among those that are present.
     #[inline(always)]
     pub fn place_of(&self, session: u32) -> Option<usize>
+        ensures { result ≡ place_of self.now session }
+    {
+        // Mostly as many sessions stand before it as came after it.
+        let likely = self.last_session.wrapping_sub(session) as usize;
+        match self.present.get(likely) {
+            Some(present) if present.number == session => Some(likely),
+            _ => self.place_in_turn(session),
+        }
+    }
+
+    // The same, where each is looked at in turn.
+    #[inline(never)]
+    fn place_in_turn(&self, session: u32) -> Option<usize>
         ensures { result ≡ place_of self.now session }
     {
         self.present

@@ -1,7 +1,11 @@
-use Rattle.std.proofs.Common.{◌≡◌, ap, sym, ◌∙◌, arith, ◌<◌, length, ℕ, refl}
+use Rattle.std.proofs.Common.{◌≡◌, ap, sym, ◌∙◌, arith, ◌+◌, ◌<◌, List, ◌∷◌, length, map, ℕ, refl}
 use Rattle.ep_table.specs.Sessions.{accepted_by, held_count}
 use Rattle.ep_table.specs.declared.table.Accepted.TheVariants.{Seat as SeatAt}
 use Rattle.ep_stream.specs.Session.{new_rest}
+use Rattle.ep_tables.specs.Falling.{falls}
+use Rattle.ep_tables.specs.Tables.{number_of}
+use Rattle.ep_tables.specs.declared.tables.Present.{Present}
+use Rattle.ep_tables.proofs.Falling.{falls_before}
 use Rattle.ep_tables.proofs.TiedComings.{comer_tied, accept_tied}
 use Rattle.ep_tables.proofs.Seats.{seated, free_slot}
 use Rattle.ep_tables.proofs.tables.Tables.accept.Goals as goal
@@ -10,7 +14,7 @@ pub unreachable-requires : goal.unreachable-requires
 unreachable-requires c =
     let full : held_count c.args.self.now.table ≡ 64 = c.accept.ensures.full.0 c.in_default.is in
     let count : held_count c.args.self.now.table ≡ length c.args.self.now.present.items = c.requires.tied.count in
-    let few : length c.args.self.now.present.items < 64 = c.requires.ready.can.1 in
+    let few : length c.args.self.now.present.items < 64 = c.requires.ready.can.2 in
     omega (arith, full, count, few)
 
 pub begin_session-requires : goal.begin_session-requires
@@ -63,3 +67,17 @@ returns-clause-tied c =
     (comer_tied old.rows c.seat.new.self now _ _ begun.rest refl refl begun.hands begun.count begun.sound begun.len
     (λ r. c.requires.tied.off r now.slot (sym (c.requires.tied.held now.slot) ∙ free_slot old.table now.slot c.in-Seat.id seat)) seated.seated.slots seated.cleared)
     c.requires.tied
+
+pub invariant_of-self-2 : goal.invariant_of-self-2
+invariant_of-self-2 c =
+    let old = c.args.self.now in
+    let session = c.args.session in
+    let numbers = map number_of old.present.items in
+    record {
+      given = old.given;
+      places = old.places;
+      known = old.known;
+      falling = ap (λ (ps : List Present). falls (session + 1) (map number_of ps)) c.in_default-insert.ensures.items
+          ∙ ap (λ (n : ℕ). falls (session + 1) (n ∷ numbers)) c.in_ok-present.ensures.begun.number
+          ∙ falls_before old.last_session session numbers c.requires.ready.can.0 old.falling;
+    }

@@ -1,4 +1,4 @@
-use Rattle.std.proofs.Common.{true, List, refl, ap, subst}
+use Rattle.std.proofs.Common.{true, List, refl, ap, subst, ◌+◌}
 use Rattle.ep_defs.specs.declared.event.EventDef.{EventDef}
 use Rattle.ep_chunk.specs.Record.{Record}
 use Rattle.pt_io.specs.Memory.{SinkState}
@@ -10,6 +10,8 @@ use Rattle.ep_tables.specs.Made.{ClosesOn, IsSpent}
 use Rattle.ep_tables.proofs.Telling.{ok_with, from_ok, tells_in, spent_in}
 use Rattle.ep_tables.proofs.Ready.{closing}
 use Rattle.ep_tables.proofs.Turning.{turn_made, session_tied, closed_now}
+use Rattle.ep_tables.specs.Tables.{number_of}
+use Rattle.ep_tables.proofs.Falling.{falls_set}
 use Rattle.ep_tables.proofs.tables.Tables.close.Goals as goal
 
 pub returns-clause-made : goal.returns-clause-made
@@ -85,3 +87,8 @@ detach-requires-clause-row c = (closing c.args.self.now c.args.both c.index_mut.
 
 pub detach-requires-clause-empty : goal.detach-requires-clause-empty
 detach-requires-clause-empty c = (closing c.args.self.now c.args.both c.index_mut.result.now c.requires.ready c.requires.tied c.index_mut.ensures.value).empty
+
+pub invariant_of-self-clause-falling : goal.invariant_of-self-clause-falling
+invariant_of-self-clause-falling c =
+    let old = c.args.self.now in
+    falls_set number_of (old.last_session + 1) old.present.items c.args.both.of.place c.index_mut.result.now _ c.index_mut.ensures.value refl old.falling

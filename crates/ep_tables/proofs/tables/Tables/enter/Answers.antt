@@ -21,6 +21,7 @@ invariant_of-self c =
       known = λ place on at.
           let was = old.known place on at in
           (was.0, ap (lookup (is_at (nat_cmp on.thread))) same ∙ was.1);
+      falling = old.falling;
     }
 
 pub invariant_of-self-2-clause-known : goal.invariant_of-self-2-clause-known

@@ -1,4 +1,4 @@
-use Rattle.std.proofs.Common.{true, List, ap, sym, ◌∙◌, refl, subst, ℕ}
+use Rattle.std.proofs.Common.{true, List, ap, sym, ◌∙◌, refl, subst, ℕ, ◌+◌, map}
 use Rattle.std.specs.Prelude.{◌==◌, option_map}
 use Rattle.ep_defs.specs.declared.event.EventDef.{EventDef}
 use Rattle.pt_io.specs.Memory.{SinkState}
@@ -13,6 +13,9 @@ use Rattle.ep_tables.specs.Tied.{IsTied}
 use Rattle.ep_tables.proofs.PresentLists.{has_own}
 use Rattle.ep_tables.proofs.Places.{found_there, holds_there}
 use Rattle.ep_tables.proofs.TiedComings.{nowhere_open, finish_tied}
+use Rattle.ep_tables.specs.Tables.{number_of}
+use Rattle.ep_tables.specs.Falling.{falls}
+use Rattle.ep_tables.proofs.Falling.{falls_without}
 use Rattle.ep_tables.proofs.tables.Tables.finish.Goals as goal
 
 pub unseat-requires-clause-off : goal.unseat-requires-clause-off
@@ -78,3 +81,9 @@ returns-clause-ended c =
       marks = c.finish.ensures.marks;
       ended = subst (λ (es : List EventDef). Ended (λ (s : SinkState). true) (λ (s : SinkState). s.taken) (λ (s : SinkState). s.faults) es c.args.stamp ProgramEnd c.remove-present.result.session c.finish.result.fate c.finish.result.sink) c.as_slice.ensures.value c.finish.ensures.ended;
     }
+
+pub invariant_of-self-clause-falling : goal.invariant_of-self-clause-falling
+invariant_of-self-clause-falling c =
+    let old = c.args.self.now in
+    ap (λ (ps : List Present). falls (old.last_session + 1) (map number_of ps)) c.remove-present.ensures.items
+    ∙ falls_without number_of (old.last_session + 1) old.present.items c.args.of.place old.falling

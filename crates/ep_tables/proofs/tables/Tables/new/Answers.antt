@@ -1,12 +1,14 @@
-use Rattle.std.proofs.Common.{ap, sym, ◌∙◌, subst, length}
+use Rattle.std.proofs.Common.{ap, sym, ◌∙◌, subst, length, List, map}
 use Rattle.std.specs.List.{AllByRecursion}
 use Rattle.std.specs.BTreeMap.{get}
 use Rattle.std.specs.Ordering.{nat_cmp}
 use Rattle.ep_table.specs.Sessions.{is_held, held_count}
-use Rattle.ep_tables.specs.Tables.{has_slot}
+use Rattle.ep_tables.specs.Tables.{has_slot, number_of}
 use Rattle.ep_tables.specs.Tied.{IsTied, HaveOwnSlots}
 use Rattle.ep_tables.proofs.Near.{first_near}
 use Rattle.ep_tables.proofs.TiedComings.{none_held}
+use Rattle.ep_tables.specs.Falling.{falls}
+use Rattle.ep_tables.specs.declared.tables.Present.{Present}
 use Rattle.ep_tables.proofs.tables.Tables.new.Goals as goal
 
 pub returns-clause-tied : goal.returns-clause-tied
@@ -29,3 +31,6 @@ invariant_of-result-clause-places c = c.in_ok-first_near.field-0.ok.0 ∙ c.in_o
 pub invariant_of-result-clause-known : goal.invariant_of-result-clause-known
 invariant_of-result-clause-known c =
     first_near (get nat_cmp c.in_ok-threads.threads) c.in_ok-first_near.field-0.items c.in_ok-first_near.ensures.known c.in_ok-threads.ensures
+
+pub invariant_of-result-clause-falling : goal.invariant_of-result-clause-falling
+invariant_of-result-clause-falling c = ap (λ (ps : List Present). falls 1 (map number_of ps)) c.new-2.ensures.items

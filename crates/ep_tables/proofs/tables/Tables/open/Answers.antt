@@ -11,6 +11,8 @@ use Rattle.ep_tables.specs.Made.{OpensOn}
 use Rattle.ep_tables.proofs.Opened.{open_now, opened_more}
 use Rattle.ep_tables.proofs.Ready.{opening, hand_off, few_opened, never_opened}
 use Rattle.ep_tables.proofs.Turning.{turn_made, session_tied, own_thread}
+use Rattle.ep_tables.specs.Tables.{number_of}
+use Rattle.ep_tables.proofs.Falling.{falls_set}
 use Rattle.ep_tables.proofs.tables.Tables.open.Goals as goal
 
 pub returns-clause-made : goal.returns-clause-made
@@ -77,3 +79,18 @@ attach-requires-clause-new c hand tested =
     let at = opening old both was c.requires.ready c.requires.tied c.index_mut-present.ensures.value in
     never_opened old.rows was both.on.thread both.on.row hand.thread at.tied at.can
     (tested ∙ own_thread (told_of old.rows) both.on.thread both.on.row (get nat_cmp old.threads both.on.thread) c.requires.ready.there.on.own)
+
+pub invariant_of-self : goal.invariant_of-self
+invariant_of-self c =
+    let old = c.args.self.now in
+    record {
+      given = old.given;
+      places = old.places;
+      known = old.known;
+      falling = falls_set number_of (old.last_session + 1) old.present.items c.args.both.of.place c.index_mut-present.result.now _ c.index_mut-present.ensures.value refl old.falling;
+    }
+
+pub invariant_of-self-2-clause-falling : goal.invariant_of-self-2-clause-falling
+invariant_of-self-2-clause-falling c =
+    let old = c.args.self.now in
+    falls_set number_of (old.last_session + 1) old.present.items c.args.both.of.place c.index_mut-present.result.now _ c.index_mut-present.ensures.value refl old.falling

@@ -1,8 +1,10 @@
-use Rattle.std.proofs.Common.{refl, ap}
+use Rattle.std.proofs.Common.{refl, ap, ◌+◌}
 use Rattle.ep_stream.specs.Session.{Rest}
 use Rattle.ep_tables.specs.Made.{Points}
 use Rattle.ep_tables.proofs.Telling.{ok_with, from_ok, tells_in, spent_in}
 use Rattle.ep_tables.proofs.Turning.{stands_at, turn_made, session_tied, kept_now, rows_with, keeps_same}
+use Rattle.ep_tables.specs.Tables.{number_of}
+use Rattle.ep_tables.proofs.Falling.{falls_set}
 use Rattle.ep_tables.proofs.tables.Tables.point.Goals as goal
 
 pub returns-clause-made : goal.returns-clause-made
@@ -47,3 +49,8 @@ returns-clause-long c is =
       stands = stands_at old c.args.of.session c.args.of.place was c.requires.ready.there c.index_mut.ensures.value;
       spent = spent_in old.events.items _ was (record was { session = c.point.new.self }) c.point.result is (c.point.ensures.writes old.events.items) c.point.ensures.faulty;
     }
+
+pub invariant_of-self-clause-falling : goal.invariant_of-self-clause-falling
+invariant_of-self-clause-falling c =
+    let old = c.args.self.now in
+    falls_set number_of (old.last_session + 1) old.present.items c.args.of.place c.index_mut.result.now _ c.index_mut.ensures.value refl old.falling

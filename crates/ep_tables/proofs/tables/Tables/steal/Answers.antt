@@ -1,4 +1,4 @@
-use Rattle.std.proofs.Common.{◌≡◌, true, List, Ok, Err, refl, ap, ◌∙◌, subst}
+use Rattle.std.proofs.Common.{◌≡◌, true, List, Ok, Err, refl, ap, ◌∙◌, subst, ◌+◌}
 use Rattle.ep_defs.specs.declared.event.EventDef.{EventDef}
 use Rattle.ep_chunk.specs.Record.{Record}
 use Rattle.pt_io.specs.Memory.{SinkState}
@@ -14,6 +14,8 @@ use Rattle.ep_tables.specs.Made.{StealsOn, IsSpent}
 use Rattle.ep_tables.proofs.Telling.{tells_in, spent_in}
 use Rattle.ep_tables.proofs.Ready.{stealing}
 use Rattle.ep_tables.proofs.Turning.{turn_made, session_tied, hand_now}
+use Rattle.ep_tables.specs.Tables.{number_of}
+use Rattle.ep_tables.proofs.Falling.{falls_set}
 use Rattle.ep_tables.proofs.tables.Tables.steal.Goals as goal
 
 pub returns-in_err-steal-clause-long : goal.returns-in_err-steal-clause-long
@@ -84,3 +86,8 @@ steal-requires-clause-row c = (stealing c.args.self.now c.args.both c.index_mut.
 
 pub steal-requires-clause-empty : goal.steal-requires-clause-empty
 steal-requires-clause-empty c = (stealing c.args.self.now c.args.both c.index_mut.result.now c.requires.ready c.requires.tied c.index_mut.ensures.value).empty
+
+pub invariant_of-self-clause-falling : goal.invariant_of-self-clause-falling
+invariant_of-self-clause-falling c =
+    let old = c.args.self.now in
+    falls_set number_of (old.last_session + 1) old.present.items c.args.both.of.place c.index_mut.result.now _ c.index_mut.ensures.value refl old.falling
