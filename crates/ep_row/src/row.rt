@@ -238,7 +238,7 @@ impl Row {
     {
         let shown = buffer.show(pool, self.stamp, write);
         self.due = with_bit(self.due, slot, false);
-        self.slots[slot as usize] = raised(self.slots[slot as usize]);
+        raise(&mut self.slots[slot as usize]);
         shown
     }
 
@@ -361,17 +361,13 @@ impl Row {
     }
 }
 
-// A slot with one number more.
-fn raised(slot: Option<Opening>) -> Option<Opening>
-    requires { IfSome slot (λ opening. opening.shown < WRITES) }
-    ensures { result ≡ shown_once slot }
+// Counts one number more in a slot.
+fn raise(slot: &mut Option<Opening>)
+    requires { IfSome slot.old (λ opening. opening.shown < WRITES) }
+    ensures { slot.new ≡ shown_once slot.old }
 {
-    match slot {
-        Some(opening) => Some(Opening {
-            shown: opening.shown + 1,
-            ..opening
-        }),
-        None => None,
+    if let Some(opening) = slot {
+        opening.shown += 1;
     }
 }
 

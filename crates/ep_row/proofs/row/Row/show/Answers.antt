@@ -24,16 +24,16 @@ returns-clause-rest g c events configs writes count rest =
     let now : Opening = record opening { shown = opening.shown + 1 } in
     let small : slot < length row.slots = omega (arith, c.requires.within, c.self.invariant) in
     let on : slot_of row slot ≡ Some opening = ap (λ (r : RowState). slot_of r slot) view ∙ c.requires.open.0 in
-    let found : c.index.result.now ≡ Some opening =
-    c.index.ensures ∙ get_or_default row.slots slot c.index.result.now None small ∙ on
+    let found : c.index_mut.result.now ≡ Some opening =
+    c.index_mut.ensures.value ∙ get_or_default row.slots slot c.index_mut.result.now None small ∙ on
     in
-    let raised : c.raised.result ≡ Some now = c.raised.ensures ∙ ap shown_once found in
+    let raised : c.raise.new.slot ≡ Some now = c.raise.ensures ∙ ap shown_once found in
     show-rests events configs writes row slot c.with_bit-self-inside.result _ opening now c.requires.within
     (subst (RowAtRest events configs writes) (sym view) rest)
     (ap (λ (r : RowState). bit_at r.due slot) view ∙ c.requires.due)
     on refl refl c.with_bit-self-inside.ensures
     (ap (λ (x : Option Opening). slice_set row.slots slot x) raised)
-    (get_or-set_same row.slots slot c.raised.result None small ∙ raised)
+    (get_or-set_same row.slots slot c.raise.new.slot None small ∙ raised)
 
 pub returns-clause-numbered : goal.returns-clause-numbered
 returns-clause-numbered g c events configs writes more rest last numbered =
