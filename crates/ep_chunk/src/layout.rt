@@ -88,6 +88,38 @@ fn put_frames(bytes: &mut Vec<u8>, frames: &[u64])
     }
 }
 
+// Appends the first bytes in one piece, if there are as many, and answers the others.
+#[inline(always)]
+fn put_piece<'a, const N: usize>(bytes: &mut Vec<u8>, payload: &'a [u8]) -> &'a [u8]
+    requires piece { N ≤ CHUNK_LEN }
+    requires room { vec_len bytes.old + length payload.now ≤ vec_capacity bytes.old }
+    ensures items { bytes.new.items ++ result.now ≡ bytes.old.items ++ payload.now }
+    ensures left { vec_len bytes.new + length result.now ≤ vec_capacity bytes.new }
+    ensures room { vec_capacity bytes.old ≤ vec_capacity bytes.new }
+{
+    let Some((piece, rest)) = payload.split_first_chunk::<N>() else {
+        return payload;
+    };
+    let piece = *piece;
+    put(bytes, &piece);
+    rest
+}
+
+// Appends a payload, for which there is room. Most have a few bytes, which go in pieces of eight and of four, without a
+// call.
+fn put_payload(bytes: &mut Vec<u8>, payload: &[u8])
+    requires { vec_len bytes.old + length payload.now ≤ vec_capacity bytes.old }
+    ensures items { bytes.new.items ≡ bytes.old.items ++ payload.now }
+    ensures room { vec_capacity bytes.old ≤ vec_capacity bytes.new }
+{
+    let rest = put_piece::<8>(bytes, payload);
+    let rest = put_piece::<8>(bytes, rest);
+    let rest = put_piece::<4>(bytes, rest);
+    if !rest.is_empty() {
+        put(bytes, rest);
+    }
+}
+
 // Appends the bytes of a record of this size, for which there is room.
 pub(crate) fn put_record(bytes: &mut Vec<u8>, rec: &RecIn, size: usize)
     requires size { size ≡ size_of (record_of rec.now) }
@@ -99,7 +131,7 @@ pub(crate) fn put_record(bytes: &mut Vec<u8>, rec: &RecIn, size: usize)
 {
     put(bytes, &head_of(rec, size));
     put_frames(bytes, rec.frames);
-    put(bytes, rec.payload);
+    put_payload(bytes, rec.payload);
 }
 
 // The record with which these bytes of a chunk begin. They begin at this place.
