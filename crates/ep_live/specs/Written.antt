@@ -57,10 +57,3 @@ pub record IsWrittenBehind (stamp : ℕ) (write : Write) (value : Option Agreed)
 pub record IsWrittenFrom (stamp : ℕ) (write : Write) (row : RowState) (written : Written) : Type 0 where
   pub new_row : RowState
   pub is : IsWritten stamp write row new_row written
-
--- On the row of the thread whose half told this, which has gone back behind its lock, no session was open that gets the
--- event.
-pub record IsPassedBehind (event : ℕ) (value : Option Agreed) : Type 0 where
-  pub row : RowState
-  pub stood : stand_in value ≡ Some (record { thread = row.thread; index = row.index })
-  pub none : mask_of row event ≡ 0

@@ -10,7 +10,7 @@ ghost use Rattle.ep_guarded.specs.declared.agreed.Agreed.TheVariants as agreed;
 ghost use Rattle.ep_guarded.specs.Tied.{stand_in, left_in, hand_in, next_stand, thread_of, buffer_number, buffer_place, hand_place, ChangesOpenings, IsNextOf};
 ghost use Rattle.ep_guarded.specs.Sessions.{Opens, TakesWith, Closes, IsOpenable, IsClosable};
 ghost use Rattle.ep_live.specs.Live.{with_one, IsNextWrite};
-ghost use Rattle.ep_live.specs.Written.{AnswersBehind, AreAnswered, IsPassedBehind, IsWritten, IsWrittenBehind};
+ghost use Rattle.ep_live.specs.Written.{AnswersBehind, AreAnswered, IsWritten, IsWrittenBehind};
 ghost use Rattle.ep_live.specs.Made.{AreStands, AreHandTies};
 
 use crate::limits::ROW_TIES;
@@ -196,7 +196,6 @@ impl<'a, P: Program> Live<'a, P> {
         requires next { ForSome (stand_in half.old.value) (λ s. IsNextOf event (P.writes s.thread) s.index) }
         requires some { 0 < event }
         requires event { event ≤ length P.events }
-        ensures passed { IfNone result (IsPassedBehind event half.old.value) }
         ensures stands { IfNone result (stand_in half.new.value ≡ option_map with_one (stand_in half.old.value)) }
         ensures turn { IfSome result (λ turn. turn.number ≡ number) }
         ensures wanted { IfSome result (λ turn. mask_of turn.row event ≢ 0) }

@@ -39,6 +39,7 @@ impl<'t, 'a, P: Program> Turn<'t, 'a, P> {
     /// row goes back. The thread passes the gate between the begin and the first show. It waits for each buffer that is due
     /// and for the pools of their sessions, and takes no memory. It answers the write's number, and which sessions it was
     /// shown to and which of them refused it.
+    #[inline(always)]
     pub fn write<R: Wait, G: Gate>(
         self,
         rt: &R,
