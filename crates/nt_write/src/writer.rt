@@ -135,10 +135,52 @@ impl<S: Sink> TraceWriter<S> {
         if let Some(fault) = self.fault {
             return Err(fault);
         }
+        self.sound_event(alloc, def, out)
+    }
+
+    /// Writes one event as [`TraceWriter::event`] does, where the writer has not failed.
+    #[inline(always)]
+    pub fn sound_event(
+        &mut self,
+        alloc: Global,
+        def: &EventDef,
+        out: &EventOut,
+    ) -> Result<(), Fault>
+        requires sound { fault_of self.old ≡ None }
+        requires valid { IsTrue (is_valid_event def.now) }
+        requires event { out.now.event ≤ LAST_EVENT }
+        requires number { 0 < out.now.number }
+        requires frames { length out.now.frames.now ≤ STACK_BYTES }
+        requires whole { length out.now.frames.now % FRAME_BYTES ≡ 0 }
+        requires payload { length out.now.payload.now ≤ PAYLOAD_BYTES }
+
+        ensures ok { IfWriting S.Sink self.old (λ before defs info entries.
+            AreDistinct defs → defs out.now.event ≡ Some def.now
+            → OnOk result (IsWriting S.tells_taken S.taken before defs info
+            (entries ++ Event (entry_of def.now out.now) ∷ []) self.new)) }
+        ensures part { IfWriting S.Sink self.old (λ before defs info entries.
+            AreDistinct defs → defs out.now.event ≡ Some def.now
+            → OnErr result (TookPart S.tells_taken S.taken before info
+            (entries ++ Event (entry_of def.now out.now) ∷ []) (sink_of self.new))) }
+        ensures fails { IfErr result (λ fault. fault_of self.new ≡ Some fault) }
+        ensures sound { OnOk result (fault_of self.new ≡ None) }
+        ensures write_fault { result ≡ Err WriteFault
+            → HasRisen (S.write_faults (sink_of self.old)) (S.write_faults (sink_of self.new)) }
+        ensures too_long { IfWriting S.Sink self.old (λ before defs info entries.
+            (result ≡ Err TooLong) ↔ ((0 < length out.now.frames.now) × (framed entries ≡ FRAMED_EVENTS))) }
+        ensures wrote { result ≢ Err WriteFault
+            → S.write_faults (sink_of self.new) ≡ S.write_faults (sink_of self.old) }
+        ensures later { S.write_faults (sink_of self.old) ≤ S.write_faults (sink_of self.new) }
+        ensures other_side { S.read_side (sink_of self.new) ≡ S.read_side (sink_of self.old) }
+    {
         note_ranges(def, out);
-        let result = self.take_event(alloc, def, out);
-        self.fault = result.err();
-        result
+        match self.take_event(alloc, def, out) {
+            Ok(()) => Ok(()),
+            Err(fault) => {
+                self.fault = Some(fault);
+                Err(fault)
+            }
+        }
     }
 
     /// Flushes, writes how far each thread had come, and forgets the stacks. It needs at most 1,000,001 threads.
@@ -263,6 +305,7 @@ impl<S: Sink> TraceWriter<S> {
             → HasRisen (S.write_faults (sink_of self.old)) (S.write_faults (sink_of self.new)) }
         ensures later { S.write_faults (sink_of self.old) ≤ S.write_faults (sink_of self.new) }
         ensures other_side { S.read_side (sink_of self.new) ≡ S.read_side (sink_of self.old) }
+        ensures fault { fault_of self.new ≡ fault_of self.old }
     {
         if !out.frames.is_empty() && self.pending.stacks.are_spent() {
             return Err(Fault::TooLong);
@@ -285,18 +328,22 @@ impl<S: Sink> TraceWriter<S> {
         ensures part { AddsPart S.tells_taken S.taken (λ start defs layout. IsAt S.tells_taken S.taken start defs layout self.old) def.now out.now self.new result }
         ensures counted { IsCounted S.write_faults (sink_of self.old) (sink_of self.new) result }
         ensures other_side { S.read_side (sink_of self.new) ≡ S.read_side (sink_of self.old) }
+        ensures fault { fault_of self.new ≡ fault_of self.old }
     {
-        let stack = self.pending.stacks.id_of(alloc, out.frames)?;
         let id = self.ids.get(out.event);
+        if id != 0 && out.frames.is_empty() {
+            return self.add_known(alloc, id, 0, out);
+        }
+        let stack = self.pending.stacks.id_of(alloc, out.frames)?;
         if id != 0 && !stack.is_new {
             return self.add_known(alloc, id, stack.id, out);
         }
-        // A copy, so that the event is put together in memory on this way alone.
-        let out = *out;
-        self.add_new(alloc, def, &stack, &out)
+        self.add_copied(alloc, def, &stack, out)
     }
 
-    // Makes room, and adds an event whose definition and whose stack have these ids.
+    // Makes room, and adds an event whose definition and whose stack have these ids. In line at both places, as it is
+    // nearly all that most events need.
+    #[inline(always)]
     fn add_known(&mut self, alloc: Global, id: u32, stack: u32, out: &EventOut) -> Result<(), Fault>
         requires given { (0 < id) × (id ≡ id_at (ids_of self.old) out.now.event) }
         requires payload { length out.now.payload.now ≤ PAYLOAD_BYTES }
@@ -306,6 +353,7 @@ impl<S: Sink> TraceWriter<S> {
         ensures framed { OnOk result ((pending_of self.new).stacks.framed ≡ (pending_of self.old).stacks.framed) }
         ensures counted { IsCounted S.write_faults (sink_of self.old) (sink_of self.new) result }
         ensures other_side { S.read_side (sink_of self.new) ≡ S.read_side (sink_of self.old) }
+        ensures fault { fault_of self.new ≡ fault_of self.old }
     {
         let arrival = Arrival {
             payload: out.payload.len(),
@@ -316,6 +364,34 @@ impl<S: Sink> TraceWriter<S> {
         self.pending
             .add_event(&event_head(id, stack, out), out.payload)?;
         Ok(())
+    }
+
+    // The same of an event of which the definition or the stack, which has its id, is new. It is copied, in a function of
+    // its own, so that the event is put together in memory, and memory is cleared for it, on this way alone.
+    #[inline(always)]
+    fn add_copied(
+        &mut self,
+        alloc: Global,
+        def: &EventDef,
+        stack: &Interned,
+        out: &EventOut,
+    ) -> Result<(), Fault>
+        requires valid { IsTrue (is_valid_event def.now) }
+        requires event { out.now.event ≤ LAST_EVENT }
+        requires frames { length out.now.frames.now ≤ STACK_BYTES }
+        requires payload { length out.now.payload.now ≤ PAYLOAD_BYTES }
+        requires next { IsTrue stack.now.is_new
+            → (pending_of self.old).stacks.first + length (pending_of self.old).stacks.fresh ≤ length (pending_of self.old).stacks.known }
+
+        ensures ok { Adds S.tells_taken S.taken (λ start defs layout. IsReady S.tells_taken S.taken start defs layout out.now.frames.now stack.now self.old) def.now out.now self.new result }
+        ensures framed { OnOk result ((pending_of self.new).stacks.framed ≡ (pending_of self.old).stacks.framed) }
+        ensures part { AddsPart S.tells_taken S.taken (λ start defs layout. IsReady S.tells_taken S.taken start defs layout out.now.frames.now stack.now self.old) def.now out.now self.new result }
+        ensures counted { IsCounted S.write_faults (sink_of self.old) (sink_of self.new) result }
+        ensures other_side { S.read_side (sink_of self.new) ≡ S.read_side (sink_of self.old) }
+        ensures fault { fault_of self.new ≡ fault_of self.old }
+    {
+        let out = *out;
+        self.add_new(alloc, def, stack, &out)
     }
 
     // Makes room, and adds an event of which the definition or the stack, which has its id, is new.
@@ -339,6 +415,7 @@ impl<S: Sink> TraceWriter<S> {
         ensures part { AddsPart S.tells_taken S.taken (λ start defs layout. IsReady S.tells_taken S.taken start defs layout out.now.frames.now stack.now self.old) def.now out.now self.new result }
         ensures counted { IsCounted S.write_faults (sink_of self.old) (sink_of self.new) result }
         ensures other_side { S.read_side (sink_of self.new) ≡ S.read_side (sink_of self.old) }
+        ensures fault { fault_of self.new ≡ fault_of self.old }
     {
         let meta = new_meta(alloc, &self.ids, def, out.event)?;
         let arrival = arrival_of(out, &meta, stack);
@@ -372,6 +449,7 @@ impl<S: Sink> TraceWriter<S> {
         ensures known { OnOk result ((pending_of self.new).stacks.known ≡ (pending_of self.old).stacks.known) }
         ensures framed { OnOk result ((pending_of self.new).stacks.framed ≡ (pending_of self.old).stacks.framed) }
         ensures sink { sink_of self.new ≡ sink_of self.old }
+        ensures fault { fault_of self.new ≡ fault_of self.old }
     {
         self.pending.keep_stack(alloc, stack, out.frames)?;
         let id = self.define(out.event, meta)?;
@@ -397,6 +475,7 @@ impl<S: Sink> TraceWriter<S> {
         ensures events { (pending_of self.new).events ≡ (pending_of self.old).events }
         ensures stacks { (pending_of self.new).stacks ≡ (pending_of self.old).stacks }
         ensures sink { sink_of self.new ≡ sink_of self.old }
+        ensures fault { fault_of self.new ≡ fault_of self.old }
     {
         match meta {
             None => Ok(self.ids.get(event)),

@@ -298,7 +298,7 @@ impl Recorder {
             frames,
             payload,
         };
-        match writer.event(alloc, def, &out) {
+        match writer.sound_event(alloc, def, &out) {
             Ok(()) => {
                 if !frames.is_empty() {
                     self.framed += 1;

@@ -11,9 +11,9 @@ returns-then-not-is_empty-clause-ok c info entries pulled h =
     let before = c.in-Open.writer in
     let found = sym c.in-Some.ensures.found in
     let framed : old.framed + 1 ≡ framed_with old.framed c.args.frames.now = grind arith in
-    has-taken info entries pulled def c.args.head.now c.args.frames.now c.args.payload.now c.in_ok-number.number old _ before c.event.new.self h found c.in_ok-number.ensures.number c.in-Open.is refl refl
+    has-taken info entries pulled def c.args.head.now c.args.frames.now c.args.payload.now c.in_ok-number.number old _ before c.sound_event.new.self h found c.in_ok-number.ensures.number c.in-Open.is refl refl
     (λ table distinct has. c.in-Ok.ensures.ok [] table info entries (by_writer info entries old.definitions old.stage before c.in-Open.is h.stands table distinct has) distinct (has c.args.head.now.event def found))
-    c.event.ensures.other_side c.in_ok-number.ensures.ascending c.in_ok-number.ensures.counted framed
+    c.sound_event.ensures.other_side c.in_ok-number.ensures.ascending c.in_ok-number.ensures.counted framed
 
 pub returns-else-not-is_empty-clause-ok : goal.returns-else-not-is_empty-clause-ok
 returns-else-not-is_empty-clause-ok c info entries pulled h =
@@ -22,9 +22,9 @@ returns-else-not-is_empty-clause-ok c info entries pulled h =
     let before = c.in-Open.writer in
     let found = sym c.in-Some.ensures.found in
     let framed : old.framed ≡ framed_with old.framed c.args.frames.now = grind arith in
-    has-taken info entries pulled def c.args.head.now c.args.frames.now c.args.payload.now c.in_ok-number.number old _ before c.event.new.self h found c.in_ok-number.ensures.number c.in-Open.is refl refl
+    has-taken info entries pulled def c.args.head.now c.args.frames.now c.args.payload.now c.in_ok-number.number old _ before c.sound_event.new.self h found c.in_ok-number.ensures.number c.in-Open.is refl refl
     (λ table distinct has. c.in-Ok.ensures.ok [] table info entries (by_writer info entries old.definitions old.stage before c.in-Open.is h.stands table distinct has) distinct (has c.args.head.now.event def found))
-    c.event.ensures.other_side c.in_ok-number.ensures.ascending c.in_ok-number.ensures.counted framed
+    c.sound_event.ensures.other_side c.in_ok-number.ensures.ascending c.in_ok-number.ensures.counted framed
 
 pub returns-in-Err-clause-cut : goal.returns-in-Err-clause-cut
 returns-in-Err-clause-cut c info entries pulled h is =
@@ -33,5 +33,5 @@ returns-in-Err-clause-cut c info entries pulled h is =
     let before = c.in-Open.writer in
     let found = sym c.in-Some.ensures.found in
     let writing = at-its-own info entries old.definitions before h.distinct (by_writer info entries old.definitions old.stage before c.in-Open.is h.stands) in
-    has-cut info entries pulled def c.args.head.now c.args.frames.now c.args.payload.now c.in_ok-number.number c.in-Err.field-0 old _ before c.event.new.self h found c.in_ok-number.ensures.number c.in-Open.is refl c.in-Err.ensures.fails
-    (c.in-Err.ensures.part [] (definition_at old.definitions) info entries writing h.distinct found) c.event.ensures.other_side
+    has-cut info entries pulled def c.args.head.now c.args.frames.now c.args.payload.now c.in_ok-number.number c.in-Err.field-0 old _ before c.sound_event.new.self h found c.in_ok-number.ensures.number c.in-Open.is refl c.in-Err.ensures.fails
+    (c.in-Err.ensures.part [] (definition_at old.definitions) info entries writing h.distinct found) c.sound_event.ensures.other_side
