@@ -47,6 +47,7 @@ pub struct Machine {
 impl Machine {
     ghost use Rattle.nt_write.specs.Canonical.{IsCanonical};
     ghost use Rattle.ep_model.specs.declared.step.Step.{Step};
+    ghost use Rattle.ep_model.specs.declared.step.Step.TheVariants.{Show, End};
     ghost use Rattle.ep_model.specs.declared.step.Unlawful.{Unlawful};
     ghost use Rattle.ep_model.specs.History.{is_finished};
     ghost use Rattle.ep_model.specs.Lawful.{objection_to, first_unlawful};
@@ -54,7 +55,7 @@ impl Machine {
     ghost use Rattle.ep_model.specs.Marks.{marks_of};
     ghost use Rattle.ep_model.specs.Only.{only};
     ghost use Rattle.ep_core.specs.declared.machine.StepFault.TheVariants.{Unlawful as Refused, OutOfMemory};
-    ghost use Rattle.ep_core.specs.Machine.{CanWrite, Follows, steps_of, has_failed};
+    ghost use Rattle.ep_core.specs.Machine.{CanWrite, Follows, IsStepped, steps_of, has_failed};
     ghost use Rattle.ep_core.specs.Writes.{with_write};
     ghost use Rattle.ep_model.specs.Lawful.{IsLawful};
     ghost use Rattle.ep_core.specs.Streams.{IsStreamOf};
@@ -81,6 +82,8 @@ impl Machine {
 
     /// Makes one step, or says why it can't be made and changes nothing. A machine that found no memory answers so from
     /// then on. It takes fewer than 2^63 steps in all.
+    // It stands in line, so that in `show` and `end` nothing is left of other steps.
+    #[inline(always)]
     pub fn step(&mut self, alloc: Global, step: Step) -> Result<(), StepFault>
         requires few { steps_of self.old < 2 ^ 63 }
 
@@ -118,6 +121,24 @@ impl Machine {
         }
         self.steps += 1;
         Ok(())
+    }
+
+    /// Makes the step `Show` with these numbers, as `step` does. No step of full size is handed on.
+    #[inline(always)]
+    pub fn show(&mut self, alloc: Global, thread: u32, session: u32) -> Result<(), StepFault>
+        requires { steps_of self.old < 2 ^ 63 }
+        ensures { IsStepped (Show thread session) self.old self.new result }
+    {
+        self.step(alloc, Step::Show { thread, session })
+    }
+
+    /// The same of the step `End`.
+    #[inline(always)]
+    pub fn end(&mut self, alloc: Global, thread: u32) -> Result<(), StepFault>
+        requires { steps_of self.old < 2 ^ 63 }
+        ensures { IsStepped (End thread) self.old self.new result }
+    {
+        self.step(alloc, Step::End { thread })
     }
 
     /// Makes steps up to the first that can't be made.
