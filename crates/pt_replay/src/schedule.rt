@@ -4,16 +4,19 @@ ghost use Rattle.std.specs.List.{list_all};
 ghost use Rattle.ep_defs.specs.Event.{is_valid_event};
 ghost use Rattle.ep_defs.specs.Definitions.{AreDistinct};
 ghost use Rattle.ep_defs.specs.declared.limits.TheConstants.{EVENTS};
-ghost use Rattle.ep_core.specs.Machine.{Follows, steps_of};
+ghost use Rattle.ep_core.specs.Machine.{Follows, IsStepped, steps_of};
+ghost use Rattle.ep_core.specs.declared.machine.StepFault.TheVariants.{Unlawful};
 ghost use Rattle.ep_rundown.specs.Rundown.{lacks_rundown};
 ghost use Rattle.ep_model.specs.Lawful.{objection_to};
-ghost use Rattle.ep_plan.specs.Lines.{IsLine};
+ghost use Rattle.ep_plan.specs.Lines.{IsLine, step_of};
 ghost use Rattle.ep_defs.specs.declared.event.EventDef.{EventDef};
 ghost use Rattle.ep_defs.specs.Session.{standard_info_of};
 ghost use Rattle.ep_model.specs.declared.step.Step.{Step};
+ghost use Rattle.ep_model.specs.declared.step.Unlawful.{Unlawful as Why};
 ghost use Rattle.ep_model.specs.History.{Past, event_at};
 ghost use Rattle.ep_plan.specs.declared.line.Line.{Line};
 ghost use Rattle.ep_plan.specs.declared.line.Line.TheVariants.{Event, Step as StepLine};
+ghost use Rattle.pt_replay.specs.declared.errors.Reason.TheVariants.{Step as StepReason};
 ghost use Rattle.pt_replay.specs.declared.errors.Refusal.{Refusal};
 ghost use Rattle.pt_replay.specs.declared.schedule.Fault.TheVariants.{Refused, OutOfMemory};
 ghost use Rattle.pt_replay.specs.Schedule.{definitions_of, past_of, has_stepped, CanBeMade, Takes, Says, Refuses};
@@ -23,7 +26,7 @@ use crate::errors::{Reason, Refusal};
 use ep_core::{Machine, StepFault};
 use ep_defs::{EventDef, copies, standard_info};
 use ep_model::Step;
-use ep_plan::{Line, LineFault, a_line_means_one_thing, read_line};
+use ep_plan::{Line, LineFault, ShortStep, a_line_means_one_thing, read_line, read_short};
 use std::alloc::{AllocError, AllocFailed, Global};
 
 /// Why a line was not taken.
@@ -84,6 +87,32 @@ impl Schedule {
 
     /// Takes the next line, without its line feed. After an error no line may follow.
     pub(crate) fn take_line(&mut self, alloc: Global, text: &[u8]) -> Result<(), Fault>
+        requires stands { (lines : List Line) × HasTaken lines self.old }
+        requires few { lines_in self.old < 2 ^ 63 }
+        ensures taken { (lines : List Line) → HasTaken lines self.old
+            → OnOk result ((line : Line) × Takes lines text.now line × HasTaken (line ∷ lines) self.new) }
+        ensures refused { (lines : List Line) (refusal : Refusal) → HasTaken lines self.old
+            → result ≡ Err (Refused refusal) → Refuses lines text.now refusal }
+        ensures counted { lines_in self.new ≤ lines_in self.old + 1 }
+    {
+        if let Some(machine) = &mut self.machine {
+            if let Some(step) = read_short(text) {
+                return match make_short(alloc, machine, step) {
+                    Ok(()) => {
+                        self.lines += 1;
+                        Ok(())
+                    }
+                    Err(fault) => Err(fault_at(self.lines + 1, fault)),
+                };
+            }
+        }
+        self.take_other(alloc, text)
+    }
+
+    // The same of any line. It stands out of line, since most lines of a long schedule show or end a write, and need none of
+    // what it keeps on the stack.
+    #[inline(never)]
+    fn take_other(&mut self, alloc: Global, text: &[u8]) -> Result<(), Fault>
         requires stands { (lines : List Line) × HasTaken lines self.old }
         requires few { lines_in self.old < 2 ^ 63 }
         ensures taken { (lines : List Line) → HasTaken lines self.old
@@ -222,7 +251,8 @@ fn new_machine(alloc: Global, events: &[EventDef]) -> Result<Machine, Fault>
     Ok(machine)
 }
 
-// Makes a step of the line with this number.
+// Makes a step of the line with this number. It stands out of line, since the machine's step stands in line.
+#[inline(never)]
 fn make_on(alloc: Global, machine: &mut Machine, step: Step, number: u64) -> Result<(), Fault>
     requires few { steps_of machine.old < 2 ^ 63 }
     ensures made { (events : List EventDef) (past : Past)
@@ -236,11 +266,35 @@ fn make_on(alloc: Global, machine: &mut Machine, step: Step, number: u64) -> Res
 {
     match machine.step(alloc, step) {
         Ok(()) => Ok(()),
-        Err(StepFault::Unlawful(why)) => Err(Fault::Refused(Refusal {
+        Err(fault) => Err(fault_at(number, fault)),
+    }
+}
+
+// Makes a step that was read by its numbers alone.
+#[inline(always)]
+fn make_short(alloc: Global, machine: &mut Machine, step: ShortStep) -> Result<(), StepFault>
+    requires { steps_of machine.old < 2 ^ 63 }
+    ensures { IsStepped (step_of step) machine.old machine.new result }
+{
+    match step {
+        ShortStep::Show { thread, session } => machine.show(alloc, thread, session),
+        ShortStep::End { thread } => machine.end(alloc, thread),
+    }
+}
+
+// Why the line with this number is not taken, whose step was not made. It stands out of line, since it is needed once.
+#[inline(never)]
+fn fault_at(number: u64, fault: StepFault) -> Fault
+    ensures { (refusal : Refusal) → result ≡ Refused refusal
+        → (why : Why) × (fault ≡ Unlawful why)
+        × (refusal ≡ record { line = number; column = 1; reason = StepReason why.kind }) }
+{
+    match fault {
+        StepFault::Unlawful(why) => Fault::Refused(Refusal {
             line: number,
             column: 1,
             reason: Reason::Step(why.kind),
-        })),
-        Err(StepFault::OutOfMemory) => Err(Fault::OutOfMemory),
+        }),
+        StepFault::OutOfMemory => Fault::OutOfMemory,
     }
 }

@@ -61,8 +61,7 @@ impl Reader {
         ensures counted { OnOk result (used self.new ≤ used self.old + length text.now + 1) }
     {
         if self.refusal.is_none() && self.part.is_empty() && text.len() <= LINE_BYTES {
-            self.refusal = judged(self.alloc, &mut self.schedule, text)?;
-            return Ok(());
+            return judge(self.alloc, &mut self.schedule, text, &mut self.refusal);
         }
         self.take_part(text)?;
         if self.refusal.is_some() {
@@ -105,7 +104,12 @@ impl Reader {
             → OnOk result (IsJudged bytes self.new) }
         ensures counted { OnOk result (used self.new ≤ used self.old + 1) }
     {
-        self.refusal = judged(self.alloc, &mut self.schedule, &self.part)?;
+        judge(
+            self.alloc,
+            &mut self.schedule,
+            &self.part,
+            &mut self.refusal,
+        )?;
         self.part.clear();
         Ok(())
     }
@@ -155,21 +159,26 @@ impl Reads for Reader {
     }
 }
 
-// Why the line that comes next is refused, if it is. A good one is taken.
-fn judged(
+// Takes the line that comes next, or says why it is refused.
+fn judge(
     alloc: Global,
     schedule: &mut Schedule,
     text: &[u8],
-) -> Result<Option<Refusal>, AllocError>
+    refusal: &mut Option<Refusal>,
+) -> Result<(), AllocError>
     requires stands { (lines : List Line) × HasTaken lines schedule.old }
     requires few { lines_in schedule.old < 2 ^ 63 }
+    requires good { refusal.old ≡ None }
     ensures judged { (lines : List Line) → HasTaken lines schedule.old
-        → IfOk result (IsLineJudged lines text.now schedule.new) }
+        → OnOk result (IsLineJudged lines text.now schedule.new refusal.new) }
     ensures counted { lines_in schedule.new ≤ lines_in schedule.old + 1 }
 {
     match schedule.take_line(alloc, text) {
-        Ok(()) => Ok(None),
-        Err(Fault::Refused(refusal)) => Ok(Some(refusal)),
+        Ok(()) => Ok(()),
+        Err(Fault::Refused(why)) => {
+            *refusal = Some(why);
+            Ok(())
+        }
         Err(Fault::OutOfMemory) => Err(AllocError),
     }
 }

@@ -1,12 +1,12 @@
 -- The machine makes the step or says why not.
-use Rattle.std.proofs.Common.{◌≡◌, ◌+◌, List, ◌∷◌, sym, ap, ◌∙◌, subst, arith}
+use Rattle.std.proofs.Common.{◌≡◌, ◌+◌, List, ◌∷◌, refl, sym, ap, ◌∙◌, subst}
 use Rattle.ep_defs.specs.declared.event.EventDef.{EventDef}
 use Rattle.ep_model.specs.Lawful.{objection_to}
 use Rattle.std.specs.Prelude.{None, Result, Ok, Err, IsErrAnd}
 use Rattle.pt_replay.specs.declared.schedule.Fault.TheVariants.{Refused}
 use Rattle.pt_replay.specs.Schedule.{definitions_of, past_of}
 use Rattle.pt_replay.specs.Machines.{IsMachineOf, IsUnlawful}
-use Rattle.pt_replay.proofs.OneMore.{unlawful-refuses}
+use Rattle.pt_replay.proofs.OneMore.{step-more, unlawful-refuses}
 use Rattle.pt_replay.proofs.schedule.Schedule.take_step.Goals as goal
 
 -- A fault that is passed on is the same.
@@ -21,19 +21,8 @@ returns-clause-taken c = λ lines stands.
     let made = c.in_ok-make.ensures.made (past_of lines) (subst Machines events_are stands.machine_is) in
     let Lawful : List EventDef → Type 0 = λ events. objection_to events (past_of lines) c.args.step ≡ None in
     let lawful : objection_to (definitions_of lines) (past_of lines) c.args.step ≡ None = subst Lawful (sym events_are) made.0 in
-    let More : List EventDef → Type 0 = λ events. IsMachineOf events (c.args.step ∷ past_of lines) (c.args.self.now.lines + 1) c.make.new.machine in (
-      lawful,
-      record {
-        count = omega (arith, stands.count);
-        events_are = stands.events_are;
-        machine_is = subst More (sym events_are) made.1;
-        few = stands.few;
-        valid = stands.valid;
-        distinct = stands.distinct;
-        lacks = stands.lacks;
-        lawful = (stands.lawful, lawful);
-      },
-    )
+    let More : List EventDef → Type 0 = λ events. IsMachineOf events (c.args.step ∷ past_of lines) (c.args.self.now.lines + 1) c.make.new.machine in
+    (lawful, step-more lines c.args.step c.args.self.now _ stands refl refl lawful (subst More (sym events_are) made.1))
 
 pub returns-in_err-make-clause-refused : goal.returns-in_err-make-clause-refused
 returns-in_err-make-clause-refused c = λ lines refusal text stands is says.
