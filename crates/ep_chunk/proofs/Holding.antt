@@ -1,6 +1,6 @@
 -- The bytes of records give the records back.
 use Rattle.std.proofs.Common.{◌≡◌, ℕ, zero, suc, ◌+◌, ◌*◌, ◌^◌, ◌<◌, ◌≤◌, List, [], ◌∷◌, ◌++◌, length, take, drop, refl, ap, sym, ◌∙◌, subst, arith, rules, length-append}
-use Rattle.std.proofs.lemmas.List.{drop_at, take_at, append-nil, drop-drop, take-take, length-take-le}
+use Rattle.std.proofs.lemmas.List.{drop_at, append-nil, drop-drop}
 use Rattle.std.proofs.lemmas.List.Elements.{All-head, All-tail, All-push}
 use Rattle.std.proofs.lemmas.List.Concat.{flat_map-append}
 use Rattle.std.specs.List.{All, flat_map}
@@ -108,10 +108,6 @@ total_size-push (first ∷ records) r = let e = total_size-push records r in ome
 pub used-is : (bytes : List ℕ) (room : ℕ) → IsHeld bytes room → length bytes ≡ total_size (records_in bytes)
 used-is bytes room held = ap (length {A = ℕ}) held.spelled ∙ total_size-is (records_in bytes) held.fitting
 
--- The same of the first bytes of more.
-pub used-first : (bytes : List ℕ) (room used : ℕ) → IsHeld (take used bytes) room → used ≤ length bytes → used ≡ total_size (records_in (take used bytes))
-used-first bytes room used held within = sym (length-take-le used bytes within) ∙ used-is (take used bytes) room held
-
 -- One record more stands behind the others.
 pub more-is : (bytes : List ℕ) (room : ℕ) (r : Record) → IsHeld bytes room → IsRecord r → records_in (bytes ++ bytes_of r) ≡ records_in bytes ++ r ∷ []
 more-is bytes room r held fits =
@@ -152,19 +148,3 @@ none-held room h =
       within = omega arith;
       reserved = h;
     }
-
--- A chunk's bytes that may have become more, for a record that ends at this place: those that records take are the same.
-pub record Ready (bytes : List ℕ) (room used end : ℕ) (bytes' : List ℕ) (room' used' : ℕ) : Type 0 where
-  pub used_is : used' ≡ used
-  pub same : take used bytes' ≡ take used bytes
-  pub wide : end ≤ length bytes'
-  pub within : length bytes' ≤ CHUNK_LEN
-  pub more : room ≤ room'
-
--- The first bytes are the same where bytes were added.
-pub first-same : (bytes bytes' : List ℕ) (used len : ℕ) → used ≤ len → take len bytes' ≡ bytes → take used bytes' ≡ take used bytes
-first-same bytes bytes' used len within same = sym (take-take used len bytes' within) ∙ ap (take used) same
-
--- What is read of bytes that were put in place of as many others.
-pub put-back : (bytes bytes' : List ℕ) (len end : ℕ) → length bytes' ≡ len → end ≤ len → take end (take len (bytes' ++ drop (length bytes') bytes)) ≡ take end bytes'
-put-back bytes bytes' len end same within = ap (take end) (take_at bytes' (drop (length bytes') bytes) len same)

@@ -1,10 +1,10 @@
 //! A chunk of records.
-ghost use Rattle.std.specs.Prelude.{◌≡◌, ◌≤◌, ◌+◌, ◌++◌, [], ◌∷◌, take, vec_len, vec_capacity, IsTrue, ◌↔◌, IsNone, IsSome, IfOk, IfNone, IfSome, if◌then◌else◌};
+ghost use Rattle.std.specs.Prelude.{◌≡◌, ◌≤◌, ◌+◌, ◌++◌, [], ◌∷◌, IsTrue, ◌↔◌, IsNone, IsSome, IfOk, IfNone, IfSome, if◌then◌else◌};
 ghost use Rattle.ep_chunk.specs.Record.{record_of, size_of, total_size};
 ghost use Rattle.ep_chunk.specs.Places.{records_at, TellsAt};
 
 use crate::layout::{put_record, record_at};
-use crate::limits::{CHUNK_LEN, FRAME_LEN, HEAD_LEN, WIDENING};
+use crate::limits::{CHUNK_LEN, FRAME_LEN, HEAD_LEN};
 use crate::rec::{RecIn, RecOut};
 use std::alloc::{AllocError, Global};
 use std::marker::Model;
@@ -12,23 +12,19 @@ use std::marker::Model;
 /// Records, one after another in 65,536 reserved bytes.
 #[derive(Debug, Drop)]
 pub struct Chunk {
-    // The bytes of the records, and behind them what was there before, or zeros.
     bytes: Vec<u8>,
-    // How many bytes the records take.
-    used: usize,
 }
 
 impl Model for Chunk {
-    ghost use Rattle.std.specs.Prelude.{List, length, take, vec_capacity, ◌≤◌};
+    ghost use Rattle.std.specs.Prelude.{List, vec_capacity};
     ghost use Rattle.ep_chunk.specs.Record.{Record};
     ghost use Rattle.ep_chunk.specs.Held.{records_in, IsHeld};
-    ghost use Rattle.ep_chunk.specs.declared.limits.TheConstants.{CHUNK_LEN};
 
     ghost Value = { List Record };
 
-    ghost view = { λ c. records_in (take c.used c.bytes.items) };
+    ghost view = { λ c. records_in c.bytes.items };
 
-    ghost invariant = { λ c. IsHeld (take c.used c.bytes.items) (vec_capacity c.bytes) × (c.used ≤ length c.bytes.items) × (length c.bytes.items ≤ CHUNK_LEN) };
+    ghost invariant = { λ c. IsHeld c.bytes.items (vec_capacity c.bytes) };
 }
 
 impl Chunk {
@@ -37,7 +33,7 @@ impl Chunk {
         ensures { IfOk result (λ chunk. chunk ≡ []) }
     {
         let bytes = Vec::with_capacity(alloc, CHUNK_LEN)?;
-        Ok(Chunk { bytes, used: 0 })
+        Ok(Chunk { bytes })
     }
 
     /// Appends a record. False where it doesn't fit what is left. It takes no memory.
@@ -45,7 +41,7 @@ impl Chunk {
         ensures fits { IsTrue result ↔ (total_size self.old + size_of (record_of rec.now) ≤ CHUNK_LEN) }
         ensures records { self.new ≡ (if result then self.old ++ record_of rec.now ∷ [] else self.old) }
     {
-        let left = CHUNK_LEN - self.used;
+        let left = CHUNK_LEN - self.bytes.len();
         if rec.frames.len() > CHUNK_LEN || rec.payload.len() > CHUNK_LEN {
             return false;
         }
@@ -53,12 +49,7 @@ impl Chunk {
         if size > left {
             return false;
         }
-        let end = self.used + size;
-        if end > self.bytes.len() {
-            widen(&mut self.bytes, end);
-        }
-        put_record(self.bytes.as_mut_slice(), self.used, rec, size);
-        self.used = end;
+        put_record(&mut self.bytes, rec, size);
         true
     }
 
@@ -67,7 +58,7 @@ impl Chunk {
         ensures used { result ≡ total_size self.now }
         ensures within { result ≤ CHUNK_LEN }
     {
-        self.used
+        self.bytes.len()
     }
 
     /// The record at a place, which is 0, the `next` of another record, or `used`. None where it is `used`. Its frames
@@ -78,7 +69,7 @@ impl Chunk {
         ensures over { IfNone result (records_at self.now place ≡ Some []) }
         ensures told { IfSome result (TellsAt self.now place) }
     {
-        let bytes = &self.bytes[..self.used];
+        let bytes = self.bytes.as_slice();
         if place == bytes.len() {
             return None;
         }
@@ -89,25 +80,6 @@ impl Chunk {
     pub fn clear(&mut self)
         ensures { self.new ≡ [] }
     {
-        self.used = 0;
-    }
-}
-
-// Makes more of the reserved bytes zeros, up to this place and some behind it, so that records are put into bytes that
-// are there. A chunk that is used again has them.
-#[cold]
-#[inline(never)]
-fn widen(bytes: &mut Vec<u8>, end: usize)
-    requires more { vec_len bytes.old ≤ end }
-    requires within { end ≤ CHUNK_LEN }
-    requires reserved { CHUNK_LEN ≤ vec_capacity bytes.old }
-    ensures same { take (vec_len bytes.old) bytes.new.items ≡ bytes.old.items }
-    ensures wide { end ≤ vec_len bytes.new }
-    ensures within { vec_len bytes.new ≤ CHUNK_LEN }
-    ensures room { vec_capacity bytes.old ≤ vec_capacity bytes.new }
-{
-    let len = CHUNK_LEN.min(end + WIDENING);
-    if bytes.resize(len, 0).is_err() {
-        unreachable!();
+        self.bytes.clear();
     }
 }

@@ -1,5 +1,5 @@
 //! The bytes of a record.
-ghost use Rattle.std.specs.Prelude.{◌≡◌, ◌≤◌, ◌+◌, ◌*◌, ◌++◌, true, false, length, take, drop};
+ghost use Rattle.std.specs.Prelude.{◌≡◌, ◌≤◌, ◌+◌, ◌*◌, ◌++◌, length, take, drop, vec_len, vec_capacity};
 ghost use Rattle.byteorder.specs.Endian.{little_bytes, little_number};
 ghost use Rattle.ep_chunk.specs.Record.{record_of, AreFrames, IsRecord, size_of, head_bytes, bytes_of, frame_bytes};
 ghost use Rattle.ep_chunk.specs.Held.{HasRecord, record_in};
@@ -36,103 +36,102 @@ pub(crate) fn id_at(bytes: &[u8], place: usize) -> [u8; 16]
 }
 
 // Puts bytes after those before a place.
-fn put_at(bytes: &mut [u8], place: usize, piece: &[u8])
-    requires { place + length piece.now ≤ length bytes.old }
-    ensures put { take (place + length piece.now) bytes.new ≡ take place bytes.old ++ piece.now }
-    ensures len { length bytes.new ≡ length bytes.old }
+fn put_at(head: &mut [u8], place: usize, piece: &[u8])
+    requires { place + length piece.now ≤ length head.old }
+    ensures { take (place + length piece.now) head.new ≡ take place head.old ++ piece.now }
 {
-    bytes[place..place + piece.len()].copy_from_slice(piece);
+    head[place..place + piece.len()].copy_from_slice(piece);
 }
 
-// Puts what stands before the frames of a record of this size.
-fn put_head(bytes: &mut [u8], rec: &RecIn, size: usize)
+// What stands before the frames of a record of this size.
+fn head_of(rec: &RecIn, size: usize) -> [u8; HEAD_LEN]
     requires size { size ≡ size_of (record_of rec.now) }
     requires fits { size ≤ CHUNK_LEN }
-    requires room { HEAD_LEN ≤ length bytes.old }
-    ensures head { take HEAD_LEN bytes.new ≡ head_bytes (record_of rec.now) }
+    ensures head { result ≡ head_bytes (record_of rec.now) }
     ensures fitting { AreFrames rec.now.frames.now → IsRecord (record_of rec.now) }
-    ensures len { length bytes.new ≡ length bytes.old }
 {
-    put_at(bytes, 0, &(size as u32).to_le_bytes());
-    put_at(bytes, 4, &rec.event.to_le_bytes());
-    put_at(bytes, 8, &rec.number.to_le_bytes());
-    put_at(bytes, 12, &(rec.frames.len() as u32).to_le_bytes());
-    put_at(bytes, 16, &(rec.payload.len() as u32).to_le_bytes());
-    put_at(bytes, 20, &rec.thread.to_le_bytes());
-    put_at(bytes, 28, &rec.stamp.to_le_bytes());
-    let (activity, related) = (rec.activity, rec.related);
-    put_at(bytes, 36, &activity);
-    put_at(bytes, 52, &related);
+    let mut head = [0; HEAD_LEN];
+    put_at(&mut head, 0, &(size as u32).to_le_bytes());
+    put_at(&mut head, 4, &rec.event.to_le_bytes());
+    put_at(&mut head, 8, &rec.number.to_le_bytes());
+    put_at(&mut head, 12, &(rec.frames.len() as u32).to_le_bytes());
+    put_at(&mut head, 16, &(rec.payload.len() as u32).to_le_bytes());
+    put_at(&mut head, 20, &rec.thread.to_le_bytes());
+    put_at(&mut head, 28, &rec.stamp.to_le_bytes());
+    put_at(&mut head, 36, &rec.activity);
+    put_at(&mut head, 52, &rec.related);
+    head
 }
 
-// Puts the frames behind the head.
-fn put_frames(bytes: &mut [u8], frames: &[u64])
-    requires { HEAD_LEN + FRAME_LEN * length frames.now ≤ length bytes.old }
-    ensures put { take (HEAD_LEN + FRAME_LEN * length frames.now) bytes.new ≡ take HEAD_LEN bytes.old ++ frame_bytes frames.now }
-    ensures fitting { AreFrames frames.now }
-    ensures len { length bytes.new ≡ length bytes.old }
+// Appends bytes for which there is room.
+fn put(bytes: &mut Vec<u8>, piece: &[u8])
+    requires { vec_len bytes.old + length piece.now ≤ vec_capacity bytes.old }
+    ensures items { bytes.new.items ≡ bytes.old.items ++ piece.now }
+    ensures len { vec_len bytes.new ≡ vec_len bytes.old + length piece.now }
+    ensures room { vec_capacity bytes.old ≤ vec_capacity bytes.new }
 {
-    let mut place = HEAD_LEN;
-    for frame in frames {
-        put_at(bytes, place, &frame.to_le_bytes());
-        place += FRAME_LEN;
+    if bytes.extend_from_slice(piece).is_err() {
+        unreachable!();
     }
 }
 
-// Puts a payload of just so many bytes at a place, in one piece. False where it has more or fewer.
-#[inline(always)]
-fn put_piece<const N: usize>(bytes: &mut [u8], place: usize, payload: &[u8]) -> bool
-    requires piece { N ≤ CHUNK_LEN }
-    requires room { place + length payload.now ≤ length bytes.old }
-    ensures put { result ≡ true → take (place + length payload.now) bytes.new ≡ take place bytes.old ++ payload.now }
-    ensures other { result ≡ false → bytes.new ≡ bytes.old }
-    ensures len { length bytes.new ≡ length bytes.old }
+// Appends the frames, for which there is room.
+fn put_frames(bytes: &mut Vec<u8>, frames: &[u64])
+    requires { vec_len bytes.old + FRAME_LEN * length frames.now ≤ vec_capacity bytes.old }
+    ensures items { bytes.new.items ≡ bytes.old.items ++ frame_bytes frames.now }
+    ensures fitting { AreFrames frames.now }
+    ensures len { vec_len bytes.new ≡ vec_len bytes.old + FRAME_LEN * length frames.now }
+    ensures room { vec_capacity bytes.old ≤ vec_capacity bytes.new }
 {
-    let Some(piece) = payload.as_array::<N>() else {
-        return false;
+    for frame in frames {
+        put(bytes, &frame.to_le_bytes());
+    }
+}
+
+// Appends the first bytes in one piece, if there are as many, and answers the others.
+#[inline(always)]
+fn put_piece<'a, const N: usize>(bytes: &mut Vec<u8>, payload: &'a [u8]) -> &'a [u8]
+    requires piece { N ≤ CHUNK_LEN }
+    requires room { vec_len bytes.old + length payload.now ≤ vec_capacity bytes.old }
+    ensures items { bytes.new.items ++ result.now ≡ bytes.old.items ++ payload.now }
+    ensures left { vec_len bytes.new + length result.now ≤ vec_capacity bytes.new }
+    ensures room { vec_capacity bytes.old ≤ vec_capacity bytes.new }
+{
+    let Some((piece, rest)) = payload.split_first_chunk::<N>() else {
+        return payload;
     };
     let piece = *piece;
-    put_at(bytes, place, &piece);
-    true
+    put(bytes, &piece);
+    rest
 }
 
-// Puts a payload at a place. Most have a few bytes, and are put without a call.
-fn put_payload(bytes: &mut [u8], place: usize, payload: &[u8])
-    requires { place + length payload.now ≤ length bytes.old }
-    ensures put { take (place + length payload.now) bytes.new ≡ take place bytes.old ++ payload.now }
-    ensures len { length bytes.new ≡ length bytes.old }
+// Appends a payload, for which there is room. Most have a few bytes, which go in pieces of eight and of four, without a
+// call.
+fn put_payload(bytes: &mut Vec<u8>, payload: &[u8])
+    requires { vec_len bytes.old + length payload.now ≤ vec_capacity bytes.old }
+    ensures items { bytes.new.items ≡ bytes.old.items ++ payload.now }
+    ensures room { vec_capacity bytes.old ≤ vec_capacity bytes.new }
 {
-    if !put_piece::<4>(bytes, place, payload)
-        && !put_piece::<8>(bytes, place, payload)
-        && !put_piece::<12>(bytes, place, payload)
-    {
-        put_at(bytes, place, payload);
+    let rest = put_piece::<8>(bytes, payload);
+    let rest = put_piece::<8>(bytes, rest);
+    let rest = put_piece::<4>(bytes, rest);
+    if !rest.is_empty() {
+        put(bytes, rest);
     }
 }
 
-// Puts the bytes of a record of this size, which are all of these.
-fn fill(bytes: &mut [u8], rec: &RecIn, size: usize)
+// Appends the bytes of a record of this size, for which there is room.
+pub(crate) fn put_record(bytes: &mut Vec<u8>, rec: &RecIn, size: usize)
     requires size { size ≡ size_of (record_of rec.now) }
-    requires fits { size ≤ CHUNK_LEN }
-    requires len { length bytes.old ≡ size }
-    ensures bytes { bytes.new ≡ bytes_of (record_of rec.now) }
+    requires fits { vec_len bytes.old + size ≤ CHUNK_LEN }
+    requires reserved { CHUNK_LEN ≤ vec_capacity bytes.old }
+    ensures items { bytes.new.items ≡ bytes.old.items ++ bytes_of (record_of rec.now) }
     ensures fitting { IsRecord (record_of rec.now) }
+    ensures room { vec_capacity bytes.old ≤ vec_capacity bytes.new }
 {
-    put_head(bytes, rec, size);
+    put(bytes, &head_of(rec, size));
     put_frames(bytes, rec.frames);
-    put_payload(bytes, HEAD_LEN + FRAME_LEN * rec.frames.len(), rec.payload);
-}
-
-// Puts the bytes of a record of this size after those before a place.
-pub(crate) fn put_record(bytes: &mut [u8], place: usize, rec: &RecIn, size: usize)
-    requires size { size ≡ size_of (record_of rec.now) }
-    requires fits { size ≤ CHUNK_LEN }
-    requires room { place + size ≤ length bytes.old }
-    ensures put { take (place + size) bytes.new ≡ take place bytes.old ++ bytes_of (record_of rec.now) }
-    ensures fitting { IsRecord (record_of rec.now) }
-    ensures len { length bytes.new ≡ length bytes.old }
-{
-    fill(&mut bytes[place..place + size], rec, size);
+    put_payload(bytes, rec.payload);
 }
 
 // The record with which these bytes of a chunk begin. They begin at this place.

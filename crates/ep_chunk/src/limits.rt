@@ -8,7 +8,3 @@ pub const HEAD_LEN: usize = 68;
 
 /// A frame of a record.
 pub const FRAME_LEN: usize = 8;
-
-/// How many bytes of a chunk are made zeros beyond those that a record needs: room for some twenty records, so that it
-/// is done seldom, and a chunk of few records touches little of its memory.
-pub(crate) const WIDENING: usize = 1_920;

@@ -9,39 +9,40 @@ use Rattle.ep_chunk.proofs.chunk.Chunk.at.Goals as goal
 
 pub returns-then-place-bytes-clause-end : goal.returns-then-place-bytes-clause-end
 returns-then-place-bytes-clause-end c =
-    let at = at-place _ (take c.self.inside.used c.self.inside.bytes.items) (vec_capacity c.self.inside.bytes) c.args.self.now c.args.place (ap (take c.self.inside.used) c.deref.ensures.value) c.self.invariant.0 c.self.view_is c.requires in
+    let at = at-place c.as_slice-bytes.result.now c.self.inside.bytes.items (vec_capacity c.self.inside.bytes) c.args.self.now c.args.place c.as_slice-bytes.ensures.value c.self.invariant c.self.view_is c.requires in
     (λ _. omega (arith, at.used), λ _. refl)
 
 pub returns-then-place-bytes-clause-over : goal.returns-then-place-bytes-clause-over
 returns-then-place-bytes-clause-over c =
-    let at = at-place _ (take c.self.inside.used c.self.inside.bytes.items) (vec_capacity c.self.inside.bytes) c.args.self.now c.args.place (ap (take c.self.inside.used) c.deref.ensures.value) c.self.invariant.0 c.self.view_is c.requires in
+    let at = at-place c.as_slice-bytes.result.now c.self.inside.bytes.items (vec_capacity c.self.inside.bytes) c.args.self.now c.args.place c.as_slice-bytes.ensures.value c.self.invariant c.self.view_is c.requires in
     at.over c.if-place-bytes.true
 
 pub slice_bounds-record_at-count : goal.slice_bounds-record_at-count
-slice_bounds-record_at-count c = let at = at-place _ (take c.self.inside.used c.self.inside.bytes.items) (vec_capacity c.self.inside.bytes) c.args.self.now c.args.place (ap (take c.self.inside.used) c.deref.ensures.value) c.self.invariant.0 c.self.view_is c.requires in at.within
+slice_bounds-record_at-count c = let at = at-place c.as_slice-bytes.result.now c.self.inside.bytes.items (vec_capacity c.self.inside.bytes) c.args.self.now c.args.place c.as_slice-bytes.ensures.value c.self.invariant c.self.view_is c.requires in at.within
 
 pub slice_bounds-record_at-start : goal.slice_bounds-record_at-start
-slice_bounds-record_at-start c = let at = at-place _ (take c.self.inside.used c.self.inside.bytes.items) (vec_capacity c.self.inside.bytes) c.args.self.now c.args.place (ap (take c.self.inside.used) c.deref.ensures.value) c.self.invariant.0 c.self.view_is c.requires in search (rules, at.within)
+slice_bounds-record_at-start c = let at = at-place c.as_slice-bytes.result.now c.self.inside.bytes.items (vec_capacity c.self.inside.bytes) c.args.self.now c.args.place c.as_slice-bytes.ensures.value c.self.invariant c.self.view_is c.requires in search (rules, at.within)
 
 pub record_at-requires-clause-stands : goal.record_at-requires-clause-stands
 record_at-requires-clause-stands c =
-    let at = at-place _ (take c.self.inside.used c.self.inside.bytes.items) (vec_capacity c.self.inside.bytes) c.args.self.now c.args.place (ap (take c.self.inside.used) c.deref.ensures.value) c.self.invariant.0 c.self.view_is c.requires in
-    subst HasRecord (sym (take_rest (take c.self.inside.used c.deref.result.now) c.args.place)) (at.stands c.if-place-bytes.false)
+    let at = at-place c.as_slice-bytes.result.now c.self.inside.bytes.items (vec_capacity c.self.inside.bytes) c.args.self.now c.args.place c.as_slice-bytes.ensures.value c.self.invariant c.self.view_is c.requires in
+    subst HasRecord (sym (take_rest c.as_slice-bytes.result.now c.args.place)) (at.stands c.if-place-bytes.false)
 
 pub record_at-requires-clause-within : goal.record_at-requires-clause-within
 record_at-requires-clause-within c =
-    let at = at-place _ (take c.self.inside.used c.self.inside.bytes.items) (vec_capacity c.self.inside.bytes) c.args.self.now c.args.place (ap (take c.self.inside.used) c.deref.ensures.value) c.self.invariant.0 c.self.view_is c.requires in
-    omega (arith, at.within, c.self.invariant.0.within, ap (λ (xs : List ℕ). length (take c.self.inside.used xs)) c.deref.ensures.value)
+    let at = at-place c.as_slice-bytes.result.now c.self.inside.bytes.items (vec_capacity c.self.inside.bytes) c.args.self.now c.args.place c.as_slice-bytes.ensures.value c.self.invariant c.self.view_is c.requires in
+    let same = ap (length {A = ℕ}) c.as_slice-bytes.ensures.value in
+    omega (arith, at.within, c.self.invariant.within)
 
 pub returns-clause-end : goal.returns-clause-end
 returns-clause-end c =
-    let at = at-place _ (take c.self.inside.used c.self.inside.bytes.items) (vec_capacity c.self.inside.bytes) c.args.self.now c.args.place (ap (take c.self.inside.used) c.deref.ensures.value) c.self.invariant.0 c.self.view_is c.requires in
+    let at = at-place c.as_slice-bytes.result.now c.self.inside.bytes.items (vec_capacity c.self.inside.bytes) c.args.self.now c.args.place c.as_slice-bytes.ensures.value c.self.invariant c.self.view_is c.requires in
     (λ e. absurd (true≢false e), λ e. absurd (c.if-place-bytes.false (e ∙ sym at.used)))
 
 pub returns-clause-told : goal.returns-clause-told
 returns-clause-told c =
-    let at = at-place _ (take c.self.inside.used c.self.inside.bytes.items) (vec_capacity c.self.inside.bytes) c.args.self.now c.args.place (ap (take c.self.inside.used) c.deref.ensures.value) c.self.invariant.0 c.self.view_is c.requires in
-    let bytes = (take c.self.inside.used c.deref.result.now) in
+    let at = at-place c.as_slice-bytes.result.now c.self.inside.bytes.items (vec_capacity c.self.inside.bytes) c.args.self.now c.args.place c.as_slice-bytes.ensures.value c.self.invariant c.self.view_is c.requires in
+    let bytes = c.as_slice-bytes.result.now in
     let behind : take (length bytes - c.args.place) (drop c.args.place bytes) ≡ drop c.args.place bytes = take_rest bytes c.args.place in
     let parts = subst (λ (xs : List ℕ). Tells (record_in xs) c.record_at.result) behind c.record_at.ensures.told in
     at.told c.if-place-bytes.false c.record_at.result parts
