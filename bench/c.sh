@@ -1,12 +1,16 @@
 #!/bin/sh
 # The C library as programs use it. Builds the examples in C with warnings as errors and gcc's sanitizers, runs them and the
 # one in Python, and has `tracepipe report` read each stream: every event has to be there, a million of them by four
-# threads. It tries what is refused, and refuses each growth of memory in turn. Then it prints the instructions and nanoseconds of an event of 8 bytes through the call, beside a C program that
-# writes the same bytes by hand (the two streams are compared), the functions with the most instructions, and the bytes a
-# second to a pipe. Instructions are counted by callgrind (valgrind, a Debian package), since times vary by a third. The
-# word is how many events each of the four threads writes. It needs gcc, python3 and valgrind.
+# threads. It tries what is refused, and refuses each growth of memory in turn. Then it prints the instructions and
+# nanoseconds of an event of 8 bytes through the call, and the instructions of events with two frames of twelve stacks and of
+# two definitions in turn, beside those of the same functions in plain C (c/plain.c), which are tried in the same way, and of
+# a C program by hand (c/by_hand.c) that has no such functions but writes the first events alone: the streams are compared.
+# Last come the functions with the most instructions, and the bytes a second to a pipe. Instructions are counted by callgrind
+# (valgrind, a Debian package), since times vary by a third. The word is how many events each of the four threads writes. It
+# needs gcc, python3 and valgrind; PROGRAM names another program than ./tracepipe.
 here=$(cd "$(dirname "$0")/.." && pwd) || exit 1
 each=${1:-250000}
+program=${PROGRAM:-$here/tracepipe}
 work=$(mktemp -d) || exit 1
 trap 'rm -rf "$work"' EXIT
 lib=$("$here/libtracepipe") || exit 1
@@ -19,7 +23,7 @@ fail() {
 
 # What a stream's report says, where the stream is whole.
 report() {
-    "$here/tracepipe" report <"$1" >"$work/report" || fail "$1 is not a whole stream"
+    "$program" report <"$1" >"$work/report" || fail "$1 is not a whole stream"
 }
 
 # Whether the report has these words as a line, whatever spaces stand between them.
@@ -67,20 +71,23 @@ int main(void) {
     return 0;
 }
 PROGRAM
-gcc $strict -g -fsanitize=address,undefined "$work/refused.c" "$lib/libtracepipe.a" -o "$work/refused" &&
-    "$work/refused" || fail 'a refusal has another code'
+for way in "$lib/libtracepipe.a" "$here/bench/c/plain.c"; do
+    gcc $strict -g -fsanitize=address,undefined "$work/refused.c" "$way" -o "$work/refused" &&
+        "$work/refused" || fail "a refusal of $way has another code"
+    # What is answered where memory is missing.
+    gcc $strict -g -O1 -Wl,--wrap=malloc,--wrap=realloc "$here/bench/c/growths.c" "$way" -o "$work/growths" &&
+        "$work/growths" || fail "a growth of $way that is refused has another end"
+done
 echo 'refusals: each has its code'
 
-# What is answered where memory is missing.
-gcc $strict -g -O1 -Wl,--wrap=malloc,--wrap=realloc "$here/bench/c/growths.c" "$lib/libtracepipe.a" -o "$work/growths" &&
-    "$work/growths" || fail 'a growth that is refused has another end'
-
 # Speed.
-for way in library hand; do
-    gcc $strict -O2 "$here/bench/c/by_$way.c" "$lib/libtracepipe.a" -o "$work/by_$way" || fail "by_$way"
-done
-"$work/by_library" 100000 >"$work/library.nettrace" && "$work/by_hand" 100000 >"$work/hand.nettrace" || fail 'speed'
-cmp "$work/library.nettrace" "$work/hand.nettrace" || fail 'the two ways write other bytes'
+gcc $strict -O2 "$here/bench/c/by_library.c" "$lib/libtracepipe.a" -o "$work/by_library" &&
+    gcc $strict -O2 -c "$here/bench/c/plain.c" -o "$work/plain.o" &&
+    gcc $strict -O2 "$here/bench/c/by_library.c" "$work/plain.o" -o "$work/by_plain" &&
+    gcc $strict -O2 "$here/bench/c/by_hand.c" -o "$work/by_hand" || fail 'a way does not compile'
+"$work/by_library" 100000 >"$work/library.nettrace" && "$work/by_library" 100000 mixed >"$work/mixed.nettrace" || fail 'speed'
+"$work/by_hand" 100000 | cmp - "$work/library.nettrace" && "$work/by_plain" 100000 | cmp - "$work/library.nettrace" &&
+    "$work/by_plain" 100000 mixed | cmp - "$work/mixed.nettrace" || fail 'two ways write other bytes'
 python3 - "$work" <<'MEASURE'
 import re, subprocess, sys, time
 
@@ -88,17 +95,17 @@ work = sys.argv[1]
 FEW, MANY, TIMED = 20_000, 120_000, 4_000_000
 
 
-def instructions(program, count):
+def instructions(program, count, *more):
     """The instructions of a whole run, as callgrind counts them, and its file of costs."""
     out = f"{work}/callgrind.{count}"
-    words = ["valgrind", "--tool=callgrind", f"--callgrind-out-file={out}", program, str(count)]
+    words = ["valgrind", "--tool=callgrind", f"--callgrind-out-file={out}", program, str(count), *more]
     run = subprocess.run(words, stdout=subprocess.DEVNULL, stderr=subprocess.PIPE, text=True, check=True)
     return int(re.search(r"Collected : (\d+)", run.stderr).group(1)), out
 
 
-def an_event(way):
-    few, _ = instructions(f"{work}/by_{way}", FEW)
-    many, out = instructions(f"{work}/by_{way}", MANY)
+def an_event(way, *more):
+    few, _ = instructions(f"{work}/by_{way}", FEW, *more)
+    many, out = instructions(f"{work}/by_{way}", MANY, *more)
     return (many - few) / (MANY - FEW), out
 
 
@@ -122,10 +129,11 @@ def to_a_pipe(way):
     return count / (time.perf_counter() - before)
 
 
-library, costs = an_event("library")
-hand, _ = an_event("hand")
-print(f"instructions an event: {library:.0f} by the library, {hand:.0f} by hand, {library / hand:.2f} times")
-for way in ("library", "hand"):
+mixed, plain_mixed = (an_event(way, "mixed")[0] for way in ("library", "plain"))
+(plain, _), (hand, _), (library, costs) = (an_event(way) for way in ("plain", "hand", "library"))
+print(f"instructions an event: {library:.0f} by the library; {plain:.0f} by plain C behind the same functions; {hand:.0f} by hand")
+print(f"of two definitions and with two frames: {mixed:.0f} by the library; {plain_mixed:.0f} by plain C")
+for way in ("library", "plain", "hand"):
     print(f"nanoseconds an event {way}: {seconds([f'{work}/by_{way}', str(TIMED)]) / TIMED * 1e9:.0f}")
     print(f"megabytes a second to a pipe {way}: {to_a_pipe(way) / 1e6:.0f}")
 told = subprocess.run(["callgrind_annotate", costs], stdout=subprocess.PIPE, text=True, check=True).stdout

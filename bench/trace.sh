@@ -1,33 +1,48 @@
 #!/bin/sh
-# Prints what `tracepipe trace` costs, for a session that gets every event and for one that gets none. First the
-# instructions for a write more of one thread, with its making, as callgrind counts them (valgrind, a Debian package) on
-# 10,000 writes and on 30,000: those of the thread that writes alone, and those of the whole run, its stream included, and
-# of these the functions that take one or more, each without the functions that it calls.
+# Prints what `tracepipe trace` costs, for a session that gets every event and for one that gets none, each beside a program in
+# plain C that does the same (c/trace.c). First the instructions for a write more of one thread, with its making, as callgrind
+# counts them (valgrind, a Debian package) on 10,000 writes and on 30,000: those of the thread that writes alone, and those of
+# the others, which write the stream; and of all the functions that take one or more, each without the functions that it
+# calls.
 # Then 4,000,000 writes of each of 1, 2, 3 and 4 threads into a file: the processor time of a writing thread for a write, as
 # the system counts it, the time from start to end, the events a second that the file has, and how many writes were refused
 # since the budget was spent, as `report` counts them. Last `watch` with as many threads, 1,000,000 writes each, for 256
 # megabytes and for one: what it heard of a thread and what was refused there must be all that the thread wrote, and the
-# counts by event must be all that was heard; else it ends with 1. It needs valgrind and python3.
+# counts by event must be all that was heard; else it ends with 1. The word is how many writes each thread makes; with 0 there
+# are only the instructions. It needs valgrind, cc and python3; PROGRAM names another program than the one that ./tracepipe
+# built.
 here=$(cd "$(dirname "$0")/.." && pwd) || exit 1
-program=$here/crates/tracepipe/out/tracepipe
+program=${PROGRAM:-$here/crates/tracepipe/out/tracepipe}
 writes=${1:-4000000}
 work=$(mktemp -d) || exit 1
 trap 'rm -rf "$work"' EXIT
 all=Sample-Web,Sample-Store,Sample-Jobs
-"$here/tracepipe" trace 1 8 "$all" >"$work/warm" || exit 1
+[ -n "$PROGRAM" ] || "$here/tracepipe" trace 1 8 "$all" >"$work/warm" || exit 1
+${CC:-cc} -std=c11 -O2 -pthread -I"$here/include" -o "$work/in_c" "$here/bench/c/trace.c" || exit 1
 
-# The instructions of so many writes of one thread, for this text; with a third word, only those in functions of that name.
+# The instructions of so many writes of one thread for this session; with a third word, only those in functions of that name.
 # Those of the whole run are kept by function.
 instructions() {
-    valgrind --tool=callgrind --callgrind-out-file="$work/counts-$1" ${3:+"--toggle-collect=$3"} "$program" trace 1 "$1" "$2" \
+    case $2 in
+    # shellcheck disable=SC2086
+    in_c*) set -- "$1" "$2" "$3" "$work/in_c" 1 "$1" ${2#in_c} ;;
+    *) set -- "$1" "$2" "$3" "$program" trace 1 "$1" "$2" ;;
+    esac
+    count=$1 only=$3
+    shift 3
+    valgrind --tool=callgrind --callgrind-out-file="$work/counts-$count" ${only:+"--toggle-collect=$only"} "$@" \
         >/dev/null 2>"$work/told" || exit 1
     sed -n 's/^.*Collected : //p' "$work/told"
 }
 
-for text in "$all" None:1:1; do
-    writing=$(($(instructions 30000 "$text" '*chunks_from*') - $(instructions 10000 "$text" '*chunks_from*')))
-    whole=$(($(instructions 30000 "$text") - $(instructions 10000 "$text")))
-    echo "$text: $((writing / 20000)) instructions for a write more in its thread, $((whole / 20000)) in the whole run"
+for text in "$all" None:1:1 in_c in_c\ none; do
+    case $text in
+    in_c*) own='write_all' ;;
+    *) own='*chunks_from*' ;;
+    esac
+    writing=$((($(instructions 30000 "$text" "$own") - $(instructions 10000 "$text" "$own")) / 20000))
+    whole=$((($(instructions 30000 "$text") - $(instructions 10000 "$text")) / 20000))
+    echo "$text: $writing instructions for a write more in its thread, $((whole - writing)) in the others"
     python3 - "$work/counts-10000" "$work/counts-30000" 20000 <<'SHARES'
 import re, sys
 
@@ -58,6 +73,7 @@ for share, name in reversed(shares):
         print(f"  {share:6.1f} in {re.sub('::<#.*?>', '', name)}")
 SHARES
 done
+[ "$writes" -gt 0 ] || exit 0
 python3 - "$program" "$work" "$all" "$writes" <<'MEASURE'
 import os, subprocess, sys, time
 
@@ -77,11 +93,17 @@ def spent(process):
     return found
 
 
-for text in (all_events, "None:1:1"):
+ours, in_c = [program, "trace"], [f"{work}/in_c"]
+for text, words, more in (
+    (all_events, ours, [all_events]),
+    ("None:1:1", ours, ["None:1:1"]),
+    ("in_c", in_c, []),
+    ("in_c none", in_c, ["none"]),
+):
     for threads in (1, 2, 3, 4):
         with open(f"{work}/stream", "wb") as stream:
             begun = time.monotonic()
-            run = subprocess.Popen([program, "trace", str(threads), str(writes), text], stdout=stream)
+            run = subprocess.Popen([*words, str(threads), str(writes), *more], stdout=stream)
             last = {}
             while run.poll() is None:
                 last.update(spent(run.pid))
